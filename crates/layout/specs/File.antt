@@ -1,0 +1,72 @@
+-- A whole file (document 01, "Layout" and "Judging order" 1 to 7): 63:n, the command, the precondition, the
+-- postcondition and flow evidence.
+-- Trusted. Assumes nothing.
+--     File        the trees of a file, and the places of its sets and its evidence
+--     parts       3 to 5: the parts from place 1 on
+--     finish      6 and 7
+--     fileOf      1 to 7
+use mathlib.Core.Bool.{Bool, true, false, not, _||_}
+use mathlib.Core.List.{List}
+use mathlib.Core.Option.{Option, none, some}
+use Prim.Native.Nat.{ℕ, _+_, _*_, _%_}
+use lib.Dec.{eqb, ltb}
+use lib.ListN.{length}
+use Rattle.language.specs.Syntax.{Command}
+use Rattle.rules.specs.Assertion.{Members}
+use Rattle.rules.specs.Context.{Limits}
+use Rattle.rules.specs.Evidence.{FlowEvidence}
+use Rattle.layout.specs.Bytes.{wordCount, numberAt}
+use Rattle.layout.specs.Reading.{Reading, read, fault, Reader, onRead, leaf, _⊛_}
+use Rattle.layout.specs.Read.{command, set}
+use Rattle.layout.specs.ReadEvidence.{flowEvidence}
+use Rattle.layout.specs.For.{firstUnsteady}
+
+pub record File : Type 0 where
+  pub program : Command
+  pub preAt : ℕ
+  pub pre : Members
+  pub postAt : ℕ
+  pub post : Members
+  pub evidenceAt : ℕ
+  pub evidence : FlowEvidence
+
+abbrev pub file : Command → ℕ → Members → ℕ → Members → ℕ → FlowEvidence → File
+file c a p b q e k =
+    record { program = c; preAt = a; pre = p; postAt = b; post = q; evidenceAt = e; evidence = k }
+
+-- the place at hand
+abbrev pub here : Reader ℕ
+here at = read at at
+
+-- each part is outermost
+unfoldable pub parts : Limits → List ℕ → Reading File
+parts limits bytes =
+    let d = limits .depth in
+    (leaf file ⊛ command bytes d ⊛ here ⊛ set limits bytes d ⊛ here ⊛ set limits bytes d
+    ⊛ here ⊛ flowEvidence limits bytes d) 1
+
+-- 7
+unfoldable pub steadyFile : Limits → List ℕ → File → ℕ → Reading File
+steadyFile limits bytes f p =
+    elim (firstUnsteady limits bytes (wordCount bytes) 0) [ none ↦ read f p | some at ↦ fault 7 at ]
+
+-- 6, then 7
+unfoldable pub finish : Limits → List ℕ → File → ℕ → Reading File
+finish limits bytes f p =
+    elim (ltb p (wordCount bytes)) [ true ↦ fault 6 p | false ↦ steadyFile limits bytes f p ]
+
+-- 1
+abbrev pub badLength : List ℕ → Bool
+badLength bytes = eqb (length bytes) 0 || (ltb 32768 (length bytes) || not (eqb (length bytes % 4) 0))
+
+-- 1, 2, then the rest
+unfoldable pub fileOf : Limits → List ℕ → Reading File
+fileOf limits bytes =
+    elim (badLength bytes) [
+      | true ↦ fault 1 0
+      | false ↦
+          elim (eqb (numberAt bytes 0) (63 * 67108864 + wordCount bytes)) [
+            | true ↦ onRead (parts limits bytes) (finish limits bytes)
+            | false ↦ fault 2 0
+          ]
+    ]

@@ -1,0 +1,34 @@
+-- Refusal 7 (document 01, "Judging order"): a `for`, also a carried one, has q = m or a body that modifies q or m.
+-- Trusted. Assumes nothing.
+--     steady                  of a `for`: it has neither
+--     unsteady, unsteadyAt    a `for` that has one of them was read; stands at a place
+--     firstUnsteady           the first such of so many places
+use mathlib.Core.Bool.{Bool, true, false, not, _&&_}
+use mathlib.Core.List.{List}
+use mathlib.Core.Option.{Option, none, some}
+use Prim.Native.Nat.{ℕ, zero, suc}
+use lib.Dec.{eqb}
+use Rattle.language.specs.Syntax.{Command}
+use Rattle.language.specs.Modifies.{scalarOf, modifies}
+use Rattle.rules.specs.Context.{Limits}
+use Rattle.rules.specs.Condition.{onFor}
+use Rattle.layout.specs.Bytes.{kindAt}
+use Rattle.layout.specs.Reading.{Reading, read, fault}
+use Rattle.layout.specs.Read.{command}
+
+abbrev pub steady : ℕ → ℕ → Command → Bool
+steady q m c = not (eqb q m) && (not (modifies c (scalarOf q)) && not (modifies c (scalarOf m)))
+
+abbrev pub unsteady : Reading Command → Bool
+unsteady (read c p) = onFor c false λ q m c₁. not (steady q m c₁)
+unsteady (fault n p) = false
+
+-- in a file that was read, the words of kind 31 are its `for`s, those of its program and those that evidence carries
+unfoldable pub unsteadyAt : Limits → List ℕ → ℕ → Bool
+unsteadyAt limits file at =
+    elim (eqb (kindAt file at) 31) [ true ↦ unsteady (command file (limits .depth) at) | false ↦ false ]
+
+unfoldable pub firstUnsteady : Limits → List ℕ → ℕ → ℕ → Option ℕ
+firstUnsteady limits file zero at = none
+firstUnsteady limits file (suc n) at =
+    elim (unsteadyAt limits file at) [ true ↦ some at | false ↦ firstUnsteady limits file n (suc at) ]

@@ -1,0 +1,15 @@
+-- The layout of a file and its judging, from the list of its bytes (document 01, "Layout" and "Judging order").
+--     Bytes           the words of a file
+--     Reading         what reading gives, and readers one after the other
+--     Read            expressions, commands and sets
+--     ReadEvidence    evidence
+--     For             refusal 7
+--     File            refusals 1 to 7: a file as trees
+--     Verdict         refusals 1 to 9: the answer, and the parts of an accepted file
+pub mod Bytes
+pub mod Reading
+pub mod Read
+pub mod ReadEvidence
+pub mod For
+pub mod File
+pub mod Verdict

@@ -1,0 +1,97 @@
+-- Expressions, commands and sets, read at a place with so many levels left (document 01, "Layout").
+-- Trusted. Assumes nothing.
+--     operatorOf, comparisonOf, truthOf     payloads of kinds 3, 8 and 9
+--     arithmeticWord, booleanWord, arrayWord, commandWord    the layout's lists, by kind and payload
+--     expression, command, memberAt, set    the readers
+use mathlib.Core.Bool.{Bool, true, false, cond, _&&_}
+use mathlib.Core.List.{List, [], _∷_}
+use mathlib.Core.Option.{Option, none, some}
+use Prim.Native.Nat.{ℕ, zero, suc, _/_, _%_}
+use lib.Dec.{leb}
+use Rattle.language.specs.Syntax.{Operator, plus, minus, times, Comparison, equal, less, atMost}
+use Rattle.language.specs.Syntax.{Sort, Arithmetic, Boolean, Array, Expr, constant, scalar, operation, select}
+use Rattle.language.specs.Syntax.{compare, truth, and, or, neg, array, zeros, update, toScalar, toArray}
+use Rattle.language.specs.Syntax.{Command, skip, sequence, assert, assign, ifElse, while, for}
+use Rattle.rules.specs.Assertion.{Member, Members, member}
+use Rattle.rules.specs.Context.{Limits}
+use Rattle.layout.specs.Bytes.{kindAt, signed}
+use Rattle.layout.specs.Reading.{Reading, Reader, leaf, _⊛_, several, noLevel, wordDue, allow, upTo, onOption}
+
+abbrev pub operatorOf : ℕ → Option Operator
+operatorOf p = allow p ((0, some plus) ∷ (1, some minus) ∷ (2, some times) ∷ [])
+
+abbrev pub comparisonOf : ℕ → Option Comparison
+comparisonOf p = allow p ((0, some equal) ∷ (1, some less) ∷ (2, some atMost) ∷ [])
+
+abbrev pub truthOf : ℕ → Option Bool
+truthOf p = allow p ((0, some false) ∷ (1, some true) ∷ [])
+
+-- `part j` reads an operand of sort j
+module _ (part : (j : Sort) → Reader (Expr j)) where
+  abbrev pub arithmeticWord : ℕ → ℕ → Option (Reader (Expr Arithmetic))
+  arithmeticWord k p = allow k (
+      (1, some (leaf (constant (signed p))))
+      ∷ (2, upTo 31 p (leaf (scalar p)))
+      ∷ (3, onOption (operatorOf p) λ o. leaf (operation o) ⊛ part Arithmetic ⊛ part Arithmetic)
+      ∷ (4, upTo 0 p (leaf select ⊛ part Array ⊛ part Arithmetic))
+      ∷ [])
+
+  abbrev pub booleanWord : ℕ → ℕ → Option (Reader (Expr Boolean))
+  booleanWord k p = allow k (
+      (8, onOption (comparisonOf p) λ r. leaf (compare r) ⊛ part Arithmetic ⊛ part Arithmetic)
+      ∷ (9, onOption (truthOf p) λ t. leaf (truth t))
+      ∷ (10, upTo 0 p (leaf and ⊛ part Boolean ⊛ part Boolean))
+      ∷ (11, upTo 0 p (leaf or ⊛ part Boolean ⊛ part Boolean))
+      ∷ (12, upTo 0 p (leaf neg ⊛ part Boolean))
+      ∷ [])
+
+  abbrev pub arrayWord : ℕ → ℕ → Option (Reader (Expr Array))
+  arrayWord k p = allow k (
+      (16, upTo 31 p (leaf (array p)))
+      ∷ (17, upTo 0 p (leaf zeros))
+      ∷ (18, upTo 0 p (leaf update ⊛ part Array ⊛ part Arithmetic ⊛ part Arithmetic))
+      ∷ [])
+
+  abbrev pub expressionWord : (j : Sort) → ℕ → ℕ → Option (Reader (Expr j))
+  expressionWord Arithmetic k p = arithmeticWord k p
+  expressionWord Boolean k p = booleanWord k p
+  expressionWord Array k p = arrayWord k p
+
+unfoldable pub expression : List ℕ → ℕ → (j : Sort) → Reader (Expr j)
+expression file zero j at = noLevel file at
+expression file (suc d) j at = wordDue file (λ _ k p. expressionWord (λ i q. expression file d i q) j k p) at
+
+-- `part j` reads an operand, `body` a command
+abbrev pub commandWord :
+    ((j : Sort) → Reader (Expr j)) → Reader Command → ℕ → ℕ → Option (Reader Command)
+commandWord part body k p = allow k (
+    (24, upTo 0 p (leaf skip))
+    ∷ (25, upTo 0 p (leaf sequence ⊛ body ⊛ body))
+    ∷ (26, upTo 0 p (leaf assert ⊛ part Boolean))
+    ∷ (27, upTo 31 p (leaf (λ e. assign (toScalar p e)) ⊛ part Arithmetic))
+    ∷ (28, upTo 31 p (leaf (λ e. assign (toArray p e)) ⊛ part Array))
+    ∷ (29, upTo 0 p (leaf ifElse ⊛ part Boolean ⊛ body ⊛ body))
+    ∷ (30, upTo 0 p (leaf while ⊛ part Boolean ⊛ body))
+    ∷ (31, upTo 1023 p (leaf (for (p % 32) (p / 32)) ⊛ body))
+    ∷ [])
+
+unfoldable pub command : List ℕ → ℕ → Reader Command
+command file zero at = noLevel file at
+command file (suc d) at =
+    wordDue file (λ _ k p. commandWord (expression file d) (λ q. command file d q) k p) at
+
+-- the sort of an expression by its first word's kind; a word of no expression is refused as arithmetic refuses it
+abbrev pub sortOf : ℕ → Sort
+sortOf k = cond (leb 8 k && leb k 12) Boolean (cond (leb 16 k && leb k 18) Array Arithmetic)
+
+-- an expression of any sort, as what it makes of an antecedent
+abbrev pub consequentAt : List ℕ → ℕ → Reader (Expr Boolean → Member)
+consequentAt file d at = (leaf (λ e φ. member φ e) ⊛ expression file d (sortOf (kindAt file at))) at
+
+abbrev pub memberAt : List ℕ → ℕ → Reader Member
+memberAt file d = leaf (λ φ f. f φ) ⊛ expression file d Boolean ⊛ consequentAt file d
+
+unfoldable pub set : Limits → List ℕ → ℕ → Reader Members
+set limits file zero at = noLevel file at
+set limits file (suc d) at =
+    wordDue file (λ _ k p. allow k ((32, upTo (limits .members) p (several p (memberAt file d))) ∷ [])) at

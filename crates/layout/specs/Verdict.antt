@@ -1,0 +1,41 @@
+-- The answer of the check on bytes (document 01, "Judging order" 1 to 9), and the parts of an accepted file.
+-- Trusted. Assumes nothing.
+--     judged, verdictOf                      8 and 9 of a file that was read; of bytes
+--     precondition, postcondition            that part of the caller's bytes; empty if the file is refused
+--     packed                                 the number that the C call answers
+use mathlib.Core.List.{List, []}
+use Prim.Native.Nat.{ℕ, _+_, _*_, _-_}
+use lib.ListN.{take, drop}
+use Rattle.rules.specs.Context.{Limits, Context}
+use Rattle.rules.specs.Judge.{Verdict, accepted, refused, judgeFlow}
+use Rattle.layout.specs.Reading.{Reading, read, fault}
+use Rattle.layout.specs.File.{File, fileOf}
+
+abbrev pub judged : Context → Reading File → Verdict
+judged Γ (read f p) = judgeFlow Γ (f .evidence) (f .pre) (f .program) (f .post)
+judged Γ (fault n p) = refused n p
+
+unfoldable pub verdictOf : Limits → List ℕ → Verdict
+verdictOf limits bytes = judged (record { limits = limits }) (fileOf limits bytes)
+
+-- the bytes of the words from place a up to place b
+abbrev pub bytesBetween : List ℕ → ℕ → ℕ → List ℕ
+bytesBetween bytes a b = take (4 * b - 4 * a) (drop (4 * a) bytes)
+
+abbrev pub partOf : Verdict → Reading File → (File → List ℕ) → List ℕ
+partOf (accepted n) (read f p) part = part f
+partOf (accepted n) (fault k p) part = []
+partOf (refused k i) r part = []
+
+unfoldable pub precondition : Limits → List ℕ → List ℕ
+precondition limits bytes =
+    partOf (verdictOf limits bytes) (fileOf limits bytes) λ f. bytesBetween bytes (f .preAt) (f .postAt)
+
+unfoldable pub postcondition : Limits → List ℕ → List ℕ
+postcondition limits bytes =
+    partOf (verdictOf limits bytes) (fileOf limits bytes) λ f. bytesBetween bytes (f .postAt) (f .evidenceAt)
+
+-- number × 65,536 + place, or the count
+abbrev pub packed : Verdict → ℕ
+packed (accepted n) = n
+packed (refused k i) = k * 65536 + i

@@ -1,0 +1,23 @@
+-- Assertions, sets and rules of document 01.
+--     Words         the words of an expression and of a command, and sameness by words
+--     Assertion     members, and agreement of two stores
+--     Context       the limits, and what a file is judged under
+--     Replace       substitution
+--     Sets          sets compared and made
+--     Implies       the implication over distinct comparisons
+--     Tests         the statements of Sets and Implies as tests; laws tie them
+--     Evidence      evidence as trees
+--     Derivation    the rules, a constructor each
+--     Condition     conditions as tests, with three results
+--     Judge         the judging of evidence in file order
+pub mod Words
+pub mod Assertion
+pub mod Context
+pub mod Replace
+pub mod Sets
+pub mod Implies
+pub mod Tests
+pub mod Evidence
+pub mod Derivation
+pub mod Condition
+pub mod Judge

@@ -1,0 +1,82 @@
+-- Sets compared and made (document 01, "Language" and "Rules").
+-- Trusted. Assumes nothing.
+--     SameAntecedent, SameConsequent    antecedents and assertions compared; consequents compared
+--     Stands, Within, Same              a member stands in a set; each of a set does; two sets are the same
+--     under, without, operands          a set under B; T without S'; φ ⇒ each operand (rule 19)
+--     setIdentifiers, Unmodified        the identifiers of a set; no identifier is modified
+use mathlib.Core.Path.{_≡_}
+use mathlib.Core.Bool.{Bool, false, _&&_, _||_, cond}
+use mathlib.Core.List.{List, [], _∷_, _++_}
+use mathlib.Core.Option.{Option, none, some}
+use Rattle.language.specs.Syntax.{Sort, Boolean, Expr, constant, scalar, operation, select, compare, truth, and, or, neg}
+use Rattle.language.specs.Syntax.{array, zeros, update, Command}
+use Rattle.language.specs.Modifies.{Identifier, modifies, identifiers}
+use Rattle.rules.specs.Words.{words, sameWords}
+use Rattle.rules.specs.Assertion.{Member, Members, member}
+
+-- antecedents, and assertions of rules 20 to 30, are compared by words
+abbrev pub SameAntecedent : Expr Boolean → Expr Boolean → Type 0
+SameAntecedent φ ψ = words φ ≡ words ψ
+
+-- so are consequents
+abbrev pub SameConsequent : {j k : Sort} → Expr j → Expr k → Type 0
+SameConsequent d e = words d ≡ words e
+
+pub record SameMember (m n : Member) : Type 0 where
+  pub antecedents : SameAntecedent (m .antecedent) (n .antecedent)
+  pub consequents : SameConsequent (m .consequent) (n .consequent)
+
+pub data Stands (m : Member) : Members → Type 0 where
+  stands-here : {n : Member} {p : Members} → SameMember m n → Stands m (n ∷ p)
+  stands-later : {n : Member} {p : Members} → Stands m p → Stands m (n ∷ p)
+
+abbrev pub Within : Members → Members → Type 0
+Within [] q = Unit {0}
+Within (m ∷ p) q = Stands m q × Within p q
+
+-- each member of one stands in the other
+pub record Same (p q : Members) : Type 0 where
+  pub first : Within p q
+  pub second : Within q p
+
+-- φ made φ ∧ B
+abbrev pub under : Members → Expr Boolean → Members
+under [] b = []
+under (m ∷ p) b = member (and (m .antecedent) b) (m .consequent) ∷ under p b
+
+-- whether a member is listed, by words, in the set of rule 17's "without"
+abbrev pub listed : Member → Members → Bool
+listed m [] = false
+listed m (n ∷ p) =
+    (sameWords (words (m .antecedent)) (words (n .antecedent))
+    && sameWords (words (m .consequent)) (words (n .consequent)))
+    || listed m p
+
+abbrev pub without : Members → Members → Members
+without [] q = []
+without (m ∷ p) q = cond (listed m q) (without p q) (m ∷ without p q)
+
+-- φ ⇒ each operand of an expression of kind 3, 8, 10, 11 or 12
+abbrev pub operands : {k : Sort} → Expr Boolean → Expr k → Option Members
+operands φ (constant z) = none
+operands φ (scalar x) = none
+operands φ (operation o a b) = some (member φ a ∷ (member φ b ∷ []))
+operands φ (select h i) = none
+operands φ (compare r a b) = some (member φ a ∷ (member φ b ∷ []))
+operands φ (truth t) = none
+operands φ (and b c) = some (member φ b ∷ (member φ c ∷ []))
+operands φ (or b c) = some (member φ b ∷ (member φ c ∷ []))
+operands φ (neg b) = some (member φ b ∷ [])
+operands φ (array a) = none
+operands φ zeros = none
+operands φ (update h i a) = none
+
+-- the identifiers of a set
+unfoldable pub setIdentifiers : Members → List Identifier
+setIdentifiers [] = []
+setIdentifiers (m ∷ p) = identifiers (m .antecedent) ++ (identifiers (m .consequent) ++ setIdentifiers p)
+
+-- the command modifies none of the identifiers
+abbrev pub Unmodified : List Identifier → Command → Type 0
+Unmodified [] c = Unit {0}
+Unmodified (x ∷ l) c = (modifies c x ≡ false) × Unmodified l c

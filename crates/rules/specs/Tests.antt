@@ -1,0 +1,56 @@
+-- The statements of `Sets` and `Implies` as tests.
+-- Working: laws in proofs/Decides and proofs/Truth say that each test decides its statement.
+--     sameAntecedent, sameConsequent, stands, within, same    of `Sets`
+--     unmodified, isEmpty                                     no identifier is modified; there is none
+--     table                                                   every assignment to the listed comparisons is tried
+use mathlib.Core.Bool.{Bool, true, false, not, _&&_, _||_, cond}
+use mathlib.Core.List.{List, [], _∷_}
+use Prim.Native.Nat.{ℕ, zero, suc}
+use lib.ListN.{length}
+use Rattle.language.specs.Syntax.{Sort, Boolean, Expr, Command}
+use Rattle.language.specs.Modifies.{Identifier, modifies}
+use Rattle.rules.specs.Words.{Word, words, sameWords}
+use Rattle.rules.specs.Assertion.{Member, Members}
+use Rattle.rules.specs.Implies.{truthUnder}
+
+abbrev pub sameAntecedent : Expr Boolean → Expr Boolean → Bool
+sameAntecedent φ ψ = sameWords (words φ) (words ψ)
+
+abbrev pub sameConsequent : {j k : Sort} → Expr j → Expr k → Bool
+sameConsequent d e = sameWords (words d) (words e)
+
+abbrev pub sameMember : Member → Member → Bool
+sameMember m n = sameAntecedent (m .antecedent) (n .antecedent) && sameConsequent (m .consequent) (n .consequent)
+
+abbrev pub stands : Member → Members → Bool
+stands m [] = false
+stands m (n ∷ p) = sameMember m n || stands m p
+
+abbrev pub within : Members → Members → Bool
+within [] q = true
+within (m ∷ p) q = stands m q && within p q
+
+abbrev pub same : Members → Members → Bool
+same p q = within p q && within q p
+
+abbrev pub unmodified : List Identifier → Command → Bool
+unmodified [] c = true
+unmodified (x ∷ l) c = not (modifies c x) && unmodified l c
+
+abbrev pub isEmpty : {A : Type 0} → List A → Bool
+isEmpty [] = true
+isEmpty (x ∷ l) = false
+
+-- an assignment written as a list of values for the listed comparisons
+abbrev pub given : List (List Word) → List Bool → List Word → Bool
+given [] v w = false
+given (c ∷ l) [] w = false
+given (c ∷ l) (t ∷ v) w = cond (sameWords c w) t (given l v w)
+
+-- a test of every list of n values
+unfoldable pub every : ℕ → (List Bool → Bool) → Bool
+every zero f = f []
+every (suc n) f = every n (λ v. f (true ∷ v)) && every n (λ v. f (false ∷ v))
+
+unfoldable pub table : List (List Word) → Expr Boolean → Expr Boolean → Bool
+table l φ ψ = every (length l) (λ v. not (truthUnder φ (given l v)) || truthUnder ψ (given l v))
