@@ -1,7 +1,7 @@
 -- The runs of a command (document 01, "Language"), with their steps as "Runner" counts them.
 -- Trusted. Assumes nothing.
 --     assigned    the store after an assignment
---     meaning     the command that a `for` means
+--     meaning     the command that a `for` means, from its start and its increment
 --     Runs        `Runs c n s t`: from s, c ends in t after n steps
 use mathlib.Core.Path.{_≡_}
 use mathlib.Core.Bool.{true, false}
@@ -18,15 +18,17 @@ abbrev pub assigned : Assignment → Store → Store
 assigned (toScalar x e) s = record { scalars = put eqb (s .scalars) x (value e s); arrays = s .arrays }
 assigned (toArray a e) s = record { scalars = s .scalars; arrays = put eqb (s .arrays) a (value e s) }
 
-abbrev pub start : ℕ → Command
-start q = assign (toScalar q (constant (pos 1)))
+abbrev pub start : ℕ → Assignment
+start q = toScalar q (constant (pos 1))
 
-abbrev pub increment : ℕ → Command
-increment q = assign (toScalar q (operation plus (scalar q) (constant (pos 1))))
+abbrev pub increment : ℕ → Assignment
+increment q = toScalar q (operation plus (scalar q) (constant (pos 1)))
 
 -- q := 1; while q ≤ m do (C; q := q + 1)
 abbrev pub meaning : ℕ → ℕ → Command → Command
-meaning q m c = sequence (start q) (while (compare atMost (scalar q) (scalar m)) (sequence c (increment q)))
+meaning q m c =
+    sequence (assign (start q))
+    (while (compare atMost (scalar q) (scalar m)) (sequence c (assign (increment q))))
 
 -- each skip, assignment, assert and test is one step
 pub data Runs : Command → ℕ → Store → Store → Type 0 where
