@@ -3,13 +3,16 @@
 --     Decides                     the law
 --     decides-map                 of an equivalent statement
 --     decides-and, decides-or     of both, of one of two
---     eqb-decides                 equality of numbers
-use mathlib.Core.Path.{_≡_}
-use mathlib.Core.Bool.{Bool, true, _&&_, _||_}
+--     decides-yes, decides-no     of what holds, of what does not
+--     decides-not                 that a test fails
+--     decides-implies             that one test passes where another does
+--     eqb-decides, leb-decides    equality and order of numbers
+use mathlib.Core.Path.{_≡_, refl}
+use mathlib.Core.Bool.{Bool, true, false, not, _&&_, _||_, false≢true, true≢false}
 use mathlib.Core.Logic.{_⊎_, inl, inr}
-use Prim.Native.Nat.{ℕ}
-use borrow.Author.Tests.{eqb-true, eq-eqb}
-use lib.Dec.{eqb}
+use Prim.Native.Nat.{ℕ, _≤_}
+use borrow.Author.Tests.{eqb-true, eq-eqb, leb-true, le-leb}
+use lib.Dec.{eqb, leb}
 use Rattle.laws.proofs.Bools.{and-left, and-right, and-both, or-cases, or-first, or-second}
 
 pub record Decides (b : Bool) (P : Type 0) : Type 0 where
@@ -31,5 +34,22 @@ decides-or {a} {b} d e = record {
   complete = elim [ inl p ↦ or-first b (d .complete p) | inr q ↦ or-second a (e .complete q) ];
 }
 
+pub decides-yes : {P : Type 0} → P → Decides true P
+decides-yes p = record { sound = λ h. p; complete = λ q. refl }
+
+pub decides-no : {P : Type 0} → (P → ⊥) → Decides false P
+decides-no f = record { sound = λ h. absurd (false≢true h); complete = λ p. absurd (f p) }
+
+pub decides-not : (b : Bool) → Decides (not b) (b ≡ false)
+decides-not true = decides-no true≢false
+decides-not false = decides-yes refl
+
+pub decides-implies : (a b : Bool) → Decides (not a || b) (a ≡ true → b ≡ true)
+decides-implies true b = record { sound = λ h k. h; complete = λ f. f refl }
+decides-implies false b = decides-yes (λ h. absurd (false≢true h))
+
 pub eqb-decides : (a b : ℕ) → Decides (eqb a b) (a ≡ b)
 eqb-decides a b = record { sound = eqb-true a b; complete = eq-eqb a b }
+
+pub leb-decides : (a b : ℕ) → Decides (leb a b) (a ≤ b)
+leb-decides a b = record { sound = leb-true a b; complete = le-leb a b }

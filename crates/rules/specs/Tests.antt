@@ -1,5 +1,5 @@
 -- The statements of `Sets` and `Implies` as tests.
--- Working: laws in proofs/Decides and proofs/Truth say that each test decides its statement.
+-- Working: laws in proofs/Decides and proofs/Table say that each test decides its statement.
 --     sameAntecedent, sameConsequent, stands, within, same    of `Sets`
 --     unmodified, isEmpty                                     no identifier is modified; there is none
 --     table                                                   every assignment to the listed comparisons is tried

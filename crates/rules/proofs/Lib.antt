@@ -1,0 +1,21 @@
+-- Laws of the rules' definitions.
+--     Spell          the trees that words spell
+--     Unique         one tree has a given spelling
+--     Decides        the tests of sets decide their statements
+--     Passes         conditions that pass exactly when a statement holds
+--     Table          the table decides the sentence of "Implies"
+--     Implication    "Implies" as it is tried, and in a store
+--     Replaced       substitution, in values
+--     Starts         what is known of commands and stores
+--     Agreement      agreement as sets demand
+--     Sound          the rules are sound
+pub mod Spell
+pub mod Unique
+pub mod Decides
+pub mod Passes
+pub mod Table
+pub mod Implication
+pub mod Replaced
+pub mod Starts
+pub mod Agreement
+pub mod Sound
