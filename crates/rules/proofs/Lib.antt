@@ -5,6 +5,8 @@
 --     Passes         conditions that pass exactly when a statement holds
 --     Table          the table decides the sentence of "Implies"
 --     Implication    "Implies" as it is tried, and in a store
+--     Forms          commands and sets taken apart by their form
+--     Judged         the judge accepts exactly the derivations
 --     Replaced       substitution, in values
 --     Starts         what is known of commands and stores
 --     Agreement      agreement as sets demand
@@ -15,6 +17,8 @@ pub mod Decides
 pub mod Passes
 pub mod Table
 pub mod Implication
+pub mod Forms
+pub mod Judged
 pub mod Replaced
 pub mod Starts
 pub mod Agreement
