@@ -1,0 +1,48 @@
+-- Demands 2 and 3 of the check, from the laws of the judge and of the rules.
+-- Assumes nothing.
+--     demand-2    accepted exactly when the file reads and its evidence is a derivation
+--     demand-3    every accepted file is secure
+use mathlib.Core.Path.{_≡_, refl, sym, _∙_, ap, subst}
+use mathlib.Core.List.{List}
+use Prim.Native.Nat.{ℕ}
+use Rattle.rules.specs.Assertion.{Secure}
+use Rattle.rules.specs.Context.{Limits, Context}
+use Rattle.rules.specs.Judge.{Verdict, accepted, refused, judgeFlow}
+use Rattle.rules.proofs.Judged.{Accepts, flow-judged}
+use Rattle.rules.proofs.Sound.{flow-secure}
+use Rattle.layout.specs.Reading.{Reading, read, fault}
+use Rattle.layout.specs.File.{File, fileOf}
+use Rattle.layout.specs.Verdict.{judged, verdictOf}
+use Rattle.claims.specs.Check.{Derives, Demand2, Demand3}
+
+counted : (v : Verdict) → Accepts v → (n : ℕ) × (v ≡ accepted n)
+counted (accepted n) h = (n, refl)
+counted (refused k i) h = absurd h
+
+module _ (limits : Limits) (bytes : List ℕ) where
+  -- what is read, when it is accepted, derives its contract
+  derives : (r : Reading File) → fileOf limits bytes ≡ r → Accepts (judged (record { limits = limits }) r) →
+      Derives limits bytes
+  derives (read f end) h a = record {
+    file = f;
+    end = end;
+    reads = h;
+    derivation = flow-judged (record { limits = limits }) (f .evidence) (f .pre) (f .program) (f .post) .sound a;
+  }
+  derives (fault k p) h a = absurd a
+
+  pub demand-2 : Demand2 limits bytes
+  unfolding verdictOf
+  demand-2 = record {
+    sound = λ n h. derives (fileOf limits bytes) refl (subst Accepts (sym h) tt);
+    complete = λ d. counted _ (subst (λ r. Accepts (judged (record { limits = limits }) r)) (sym (d .reads))
+        (flow-judged (record { limits = limits }) _ _ _ _ .complete (d .derivation)));
+  }
+
+  pub demand-3 : Demand3 limits bytes
+  unfolding verdictOf
+  demand-3 = record {
+    secure = λ n h f end e. flow-secure _
+        (flow-judged (record { limits = limits }) (f .evidence) (f .pre) (f .program) (f .post) .sound
+        (subst (λ r. Accepts (judged (record { limits = limits }) r)) e (subst Accepts (sym h) tt)));
+  }

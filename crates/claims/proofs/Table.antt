@@ -1,0 +1,29 @@
+-- Every starred row of document 01 is as the definitions say: computed from them, row by row.
+-- Assumes nothing.
+--     table-right    the rows
+use mathlib.Core.Path.{_≡_, refl}
+use mathlib.Core.Bool.{true}
+use Rattle.language.specs.Store.{value}
+use Rattle.language.specs.Modifies.{identifiers}
+use Rattle.rules.specs.Words.{words, commandWords}
+use Rattle.rules.specs.Context.{standard}
+use Rattle.rules.specs.Replace.{replace}
+use Rattle.rules.specs.Sets.{setIdentifiers}
+use Rattle.rules.specs.Condition.{test, _then_, byForm}
+use Rattle.rules.specs.Judge.{oneMore, judgeWord, judgeFlow}
+use Rattle.layout.specs.Reading.{_⊛_, several, wordDue}
+use Rattle.layout.specs.Read.{expression, command, set}
+use Rattle.layout.specs.ReadEvidence.{flowEvidence}
+use Rattle.layout.specs.For.{unsteadyAt, firstUnsteady}
+use Rattle.layout.specs.File.{parts, steadyFile, finish, fileOf}
+use Rattle.layout.specs.Verdict.{verdictOf}
+use Rattle.execution.specs.Evaluate.{evaluate}
+use Rattle.execution.specs.Run.{turns, run}
+use Rattle.execution.specs.Ran.{runFile, runOf}
+use Rattle.claims.specs.Table.{right, allRight, table}
+
+pub table-right : allRight table ≡ true
+unfolding allRight table right verdictOf fileOf parts finish steadyFile unsteadyAt firstUnsteady standard words
+    commandWords replace test _then_ byForm oneMore judgeWord judgeFlow _⊛_ several wordDue expression command set
+    flowEvidence value identifiers setIdentifiers evaluate turns run runFile runOf
+table-right = refl

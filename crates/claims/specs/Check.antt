@@ -1,0 +1,31 @@
+-- Demands 2 and 3 of the check on bytes.
+-- Trusted. Assumes nothing.
+--     Derives      the file reads by document 01 and its evidence is a derivation by its rules
+--     Demand2      it is accepted exactly then
+--     Demand3      every accepted file is secure
+use mathlib.Core.Path.{_≡_}
+use mathlib.Core.List.{List}
+use Prim.Native.Nat.{ℕ}
+use Rattle.rules.specs.Assertion.{Members, Secure}
+use Rattle.rules.specs.Context.{Limits, Context}
+use Rattle.rules.specs.Derivation.{Flow}
+use Rattle.rules.specs.Judge.{Verdict, accepted, refused}
+use Rattle.layout.specs.Reading.{Reading, read, fault}
+use Rattle.layout.specs.File.{File, fileOf}
+use Rattle.layout.specs.Verdict.{verdictOf}
+
+pub record Derives (limits : Limits) (bytes : List ℕ) : Type 0 where
+  pub file : File
+  pub end : ℕ
+  pub reads : fileOf limits bytes ≡ read file end
+  pub derivation : Flow (record { limits = limits }) (file .evidence) (file .pre) (file .program) (file .post)
+
+pub record Demand2 (limits : Limits) (bytes : List ℕ) : Type 0 where
+  pub sound : (n : ℕ) → verdictOf limits bytes ≡ accepted n → Derives limits bytes
+  pub complete : Derives limits bytes → (n : ℕ) × (verdictOf limits bytes ≡ accepted n)
+
+-- any two ending runs from stores that agree as the precondition demands end in stores that agree as the postcondition
+-- demands
+pub record Demand3 (limits : Limits) (bytes : List ℕ) : Type 0 where
+  pub secure : (n : ℕ) → verdictOf limits bytes ≡ accepted n → (f : File) (end : ℕ) →
+      fileOf limits bytes ≡ read f end → Secure (f .pre) (f .program) (f .post)

@@ -1,0 +1,93 @@
+-- The starred rows of document 01's "Table of files".
+-- Trusted. Assumes nothing.
+--     bytesOf      the bytes of words that are written as kind and payload
+--     Row          a file with its verdict; a constant's payload with its integer; a run of a `for` over skip
+--     right        whether a row is as the definitions say
+--     table        the rows
+use mathlib.Core.Bool.{Bool, true, false, _&&_}
+use mathlib.Core.List.{List, [], _∷_}
+use Prim.Native.Nat.{ℕ, _+_, _*_, _/_, _%_}
+use lib.Dec.{eqb}
+use lib.IntN.{ℤ, pos, negsuc}
+use lib.ListN.{getD, replicate}
+use Rattle.language.specs.Syntax.{Arithmetic, Expr}
+use Rattle.language.specs.Store.{sameInteger, value}
+use Rattle.rules.specs.Context.{standard}
+use Rattle.rules.specs.Judge.{Verdict, accepted, refused}
+use Rattle.layout.specs.Reading.{Reading, read, fault}
+use Rattle.layout.specs.Read.{expression}
+use Rattle.layout.specs.Verdict.{verdictOf}
+use Rattle.execution.specs.Lent.{Lent, storeOf}
+use Rattle.execution.specs.Ran.{Answer, done, refused as stops, Ran, runOf}
+
+-- k:p
+abbrev pub bytesOf : List (ℕ × ℕ) → List ℕ
+bytesOf [] = []
+bytesOf (w ∷ l) =
+    let n = w .0 * 67108864 + w .1 in
+    n % 256 ∷ (n / 256 % 256 ∷ (n / 65536 % 256 ∷ (n / 16777216 ∷ bytesOf l)))
+
+-- `forSkip m budget a n q` runs a `for` over scalar 0 up to scalar 1, which holds m, and is answered a after n steps,
+-- with q in scalar 0
+pub data Row : Type 0 where
+  file : List (ℕ × ℕ) → Verdict → Row
+  constant : ℕ → ℤ → Row
+  forSkip : ℤ → ℕ → Answer → ℕ → ℤ → Row
+
+abbrev pub sameVerdict : Verdict → Verdict → Bool
+sameVerdict (accepted m) (accepted n) = eqb m n
+sameVerdict (accepted m) (refused k i) = false
+sameVerdict (refused k i) (accepted n) = false
+sameVerdict (refused k i) (refused l j) = eqb k l && eqb i j
+
+abbrev pub sameAnswer : Answer → Answer → Bool
+sameAnswer done done = true
+sameAnswer done (stops k i) = false
+sameAnswer (stops k i) done = false
+sameAnswer (stops k i) (stops l j) = eqb k l && eqb i j
+
+abbrev pub lent : ℤ → Lent
+lent m = record { scalars = pos 0 ∷ m ∷ replicate 30 (pos 0); values = replicate 2048 (pos 0) }
+
+-- what was read is worth z; in one store, since a constant has one value in all
+abbrev pub constantIs : Reading (Expr Arithmetic) → ℤ → Bool
+constantIs (read e p) z = sameInteger (value e (storeOf (lent (pos 0)))) z
+constantIs (fault k p) z = false
+
+-- the second file, with word 5 as 2:x
+abbrev pub copying : ℕ → List (ℕ × ℕ)
+copying x = (63, 10) ∷ (27, 0) ∷ (2, 1) ∷ (32, 1) ∷ (9, 1) ∷ (2, x) ∷ (32, 1) ∷ (9, 1) ∷ (2, 0) ∷ (33, 3) ∷ []
+
+-- a `for` over skip, with a contract that asks nothing
+abbrev pub skipped : List (ℕ × ℕ)
+skipped = (63, 6) ∷ (31, 32) ∷ (24, 0) ∷ (32, 0) ∷ (32, 0) ∷ (33, 10) ∷ []
+
+abbrev pub ranAs : Ran → Answer → ℕ → ℤ → Bool
+ranAs r a n q =
+    sameAnswer (r .answer) a && (eqb (r .steps) n && sameInteger (getD (r .store .scalars) 0 (pos 0)) q)
+
+unfoldable pub right : Row → Bool
+right (file l v) = sameVerdict (verdictOf standard (bytesOf l)) v
+right (constant p z) = constantIs (expression (bytesOf ((1, p) ∷ [])) 1 Arithmetic 0) z
+right (forSkip m budget a n q) = ranAs (runOf standard (bytesOf skipped) budget (lent m)) a n q
+
+unfoldable pub allRight : List Row → Bool
+allRight [] = true
+allRight (r ∷ l) = right r && allRight l
+
+unfoldable pub table : List Row
+table =
+    file ((63, 5) ∷ (24, 0) ∷ (32, 0) ∷ (32, 0) ∷ (33, 1) ∷ []) (accepted 1)
+    ∷ file (copying 1) (accepted 1)
+    ∷ file (copying 2) (refused 8 9)
+    ∷ file [] (refused 1 0)
+    ∷ file ((63, 4) ∷ (24, 0) ∷ (32, 0) ∷ (32, 0) ∷ (33, 1) ∷ []) (refused 2 0)
+    ∷ file ((63, 4) ∷ (24, 0) ∷ (32, 0) ∷ (32, 0) ∷ []) (refused 3 4)
+    ∷ file ((63, 6) ∷ (24, 0) ∷ (32, 0) ∷ (32, 0) ∷ (33, 1) ∷ (24, 0) ∷ []) (refused 6 5)
+    ∷ file ((63, 6) ∷ (31, 33) ∷ (24, 0) ∷ (32, 0) ∷ (32, 0) ∷ (33, 10) ∷ []) (refused 7 1)
+    ∷ constant 67108863 (negsuc 0)
+    ∷ constant 33554432 (negsuc 33554431)
+    ∷ forSkip (pos 3) 11 done 11 (pos 4)
+    ∷ forSkip (pos 3) 10 (stops 13 1) 10 (pos 4)
+    ∷ forSkip (negsuc 4) 2 done 2 (pos 1)
+    ∷ []

@@ -1,0 +1,1 @@
+// Claims in specs/ and their proofs in proofs/; no code.
