@@ -15,7 +15,8 @@ use Rattle.layout.specs.Reading.{_⊛_, several, wordDue}
 use Rattle.layout.specs.Read.{expression, command, set}
 use Rattle.layout.specs.ReadEvidence.{flowEvidence}
 use Rattle.layout.specs.For.{unsteadyAt, firstUnsteady}
-use Rattle.layout.specs.File.{parts, steadyFile, finish, fileOf}
+use Rattle.layout.specs.Bytes.{wordsOf}
+use Rattle.layout.specs.File.{parts, steadyFile, finish, wordsRead, fileOf}
 use Rattle.layout.specs.Verdict.{verdictOf}
 use Rattle.execution.specs.Evaluate.{evaluate}
 use Rattle.execution.specs.Run.{turns, run}
@@ -23,7 +24,7 @@ use Rattle.execution.specs.Ran.{runFile, runOf}
 use Rattle.claims.specs.Table.{right, allRight, table}
 
 pub table-right : allRight table ≡ true
-unfolding allRight table right verdictOf fileOf parts finish steadyFile unsteadyAt firstUnsteady standard words
+unfolding allRight table right verdictOf fileOf wordsOf wordsRead parts finish steadyFile unsteadyAt firstUnsteady standard words
     commandWords replace test _then_ byForm oneMore judgeWord judgeFlow _⊛_ several wordDue expression command set
     flowEvidence value identifiers setIdentifiers evaluate turns run runFile runOf
 table-right = refl

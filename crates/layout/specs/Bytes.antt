@@ -1,22 +1,28 @@
 -- The words of a file (document 01, "Layout"): 32 bits, low byte first; the top 6 bits the kind, the low 26 the payload.
 -- Trusted. Assumes nothing.
---     wordCount, numberAt    how many words a file has; the word at a place
+--     wordsOf                the words that bytes make
+--     wordCount, numberAt    how many words there are; the word at a place
 --     kindAt, payloadAt      its kind and its payload
 --     signed                 a payload in two's complement
 use mathlib.Core.Bool.{cond}
-use mathlib.Core.List.{List}
+use mathlib.Core.List.{List, [], _∷_}
 use Prim.Native.Nat.{ℕ, _+_, _*_, _/_, _%_}
 use lib.Dec.{ltb}
 use lib.IntN.{ℤ, pos, _-ℤ_}
 use lib.ListN.{length, getD}
 
+unfoldable pub wordsOf : List ℕ → List ℕ
+wordsOf [] = []
+wordsOf (a ∷ []) = []
+wordsOf (a ∷ (b ∷ [])) = []
+wordsOf (a ∷ (b ∷ (c ∷ []))) = []
+wordsOf (a ∷ (b ∷ (c ∷ (d ∷ l)))) = (a + 256 * b + 65536 * c + 16777216 * d) ∷ wordsOf l
+
 abbrev pub wordCount : List ℕ → ℕ
-wordCount file = length file / 4
+wordCount file = length file
 
 abbrev pub numberAt : List ℕ → ℕ → ℕ
-numberAt file at =
-    getD file (at * 4) 0 + 256 * getD file (at * 4 + 1) 0
-    + 65536 * getD file (at * 4 + 2) 0 + 16777216 * getD file (at * 4 + 3) 0
+numberAt file at = getD file at 0
 
 abbrev pub kindAt : List ℕ → ℕ → ℕ
 kindAt file at = numberAt file at / 67108864

@@ -4,7 +4,8 @@
 --     File        the trees of a file, and the places of its sets and its evidence
 --     parts       3 to 5: the parts from place 1 on
 --     finish      6 and 7
---     fileOf      1 to 7
+--     wordsRead   2 to 7, of words
+--     fileOf      1 to 7, of bytes
 use mathlib.Core.Bool.{Bool, true, false, not, _||_}
 use mathlib.Core.List.{List}
 use mathlib.Core.Option.{Option, none, some}
@@ -15,7 +16,7 @@ use Rattle.language.specs.Syntax.{Command}
 use Rattle.rules.specs.Assertion.{Members}
 use Rattle.rules.specs.Context.{Limits}
 use Rattle.rules.specs.Evidence.{FlowEvidence}
-use Rattle.layout.specs.Bytes.{wordCount, numberAt}
+use Rattle.layout.specs.Bytes.{wordsOf, wordCount, numberAt}
 use Rattle.layout.specs.Reading.{Reading, read, fault, Reader, onRead, leaf, _⊛_}
 use Rattle.layout.specs.Read.{command, set}
 use Rattle.layout.specs.ReadEvidence.{flowEvidence}
@@ -30,8 +31,8 @@ pub record File : Type 0 where
   pub evidenceAt : ℕ
   pub evidence : FlowEvidence
 
-abbrev pub file : Command → ℕ → Members → ℕ → Members → ℕ → FlowEvidence → File
-file c a p b q e k =
+abbrev pub made : Command → ℕ → Members → ℕ → Members → ℕ → FlowEvidence → File
+made c a p b q e k =
     record { program = c; preAt = a; pre = p; postAt = b; post = q; evidenceAt = e; evidence = k }
 
 -- the place at hand
@@ -40,33 +41,31 @@ here at = read at at
 
 -- each part is outermost
 unfoldable pub parts : Limits → List ℕ → Reading File
-parts limits bytes =
+parts limits file =
     let d = limits .depth in
-    (leaf file ⊛ command bytes d ⊛ here ⊛ set limits bytes d ⊛ here ⊛ set limits bytes d
-    ⊛ here ⊛ flowEvidence limits bytes d) 1
+    (leaf made ⊛ command file d ⊛ here ⊛ set limits file d ⊛ here ⊛ set limits file d ⊛ here
+    ⊛ flowEvidence limits file d) 1
 
 -- 7
 unfoldable pub steadyFile : Limits → List ℕ → File → ℕ → Reading File
-steadyFile limits bytes f p =
-    elim (firstUnsteady limits bytes (wordCount bytes) 0) [ none ↦ read f p | some at ↦ fault 7 at ]
+steadyFile limits file f p =
+    elim (firstUnsteady limits file (wordCount file) 0) [ none ↦ read f p | some at ↦ fault 7 at ]
 
 -- 6, then 7
 unfoldable pub finish : Limits → List ℕ → File → ℕ → Reading File
-finish limits bytes f p =
-    elim (ltb p (wordCount bytes)) [ true ↦ fault 6 p | false ↦ steadyFile limits bytes f p ]
+finish limits file f p = elim (ltb p (wordCount file)) [ true ↦ fault 6 p | false ↦ steadyFile limits file f p ]
+
+-- 2, then the rest
+unfoldable pub wordsRead : Limits → List ℕ → Reading File
+wordsRead limits file =
+    elim (eqb (numberAt file 0) (63 * 67108864 + wordCount file)) [
+      | true ↦ onRead (parts limits file) (finish limits file)
+      | false ↦ fault 2 0
+    ]
 
 -- 1
 abbrev pub badLength : List ℕ → Bool
 badLength bytes = eqb (length bytes) 0 || (ltb 32768 (length bytes) || not (eqb (length bytes % 4) 0))
 
--- 1, 2, then the rest
 unfoldable pub fileOf : Limits → List ℕ → Reading File
-fileOf limits bytes =
-    elim (badLength bytes) [
-      | true ↦ fault 1 0
-      | false ↦
-          elim (eqb (numberAt bytes 0) (63 * 67108864 + wordCount bytes)) [
-            | true ↦ onRead (parts limits bytes) (finish limits bytes)
-            | false ↦ fault 2 0
-          ]
-    ]
+fileOf limits bytes = elim (badLength bytes) [ true ↦ fault 1 0 | false ↦ wordsRead limits (wordsOf bytes) ]
