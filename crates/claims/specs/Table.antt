@@ -14,6 +14,7 @@ use Rattle.language.specs.Syntax.{Arithmetic, Expr}
 use Rattle.language.specs.Store.{sameInteger, value}
 use Rattle.rules.specs.Context.{standard}
 use Rattle.rules.specs.Judge.{Verdict, accepted, refused}
+use Rattle.layout.specs.Bytes.{wordsOf}
 use Rattle.layout.specs.Reading.{Reading, read, fault}
 use Rattle.layout.specs.Read.{expression}
 use Rattle.layout.specs.Verdict.{verdictOf}
@@ -68,7 +69,7 @@ ranAs r a n q =
 
 unfoldable pub right : Row → Bool
 right (file l v) = sameVerdict (verdictOf standard (bytesOf l)) v
-right (constant p z) = constantIs (expression (bytesOf ((1, p) ∷ [])) 1 Arithmetic 0) z
+right (constant p z) = constantIs (expression (wordsOf (bytesOf ((1, p) ∷ []))) 1 Arithmetic 0) z
 right (forSkip m budget a n q) = ranAs (runOf standard (bytesOf skipped) budget (lent m)) a n q
 
 unfoldable pub allRight : List Row → Bool
