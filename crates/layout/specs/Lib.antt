@@ -3,6 +3,8 @@
 --     Reading         what reading gives, and readers one after the other
 --     Read            expressions, commands and sets
 --     ReadEvidence    evidence
+--     Spelling        how expressions, commands and sets stand in a file
+--     EvidenceWords   how evidence stands in a file
 --     For             refusal 7
 --     File            refusals 1 to 7: a file as trees
 --     Verdict         refusals 1 to 9: the answer, and the parts of an accepted file
@@ -10,6 +12,8 @@ pub mod Bytes
 pub mod Reading
 pub mod Read
 pub mod ReadEvidence
+pub mod Spelling
+pub mod EvidenceWords
 pub mod For
 pub mod File
 pub mod Verdict

@@ -1,0 +1,271 @@
+-- What stands in the file by its words and fits is read (document 01, "Layout"): expressions, commands and sets.
+-- Assumes nothing.
+--     Back, begun, _⊲_, word-back                one law for each combinator of specs/Reading
+--     expression-stands, command-stands, set-stands      from what stands to what is read
+--     expression-back, command-back, set-back            the same of what is spelled
+use mathlib.Core.Path.{_≡_, refl, sym, _∙_, ap, ap₂, subst}
+use mathlib.Core.Bool.{Bool, true, false}
+use mathlib.Core.List.{List, [], _∷_, _++_}
+use mathlib.Core.Option.{Option, some}
+use Prim.Native.Nat.{ℕ, zero, suc, _+_, _*_, _/_, _%_, _<_, _≤_}
+use native.Mathlib.Omega.{arith}
+use borrow.Author.Tests.{lt-ltb, le-leb}
+use lib.IntN.{ℤ}
+use lib.ListN.{length}
+use Rattle.language.specs.Syntax.{Operator, plus, minus, times, Comparison, equal, less, atMost}
+use Rattle.language.specs.Syntax.{Sort, Boolean, Expr, constant, scalar, operation, select}
+use Rattle.language.specs.Syntax.{compare, truth, and, or, neg, array, zeros, update, toScalar, toArray}
+use Rattle.language.specs.Syntax.{Command, skip, sequence, assert, assign, ifElse, while, for}
+use Rattle.rules.specs.Words.{Word, word, forWord, words, commandWords, operatorPayload, comparisonPayload, truthPayload}
+use Rattle.rules.specs.Assertion.{Member, Members, member}
+use Rattle.rules.specs.Context.{Limits}
+use Rattle.layout.specs.Bytes.{wordCount, numberAt, kindAt, payloadAt}
+use Rattle.layout.specs.Reading.{read, Reader, leaf, _⊛_, several, allowed, wordDue, upTo, onOption}
+use Rattle.layout.specs.Read.{operatorOf, comparisonOf, truthOf, expression, command, sortOf, consequentAt, memberAt, set}
+use Rattle.layout.specs.Spelling.{payloadOf, SpelledAt, FitsExpression, FitsCommand}
+use Rattle.layout.specs.Spelling.{memberWords, membersWords, setWords, FitsMembers, FitsSet}
+use Rattle.layout.proofs.Words.{quotient, remainder, kind-of-word, payload-of-word, payload-small, signed-payload}
+use Rattle.layout.proofs.Stands.{Stands, parted, spelled-stands}
+
+-- the reader r reads a from `at` up to p
+pub record Back {A : Type 0} (r : Reader A) (at : ℕ) (a : A) (p : ℕ) : Type 0 where
+  pub back : r at ≡ read a p
+
+pub begun : {A : Type 0} {a : A} {at p : ℕ} → at ≡ p → Back (leaf a) at a p
+begun {a} h = record { back = ap (λ q. read a q) h }
+
+infixl 50 _⊲_
+pub _⊲_ : {A B : Type 0} {r : Reader (A → B)} {t : Reader A} {at q p : ℕ} {f : A → B} {a : A} →
+    Back r at f q → Back t q a p → Back (r ⊛ t) at (f a) p
+unfolding _⊛_
+_⊲_ {r} {t} {at} {q} h k = record { back = rw (h .back) (rw (k .back) refl) }
+
+-- what is allowed
+pub record Allowed {A : Type 0} (o : Option (Reader A)) (at : ℕ) (a : A) (p : ℕ) : Type 0 where
+  pub allows : allowed o at ≡ read a p
+
+pub some-back : {A : Type 0} {r : Reader A} {at : ℕ} {a : A} {p : ℕ} → Back r (at + 1) a p → Allowed (some r) at a p
+some-back h = record { allows = h .back }
+
+pub up-to-back : {A : Type 0} {r : Reader A} {at : ℕ} {a : A} {p : ℕ} (n k : ℕ) → k ≤ n → Back r (at + 1) a p →
+    Allowed (upTo n k r) at a p
+up-to-back n k h b = record { allows = rw (le-leb k n h) (b .back) }
+
+pub option-back : {A B : Type 0} {b : B} {at : ℕ} {a : A} {p : ℕ} (o : Option B) (f : B → Reader A) → o ≡ some b →
+    Back (f b) (at + 1) a p → Allowed (onOption o f) at a p
+option-back {at} {a} {p} o f e h = rw e (some-back h)
+
+operator-back : (o : Operator) → operatorOf (payloadOf (operatorPayload o)) ≡ some o
+operator-back plus = refl
+operator-back minus = refl
+operator-back times = refl
+
+comparison-back : (r : Comparison) → comparisonOf (payloadOf (comparisonPayload r)) ≡ some r
+comparison-back equal = refl
+comparison-back less = refl
+comparison-back atMost = refl
+
+truth-back : (t : Bool) → truthOf (payloadOf (truthPayload t)) ≡ some t
+truth-back false = refl
+truth-back true = refl
+
+due-back : (file : List ℕ) {A : Type 0} (at k n : ℕ) (step : ℕ → ℕ → ℕ → Option (Reader A)) {a : A} {p : ℕ} →
+    at < wordCount file → kindAt file at ≡ k → payloadAt file at ≡ n → Allowed (step at k n) at a p →
+    Back (wordDue file step) at a p
+unfolding wordDue
+due-back file {A} at k n step {a} {p} h e x y =
+    record { back = rw (lt-ltb at (wordCount file) h, wordDue) (ap₂ (λ i j. allowed (step at i j) at) e x ∙ y .allows) }
+
+module _ {file : List ℕ} where
+  -- what stands after a word
+  rest : {w : Word} {l : List Word} {F : Type 0} {at p : ℕ} → Stands file (w ∷ l) F at p → Stands file l F (at + 1) p
+  rest s = record { stand = s .stand .2; fit = s .fit }
+
+  -- without a fact that comes first
+  less-fit : {l : List Word} {F G : Type 0} {at p : ℕ} → Stands file l (F × G) at p → Stands file l G at p
+  less-fit s = record { stand = s .stand; fit = s .fit .1 }
+
+  pub word-back :
+      {A : Type 0} {k : ℕ} {z : ℤ} {l : List Word} {F : Type 0} {at p : ℕ} {a : A}
+      (step : ℕ → ℕ → ℕ → Option (Reader A)) → Stands file (word k z ∷ l) F at p → payloadOf z < 67108864 →
+      Allowed (step at k (payloadOf z)) at a p → Back (wordDue file step) at a p
+  word-back {k} {z} {at} step s h y =
+      due-back file at k (payloadOf z) step (s .stand .0) (kind-of-word file at k z (s .stand .1) h)
+      (payload-of-word file at k z (s .stand .1) h) y
+
+  -- the word of a `for` over q up to m
+  for-back :
+      {A : Type 0} {q m : ℕ} {l : List Word} {F : Type 0} {at p : ℕ} {a : A} (step : ℕ → ℕ → ℕ → Option (Reader A)) →
+      Stands file (forWord q m ∷ l) F at p → (q ≤ 31) × (m ≤ 31) → Allowed (step at 31 (q + 32 * m)) at a p →
+      Back (wordDue file step) at a p
+  for-back {q} {m} {at} step s h y =
+      let small : q + 32 * m < 67108864 = omega (arith, h .0, h .1) in
+      due-back file at 31 (q + 32 * m) step (s .stand .0) (quotient 31 (q + 32 * m) (numberAt file at) (s .stand .1) small)
+      (remainder 31 (q + 32 * m) (numberAt file at) (s .stand .1) small) y
+
+for-first : (q m : ℕ) → q ≤ 31 → (q + 32 * m) % 32 ≡ q
+for-first q m h = omega arith
+
+for-second : (q m : ℕ) → q ≤ 31 → (q + 32 * m) / 32 ≡ m
+for-second q m h = omega arith
+
+small : (n k : ℕ) → k ≤ n → n < 67108864 → k < 67108864
+small n k h l = omega arith
+
+operator-small : (o : Operator) → payloadOf (operatorPayload o) < 67108864
+operator-small plus = omega arith
+operator-small minus = omega arith
+operator-small times = omega arith
+
+comparison-small : (r : Comparison) → payloadOf (comparisonPayload r) < 67108864
+comparison-small equal = omega arith
+comparison-small less = omega arith
+comparison-small atMost = omega arith
+
+truth-small : (t : Bool) → payloadOf (truthPayload t) < 67108864
+truth-small false = omega arith
+truth-small true = omega arith
+
+module _ (file : List ℕ) where
+  pub expression-stands : (d : ℕ) {j : Sort} (e : Expr j) (at p : ℕ) →
+      Stands file (words e) (FitsExpression e d) at p → Back (expression file d j) at e p
+  unfolding expression words FitsExpression
+  expression-stands zero e at p s = absurd (s .fit)
+  expression-stands (suc d) (constant z) at p s =
+      word-back _ s (payload-small z (s .fit)) (some-back (rw (signed-payload z (s .fit)) (begun (s .stand .2))))
+  expression-stands (suc d) (scalar x) at p s =
+      word-back _ s (small 31 x (s .fit) (omega arith)) (up-to-back 31 x (s .fit) (begun (s .stand .2)))
+  expression-stands (suc d) (operation o a b) at p s =
+      word-back _ s (operator-small o) (option-back (operatorOf (payloadOf (operatorPayload o))) _ (operator-back o)
+      (parted (words a) (words b) (rest s) λ q x y.
+      begun refl ⊲ expression-stands d a (at + 1) q x ⊲ expression-stands d b q p y))
+  expression-stands (suc d) (select h i) at p s =
+      word-back _ s (omega arith) (some-back (parted (words h) (words i) (rest s) λ q x y.
+      begun refl ⊲ expression-stands d h (at + 1) q x ⊲ expression-stands d i q p y))
+  expression-stands (suc d) (compare r a b) at p s =
+      word-back _ s (comparison-small r) (option-back (comparisonOf (payloadOf (comparisonPayload r))) _ (comparison-back r)
+      (parted (words a) (words b) (rest s) λ q x y.
+      begun refl ⊲ expression-stands d a (at + 1) q x ⊲ expression-stands d b q p y))
+  expression-stands (suc d) (truth t) at p s =
+      word-back _ s (truth-small t)
+      (option-back (truthOf (payloadOf (truthPayload t))) _ (truth-back t) (begun (s .stand .2)))
+  expression-stands (suc d) (and b c) at p s =
+      word-back _ s (omega arith) (some-back (parted (words b) (words c) (rest s) λ q x y.
+      begun refl ⊲ expression-stands d b (at + 1) q x ⊲ expression-stands d c q p y))
+  expression-stands (suc d) (or b c) at p s =
+      word-back _ s (omega arith) (some-back (parted (words b) (words c) (rest s) λ q x y.
+      begun refl ⊲ expression-stands d b (at + 1) q x ⊲ expression-stands d c q p y))
+  expression-stands (suc d) (neg b) at p s =
+      word-back _ s (omega arith) (some-back (begun refl ⊲ expression-stands d b (at + 1) p (rest s)))
+  expression-stands (suc d) (array a) at p s =
+      word-back _ s (small 31 a (s .fit) (omega arith)) (up-to-back 31 a (s .fit) (begun (s .stand .2)))
+  expression-stands (suc d) zeros at p s = word-back _ s (omega arith) (some-back (begun (s .stand .2)))
+  expression-stands (suc d) (update h i a) at p s =
+      word-back _ s (omega arith) (some-back (parted (words h) (words i ++ words a) (rest s) λ q x t.
+      parted (words i) (words a) t λ r y z.
+      begun refl ⊲ expression-stands d h (at + 1) q x ⊲ expression-stands d i q r y ⊲ expression-stands d a r p z))
+
+  pub command-stands : (d : ℕ) (c : Command) (at p : ℕ) → Stands file (commandWords c) (FitsCommand c d) at p →
+      Back (command file d) at c p
+  unfolding command commandWords FitsCommand
+  command-stands zero c at p s = absurd (s .fit)
+  command-stands (suc d) skip at p s = word-back _ s (omega arith) (some-back (begun (s .stand .2)))
+  command-stands (suc d) (sequence c₁ c₂) at p s =
+      word-back _ s (omega arith) (some-back (parted (commandWords c₁) (commandWords c₂) (rest s) λ q x y.
+      begun refl ⊲ command-stands d c₁ (at + 1) q x ⊲ command-stands d c₂ q p y))
+  command-stands (suc d) (assert b) at p s =
+      word-back _ s (omega arith) (some-back (begun refl ⊲ expression-stands d b (at + 1) p (rest s)))
+  command-stands (suc d) (assign (toScalar x e)) at p s =
+      word-back _ s (small 31 x (s .fit .0) (omega arith))
+      (up-to-back 31 x (s .fit .0) (begun refl ⊲ expression-stands d e (at + 1) p (less-fit (rest s))))
+  command-stands (suc d) (assign (toArray a e)) at p s =
+      word-back _ s (small 31 a (s .fit .0) (omega arith))
+      (up-to-back 31 a (s .fit .0) (begun refl ⊲ expression-stands d e (at + 1) p (less-fit (rest s))))
+  command-stands (suc d) (ifElse b c₁ c₂) at p s =
+      word-back _ s (omega arith) (some-back (parted (words b) (commandWords c₁ ++ commandWords c₂) (rest s) λ q x t.
+      parted (commandWords c₁) (commandWords c₂) t λ r y z.
+      begun refl ⊲ expression-stands d b (at + 1) q x ⊲ command-stands d c₁ q r y ⊲ command-stands d c₂ r p z))
+  command-stands (suc d) (while b c) at p s =
+      word-back _ s (omega arith) (some-back (parted (words b) (commandWords c) (rest s) λ q x y.
+      begun refl ⊲ expression-stands d b (at + 1) q x ⊲ command-stands d c q p y))
+  command-stands (suc d) (for q m c) at p s =
+      for-back _ s (s .fit .0) (up-to-back 1023 (q + 32 * m) (omega (arith, s .fit .0 .0, s .fit .0 .1))
+      (rw (for-first q m (s .fit .0 .0), for-second q m (s .fit .0 .0))
+      (begun refl ⊲ command-stands d c (at + 1) p (less-fit (rest s)))))
+
+  -- the first word's kind tells the sort
+  sort-by : {k : ℕ} {z : ℤ} {l : List Word} {F : Type 0} {at p : ℕ} → Stands file (word k z ∷ l) F at p →
+      payloadOf z < 67108864 → sortOf (kindAt file at) ≡ sortOf k
+  sort-by {k} {z} {at} s h = ap sortOf (kind-of-word file at k z (s .stand .1) h)
+
+  sort-stands : (d : ℕ) {j : Sort} (e : Expr j) (at p : ℕ) → Stands file (words e) (FitsExpression e d) at p →
+      sortOf (kindAt file at) ≡ j
+  unfolding words FitsExpression
+  sort-stands zero e at p s = absurd (s .fit)
+  sort-stands (suc d) (constant z) at p s = sort-by s (payload-small z (s .fit))
+  sort-stands (suc d) (scalar x) at p s = sort-by s (small 31 x (s .fit) (omega arith))
+  sort-stands (suc d) (operation o a b) at p s = sort-by s (operator-small o)
+  sort-stands (suc d) (select h i) at p s = sort-by s (omega arith)
+  sort-stands (suc d) (compare r a b) at p s = sort-by s (comparison-small r)
+  sort-stands (suc d) (truth t) at p s = sort-by s (truth-small t)
+  sort-stands (suc d) (and b c) at p s = sort-by s (omega arith)
+  sort-stands (suc d) (or b c) at p s = sort-by s (omega arith)
+  sort-stands (suc d) (neg b) at p s = sort-by s (omega arith)
+  sort-stands (suc d) (array a) at p s = sort-by s (small 31 a (s .fit) (omega arith))
+  sort-stands (suc d) zeros at p s = sort-by s (omega arith)
+  sort-stands (suc d) (update h i a) at p s = sort-by s (omega arith)
+
+  abbrev consequentOf : (d : ℕ) (j : Sort) → Reader (Expr Boolean → Member)
+  consequentOf d j = leaf (λ e φ. member φ e) ⊛ expression file d j
+
+  consequent-stands : (d : ℕ) {j : Sort} (e : Expr j) (at p : ℕ) → Stands file (words e) (FitsExpression e d) at p →
+      Back (consequentAt file d) at (λ φ. member φ e) p
+  consequent-stands d {j} e at p s =
+      let known : Back (consequentOf d j) at (λ φ. member φ e) p = begun refl ⊲ expression-stands d e at p s in
+      record {
+        back =
+            subst (λ i. consequentOf d i at ≡ read (λ φ. member φ e) p) (sym (sort-stands d e at p s)) (known .back);
+      }
+
+  member-stands : (d : ℕ) (m : Member) (at p : ℕ) →
+      Stands file (memberWords m) (FitsExpression (m .antecedent) d × FitsExpression (m .consequent) d) at p →
+      Back (memberAt file d) at m p
+  member-stands d m at p s =
+      parted (words (m .antecedent)) (words (m .consequent)) s λ q x y.
+      begun refl ⊲ expression-stands d (m .antecedent) at q x ⊲ consequent-stands d (m .consequent) q p y
+
+  members-stands : (d : ℕ) (m : Members) (at p : ℕ) → Stands file (membersWords m) (FitsMembers m d) at p →
+      Back (several (length m) (memberAt file d)) at m p
+  unfolding several
+  members-stands d [] at p s = record { back = ap (λ q. read [] q) (s .stand) }
+  members-stands d (m ∷ l) at p s =
+      parted (memberWords m) (membersWords l) s λ q x y.
+      record { back = rw (member-stands d m at q x .back) (rw (members-stands d l q p y .back) refl) }
+
+  pub set-stands : (limits : Limits) (d : ℕ) (m : Members) (at p : ℕ) → Stands file (setWords m) (FitsSet limits m d) at p →
+      Back (set limits file d) at m p
+  unfolding set FitsSet
+  set-stands limits zero m at p s = absurd (s .fit)
+  set-stands limits (suc d) m at p s =
+      word-back _ s (s .fit .0 .1)
+      (up-to-back (limits .members) (length m) (s .fit .0 .0) (members-stands d m (at + 1) p (less-fit (rest s))))
+
+-- the same of what is spelled
+pub stands-from : {file : List ℕ} {F : Type 0} {at : ℕ} (l : List Word) → SpelledAt file at l → F →
+    Stands file l F at (at + length l)
+stands-from {file} {at} l h f = record { stand = spelled-stands file at l (at + length l) h refl; fit = f }
+
+pub expression-back :
+    (file : List ℕ) (d : ℕ) {j : Sort} (e : Expr j) (at : ℕ) → SpelledAt file at (words e) → FitsExpression e d →
+    expression file d j at ≡ read e (at + length (words e))
+expression-back file d e at h f = expression-stands file d e at _ (stands-from (words e) h f) .back
+
+pub command-back :
+    (file : List ℕ) (d : ℕ) (c : Command) (at : ℕ) → SpelledAt file at (commandWords c) → FitsCommand c d →
+    command file d at ≡ read c (at + length (commandWords c))
+command-back file d c at h f = command-stands file d c at _ (stands-from (commandWords c) h f) .back
+
+pub set-back :
+    (limits : Limits) (file : List ℕ) (d : ℕ) (m : Members) (at : ℕ) → SpelledAt file at (setWords m) →
+    FitsSet limits m d → set limits file d at ≡ read m (at + length (setWords m))
+set-back limits file d m at h f = set-stands file limits d m at _ (stands-from (setWords m) h f) .back

@@ -1,0 +1,59 @@
+-- Where readings end (document 01, "Judging order" 3 to 5): what was read ends past its start and inside the file, and
+-- a refusal is 3, 4 or 5 at a place from the start on, inside the file or at its end.
+-- Assumes nothing.
+--     Bounds                                                       the law, by cases on a reading
+--     expression-bounds, command-bounds, set-bounds                of these readers
+--     pre-bounds, set-evidence-bounds, flow-bounds                 of evidence
+--     bounds-read, bounds-fault                                    of what was read; of a refusal
+use mathlib.Core.Path.{_≡_, subst}
+use mathlib.Core.List.{List}
+use Prim.Native.Nat.{ℕ, _<_, _≤_}
+use Rattle.language.specs.Syntax.{Sort}
+use Rattle.rules.specs.Context.{Limits}
+use Rattle.layout.specs.Bytes.{wordCount}
+use Rattle.layout.specs.Reading.{Reading, read, fault, Reader}
+use Rattle.layout.specs.Read.{expression, command, set}
+use Rattle.layout.specs.ReadEvidence.{preEvidence, setEvidence, flowEvidence}
+use Rattle.layout.proofs.Yields.{FaultAt, Past, PastBy}
+use Rattle.layout.proofs.Spelled.{expression-past, command-past, set-past}
+use Rattle.layout.proofs.SpelledEvidence.{pre-past, set-evidence-past, flow-past}
+
+abbrev pub BoundsBy : {A : Type 0} → List ℕ → ℕ → Reading A → Type 0
+BoundsBy file at (read a p) = (at < p) × (p ≤ wordCount file)
+BoundsBy file at (fault n p) = at ≤ wordCount file → FaultAt file at n p
+
+pub record Bounds {A : Type 0} (file : List ℕ) (at : ℕ) (r : Reader A) : Type 0 where
+  pub bounds : BoundsBy file at (r at)
+
+past-bounds : {A : Type 0} {file : List ℕ} {at : ℕ} {T : A → ℕ → Type 0} {r : Reader A} → Past file at T r → Bounds file at r
+past-bounds {A} {file} {at} {T} {r} h = record { bounds = go (r at) (h .past) }
+  where
+    go : (x : Reading A) → PastBy file at T x → BoundsBy file at x
+    go (read a p) k = (k .0, k .1)
+    go (fault n p) k = k
+
+pub bounds-read : {A : Type 0} {file : List ℕ} {at : ℕ} {r : Reader A} (a : A) (p : ℕ) → Bounds file at r → r at ≡ read a p →
+    (at < p) × (p ≤ wordCount file)
+bounds-read {file} {at} a p h e = subst (λ x. BoundsBy file at x) e (h .bounds)
+
+pub bounds-fault : {A : Type 0} {file : List ℕ} {at : ℕ} {r : Reader A} (n p : ℕ) → Bounds file at r → r at ≡ fault n p →
+    at ≤ wordCount file → FaultAt file at n p
+bounds-fault {file} {at} n p h e = subst (λ x. BoundsBy file at x) e (h .bounds)
+
+pub expression-bounds : (file : List ℕ) (d : ℕ) (j : Sort) (at : ℕ) → Bounds file at (expression file d j)
+expression-bounds file d j at = past-bounds (expression-past file d j at)
+
+pub command-bounds : (file : List ℕ) (d at : ℕ) → Bounds file at (command file d)
+command-bounds file d at = past-bounds (command-past file d at)
+
+pub set-bounds : (limits : Limits) (file : List ℕ) (d at : ℕ) → Bounds file at (set limits file d)
+set-bounds limits file d at = past-bounds (set-past file limits d at)
+
+pub pre-bounds : (file : List ℕ) (d at : ℕ) → Bounds file at (preEvidence file d)
+pre-bounds file d at = past-bounds (pre-past file d at)
+
+pub set-evidence-bounds : (limits : Limits) (file : List ℕ) (d at : ℕ) → Bounds file at (setEvidence limits file d)
+set-evidence-bounds limits file d at = past-bounds (set-evidence-past file limits d at)
+
+pub flow-bounds : (limits : Limits) (file : List ℕ) (d at : ℕ) → Bounds file at (flowEvidence limits file d)
+flow-bounds limits file d at = past-bounds (flow-past file limits d at)

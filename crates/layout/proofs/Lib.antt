@@ -1,0 +1,19 @@
+-- Reading is exact (document 01, "Layout"): what is read stands in the file by its words and fits, and what stands there
+-- and fits is read.
+-- Assumes nothing.
+--     Words              words as numbers
+--     Stands             words between two places
+--     Yields             one law for each combinator of readers
+--     Spelled            what is read stands in the file: expressions, commands and sets
+--     SpelledEvidence    the same of evidence
+--     Back               what stands in the file is read: expressions, commands and sets
+--     BackEvidence       the same of evidence
+--     Faults             where readings end
+pub mod Words
+pub mod Stands
+pub mod Yields
+pub mod Spelled
+pub mod SpelledEvidence
+pub mod Back
+pub mod BackEvidence
+pub mod Faults
