@@ -25,7 +25,8 @@ use Rattle.layout.specs.Read.{operatorOf, comparisonOf, truthOf, express
 use Rattle.layout.specs.Spelling.{payloadOf, SpelledAt, FitsExpression, FitsCommand}
 use Rattle.layout.specs.Spelling.{memberWords, membersWords, setWords, FitsMembers, FitsSet}
 use Rattle.layout.proofs.Words.{quotient, remainder, kind-of-word, payload-of-word, payload-small, signed-payload}
-use Rattle.layout.proofs.Stands.{Stands, parted, spelled-stands}
+use Rattle.layout.specs.Standing.{Stands}
+use Rattle.layout.proofs.Stands.{parted, spelled-stands}
 
 -- the reader r reads a from `at` up to p
 pub record Back {A : Type 0} (r : Reader A) (at : ℕ) (a : A) (p : ℕ) : Type 0 where

@@ -17,7 +17,8 @@ use Rattle.layout.specs.Reading.{read, Reader, wordDue}
 use Rattle.layout.specs.ReadEvidence.{preEvidence, setEvidence, flowEvidence}
 use Rattle.layout.specs.Spelling.{SpelledAt}
 use Rattle.layout.specs.EvidenceWords.{Part, node, nodePart, preNode, setNode, flowNode, prePart, setEvidencePart, flowPart}
-use Rattle.layout.proofs.Stands.{PartStands, Chain, stands-chain}
+use Rattle.layout.specs.Standing.{PartStands, Chain}
+use Rattle.layout.proofs.Stands.{stands-chain}
 use Rattle.layout.proofs.Back.{Back, begun, _⊲_, Allowed, some-back, word-back, stands-from}
 use Rattle.layout.proofs.Back.{expression-stands, command-stands, set-stands}
 

@@ -20,7 +20,8 @@ use Rattle.layout.specs.Read.{expression, commandWord, command, sortOf, 
 use Rattle.layout.specs.Spelling.{payloadOf, SpelledAt, FitsExpression, FitsCommand}
 use Rattle.layout.specs.Spelling.{memberWords, membersWords, setWords, FitsMembers, FitsSet}
 use Rattle.layout.proofs.Words.{Found, word-found, for-found, payload-signed, signed-fits}
-use Rattle.layout.proofs.Stands.{Stands, first, both, stands-spelled, stands-end}
+use Rattle.layout.specs.Standing.{Stands}
+use Rattle.layout.proofs.Stands.{first, both, stands-spelled, stands-end}
 use Rattle.layout.proofs.Yields.{Optional, nothing, something, entry, up-to, on-option}
 use Rattle.layout.proofs.Yields.{Yields, Past, PastBy, past-yields, yields-map, start, _▹_, several-yields, level-past, due-past}
 

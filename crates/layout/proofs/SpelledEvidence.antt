@@ -17,7 +17,8 @@ use Rattle.layout.specs.ReadEvidence.{preWord, setWord, flowWord, preEvi
 use Rattle.layout.specs.Spelling.{SpelledAt}
 use Rattle.layout.specs.EvidenceWords.{Part, node, nodePart, preNode, setNode, flowNode, prePart, setEvidencePart, flowPart}
 use Rattle.layout.proofs.Words.{Found, word-found}
-use Rattle.layout.proofs.Stands.{PartStands, Chain, chain-stands}
+use Rattle.layout.specs.Standing.{PartStands, Chain}
+use Rattle.layout.proofs.Stands.{chain-stands}
 use Rattle.layout.proofs.Yields.{Optional, nothing, something, entry}
 use Rattle.layout.proofs.Yields.{Yields, Past, past-yields, start, _▹_, level-past, due-past}
 use Rattle.layout.proofs.Spelled.{ExpressionAt, CommandAt, SetAt, expression-past, command-past, set-past}

@@ -1,9 +1,8 @@
 -- Words between two places: standing words joined and parted.
 -- Assumes nothing.
---     StandsTo, Stands                  words stand from a place up to another; with what is said to fit there
 --     stands-spelled, spelled-stands    the same by the place where they start, and their number
 --     first, both, parted               a word before others; words before others, and back
---     Chain, chain-stands, stands-chain parts one after the other, and back
+--     chain-stands, stands-chain        parts one after the other, and back
 use mathlib.Core.Path.{_≡_, refl, sym, subst}
 use mathlib.Core.List.{List, [], _∷_, _++_}
 use Prim.Native.Nat.{ℕ, _+_, _<_}
@@ -13,48 +12,31 @@ use Rattle.rules.specs.Words.{Word}
 use Rattle.layout.specs.Bytes.{wordCount, numberAt}
 use Rattle.layout.specs.Spelling.{encode, SpelledAt}
 use Rattle.layout.specs.EvidenceWords.{Part, joined, EachFits}
+use Rattle.layout.specs.Standing.{StandsTo, Stands, PartStands, Chain}
 
 module _ (file : List ℕ) where
-  -- the words stand from `at` up to p
-  abbrev pub StandsTo : ℕ → List Word → ℕ → Type 0
-  StandsTo at [] p = at ≡ p
-  StandsTo at (w ∷ l) p = (at < wordCount file) × (numberAt file at ≡ encode w) × StandsTo (at + 1) l p
-
-  pub stands-end : (at : ℕ) (l : List Word) (p : ℕ) → StandsTo at l p → p ≡ at + length l
+  pub stands-end : (at : ℕ) (l : List Word) (p : ℕ) → StandsTo file at l p → p ≡ at + length l
   stands-end at [] p h = omega arith
   stands-end at (w ∷ l) p h = let e = stands-end (at + 1) l p (h .2) in omega arith
 
-  pub stands-spelled : (at : ℕ) (l : List Word) (p : ℕ) → StandsTo at l p → SpelledAt file at l
+  pub stands-spelled : (at : ℕ) (l : List Word) (p : ℕ) → StandsTo file at l p → SpelledAt file at l
   stands-spelled at [] p h = tt
   stands-spelled at (w ∷ l) p h = (h .0, h .1, stands-spelled (at + 1) l p (h .2))
 
-  pub spelled-stands : (at : ℕ) (l : List Word) (p : ℕ) → SpelledAt file at l → p ≡ at + length l → StandsTo at l p
+  pub spelled-stands : (at : ℕ) (l : List Word) (p : ℕ) → SpelledAt file at l → p ≡ at + length l → StandsTo file at l p
   spelled-stands at [] p h e = omega arith
   spelled-stands at (w ∷ l) p h e = (h .0, h .1, spelled-stands (at + 1) l p (h .2) (omega arith))
 
-  stands-append : (at : ℕ) (l m : List Word) (q p : ℕ) → StandsTo at l q → StandsTo q m p → StandsTo at (l ++ m) p
+  stands-append : (at : ℕ) (l m : List Word) (q p : ℕ) → StandsTo file at l q → StandsTo file q m p → StandsTo file at (l ++ m) p
   stands-append at [] m q p h k = rw h k
   stands-append at (w ∷ l) m q p h k = (h .0, h .1, stands-append (at + 1) l m q p (h .2) k)
 
   stands-split :
-      (at : ℕ) (l m : List Word) (p : ℕ) → StandsTo at (l ++ m) p → (q : ℕ) × StandsTo at l q × StandsTo q m p
+      (at : ℕ) (l m : List Word) (p : ℕ) → StandsTo file at (l ++ m) p → (q : ℕ) × StandsTo file at l q × StandsTo file q m p
   stands-split at [] m p h = (at, refl, h)
   stands-split at (w ∷ l) m p h =
       let x = stands-split (at + 1) l m p (h .2) in
       (x .0, (h .0, h .1, x .1), x .2)
-
-  -- the words stand there, and F holds
-  pub record Stands (l : List Word) (F : Type 0) (at p : ℕ) : Type 0 where
-    pub stand : StandsTo at l p
-    pub fit : F
-
-  -- a part stands there
-  abbrev pub PartStands : Part → ℕ → ℕ → ℕ → Type 0
-  PartStands x d at p = Stands (x .spelling) (x .fits d at) at p
-
-  abbrev pub Chain : List Part → ℕ → ℕ → ℕ → Type 0
-  Chain [] d at p = at ≡ p
-  Chain (x ∷ l) d at p = (q : ℕ) × PartStands x d at q × Chain l d q p
 
 module _ {file : List ℕ} where
   pub first : {w : Word} {l : List Word} {F : Type 0} {at p : ℕ} → at < wordCount file → numberAt file at ≡ encode w →

@@ -5,6 +5,7 @@
 --     ReadEvidence    evidence
 --     Spelling        how expressions, commands and sets stand in a file
 --     EvidenceWords   how evidence stands in a file
+--     Standing        words and parts between two places
 --     For             refusal 7
 --     File            refusals 1 to 7: a file as trees
 --     Verdict         refusals 1 to 9: the answer, and the parts of an accepted file
@@ -14,6 +15,7 @@ pub mod Read
 pub mod ReadEvidence
 pub mod Spelling
 pub mod EvidenceWords
+pub mod Standing
 pub mod For
 pub mod File
 pub mod Verdict
