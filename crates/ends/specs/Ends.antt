@@ -1,0 +1,20 @@
+-- A list that has, at the first place of each expression, command and set of a file, the place past it.
+-- Working. Assumes nothing.
+--     EndsOf    the list is such a list
+use mathlib.Core.Path.{_≡_}
+use mathlib.Core.List.{List}
+use Prim.Native.Nat.{ℕ, _≤_}
+use lib.ListN.{length, getD}
+use Rattle.language.specs.Syntax.{Sort, Expr, Command}
+use Rattle.rules.specs.Assertion.{Members}
+use Rattle.rules.specs.Context.{Limits}
+use Rattle.layout.specs.EvidenceWords.{expressionPart, commandPart, setPart}
+use Rattle.layout.specs.Standing.{PartStands}
+
+pub record EndsOf (file ends : List ℕ) : Type 0 where
+  pub long : length file ≤ length ends
+  pub expression-end : {k : Sort} (e : Expr k) (d at p : ℕ) →
+      PartStands file (expressionPart e) d at p → getD ends at 0 ≡ p
+  pub command-end : (c : Command) (d at p : ℕ) → PartStands file (commandPart c) d at p → getD ends at 0 ≡ p
+  pub set-end : (limits : Limits) (m : Members) (d at p : ℕ) →
+      PartStands file (setPart limits m) d at p → getD ends at 0 ≡ p

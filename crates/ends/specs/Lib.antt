@@ -1,0 +1,3 @@
+-- Where the parts of a file end.
+--     Ends    the place past each expression, command and set
+pub mod Ends

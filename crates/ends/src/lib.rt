@@ -1,0 +1,1 @@
+// Definitions in specs/; no code yet.
