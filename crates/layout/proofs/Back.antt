@@ -16,15 +16,18 @@ use Rattle.language.specs.Syntax.{Operator, plus, minus, times, Comparison, equ
 use Rattle.language.specs.Syntax.{Sort, Boolean, Expr, constant, scalar, operation, select}
 use Rattle.language.specs.Syntax.{compare, truth, and, or, neg, array, zeros, update, toScalar, toArray}
 use Rattle.language.specs.Syntax.{Command, skip, sequence, assert, assign, ifElse, while, for}
-use Rattle.rules.specs.Words.{Word, word, forWord, words, commandWords, operatorPayload, comparisonPayload, truthPayload}
+use Rattle.rules.specs.Words.{Word, word, forWord, words, commandWords}
+use Rattle.rules.specs.Words.{operatorPayload, comparisonPayload, truthPayload}
 use Rattle.rules.specs.Assertion.{Member, Members, member}
 use Rattle.rules.specs.Context.{Limits}
 use Rattle.layout.specs.Bytes.{wordCount, numberAt, kindAt, payloadAt}
 use Rattle.layout.specs.Reading.{read, Reader, leaf, _⊛_, several, allowed, wordDue, upTo, onOption}
-use Rattle.layout.specs.Read.{operatorOf, comparisonOf, truthOf, expression, command, sortOf, consequentAt, memberAt, set}
+use Rattle.layout.specs.Read.{operatorOf, comparisonOf, truthOf}
+use Rattle.layout.specs.Read.{expression, command, sortOf, consequentAt, memberAt, set}
 use Rattle.layout.specs.Spelling.{payloadOf, SpelledAt, FitsExpression, FitsCommand}
 use Rattle.layout.specs.Spelling.{memberWords, membersWords, setWords, FitsMembers, FitsSet}
-use Rattle.layout.proofs.Words.{quotient, remainder, kind-of-word, payload-of-word, payload-small, signed-payload}
+use Rattle.layout.proofs.Words.{quotient, remainder, kind-of-word, payload-of-word}
+use Rattle.layout.proofs.Words.{payload-small, signed-payload}
 use Rattle.layout.specs.Standing.{Stands}
 use Rattle.layout.proofs.Stands.{parted, spelled-stands}
 
@@ -100,9 +103,10 @@ module _ {file : List ℕ} where
       Stands file (forWord q m ∷ l) F at p → (q ≤ 31) × (m ≤ 31) → Allowed (step at 31 (q + 32 * m)) at a p →
       Back (wordDue file step) at a p
   for-back {q} {m} {at} step s h y =
-      let small : q + 32 * m < 67108864 = omega (arith, h .0, h .1) in
-      due-back file at 31 (q + 32 * m) step (s .stand .0) (quotient 31 (q + 32 * m) (numberAt file at) (s .stand .1) small)
-      (remainder 31 (q + 32 * m) (numberAt file at) (s .stand .1) small) y
+      let n : ℕ = q + 32 * m in
+      let small : n < 67108864 = omega (arith, h .0, h .1) in
+      due-back file at 31 n step (s .stand .0) (quotient 31 n (numberAt file at) (s .stand .1) small)
+      (remainder 31 n (numberAt file at) (s .stand .1) small) y
 
 for-first : (q m : ℕ) → q ≤ 31 → (q + 32 * m) % 32 ≡ q
 for-first q m h = omega arith
@@ -137,14 +141,16 @@ module _ (file : List ℕ) where
   expression-stands (suc d) (scalar x) at p s =
       word-back _ s (small 31 x (s .fit) (omega arith)) (up-to-back 31 x (s .fit) (begun (s .stand .2)))
   expression-stands (suc d) (operation o a b) at p s =
-      word-back _ s (operator-small o) (option-back (operatorOf (payloadOf (operatorPayload o))) _ (operator-back o)
+      word-back _ s (operator-small o)
+      (option-back (operatorOf (payloadOf (operatorPayload o))) _ (operator-back o)
       (parted (words a) (words b) (rest s) λ q x y.
       begun refl ⊲ expression-stands d a (at + 1) q x ⊲ expression-stands d b q p y))
   expression-stands (suc d) (select h i) at p s =
       word-back _ s (omega arith) (some-back (parted (words h) (words i) (rest s) λ q x y.
       begun refl ⊲ expression-stands d h (at + 1) q x ⊲ expression-stands d i q p y))
   expression-stands (suc d) (compare r a b) at p s =
-      word-back _ s (comparison-small r) (option-back (comparisonOf (payloadOf (comparisonPayload r))) _ (comparison-back r)
+      word-back _ s (comparison-small r)
+      (option-back (comparisonOf (payloadOf (comparisonPayload r))) _ (comparison-back r)
       (parted (words a) (words b) (rest s) λ q x y.
       begun refl ⊲ expression-stands d a (at + 1) q x ⊲ expression-stands d b q p y))
   expression-stands (suc d) (truth t) at p s =
@@ -243,8 +249,8 @@ module _ (file : List ℕ) where
       parted (memberWords m) (membersWords l) s λ q x y.
       record { back = rw (member-stands d m at q x .back) (rw (members-stands d l q p y .back) refl) }
 
-  pub set-stands : (limits : Limits) (d : ℕ) (m : Members) (at p : ℕ) → Stands file (setWords m) (FitsSet limits m d) at p →
-      Back (set limits file d) at m p
+  pub set-stands : (limits : Limits) (d : ℕ) (m : Members) (at p : ℕ) →
+      Stands file (setWords m) (FitsSet limits m d) at p → Back (set limits file d) at m p
   unfolding set FitsSet
   set-stands limits zero m at p s = absurd (s .fit)
   set-stands limits (suc d) m at p s =

@@ -4,19 +4,21 @@
 --     pre-back, set-evidence-back, flow-back          the same of what is spelled
 use mathlib.Core.Path.{_≡_, refl, subst}
 use mathlib.Core.List.{List, []}
-use mathlib.Core.Option.{Option}
+use mathlib.Core.Option.{Option, some}
 use Prim.Native.Nat.{ℕ, zero, suc, _+_, _<_}
 use native.Mathlib.Omega.{arith}
 use lib.ListN.{length}
 use Rattle.rules.specs.Context.{Limits}
-use Rattle.rules.specs.Evidence.{PreEvidence, pre20, pre21, pre22, pre23, pre24, pre25, pre26, pre27, pre28, pre29, pre30}
+use Rattle.rules.specs.Evidence.{PreEvidence, pre20, pre21, pre22, pre23, pre24, pre25, pre26, pre27, pre28, pre29}
+use Rattle.rules.specs.Evidence.{pre30}
 use Rattle.rules.specs.Evidence.{SetEvidence, set13, set14, set15, set16, set17, set18, set19}
 use Rattle.rules.specs.Evidence.{FlowEvidence, flow1, flow2, flow3, flow4, flow5, flow6, flow7, flow8, flow9}
 use Rattle.rules.specs.Evidence.{flow10, flow11, flow12, flow13, flow14}
-use Rattle.layout.specs.Reading.{read, Reader, wordDue}
+use Rattle.layout.specs.Reading.{read, Reader, leaf, wordDue}
 use Rattle.layout.specs.ReadEvidence.{preEvidence, setEvidence, flowEvidence}
 use Rattle.layout.specs.Spelling.{SpelledAt}
-use Rattle.layout.specs.EvidenceWords.{Part, node, nodePart, preNode, setNode, flowNode, prePart, setEvidencePart, flowPart}
+use Rattle.layout.specs.EvidenceWords.{Part, node, nodePart, preNode, setNode, flowNode}
+use Rattle.layout.specs.EvidenceWords.{prePart, setEvidencePart, flowPart}
 use Rattle.layout.specs.Standing.{PartStands, Chain}
 use Rattle.layout.proofs.Stands.{stands-chain}
 use Rattle.layout.proofs.Back.{Back, begun, _⊲_, Allowed, some-back, word-back, stands-from}
@@ -36,6 +38,13 @@ module _ {file : List ℕ} where
       let c = stands-chain l d (at + 1) p (record { stand = s .stand .2; fit = s .fit .1 }) in
       rw (s .fit .0) (word-back step s h (f c))
 
+  -- one with no parts
+  bare-back :
+      {A : Type 0} {k r i at p : ℕ} (d : ℕ) (a : ℕ → A) (step : ℕ → ℕ → ℕ → Option (Reader A)) →
+      PartStands file (nodePart k (node r i [])) (suc d) at p → r < 67108864 → step at k r ≡ some (leaf (a at)) →
+      Back (wordDue file step) at (a i) p
+  bare-back d a step s h e = node-back d a [] step s h λ x. rw e (some-back (begun x))
+
 module _ (file : List ℕ) where
   pub pre-stands : (d : ℕ) (e : PreEvidence) (at p : ℕ) → PartStands file (prePart e) d at p →
       Back (preEvidence file d) at e p
@@ -49,19 +58,19 @@ module _ (file : List ℕ) where
   pre-stands (suc d) (pre21 i φ n₁) at p s =
       node-back d (λ j. pre21 j φ n₁) _ _ s (omega arith) λ x. some-back (
       ended (x .2 .2) (begun refl ⊲ expression-stands file d φ _ _ (x .1) ⊲ pre-stands d n₁ _ _ (x .2 .1)))
-  pre-stands (suc d) (pre22 i) at p s = node-back d (λ j. pre22 j) [] _ s (omega arith) λ x. some-back (begun x)
+  pre-stands (suc d) (pre22 i) at p s = bare-back d (λ j. pre22 j) _ s (omega arith) refl
   pre-stands (suc d) (pre23 i φ n₁ n₂) at p s =
       node-back d (λ j. pre23 j φ n₁ n₂) _ _ s (omega arith) λ x. some-back (
       ended (x .2 .2 .2) (begun refl ⊲ expression-stands file d φ _ _ (x .1) ⊲ pre-stands d n₁ _ _ (x .2 .1)
       ⊲ pre-stands d n₂ _ _ (x .2 .2 .1)))
-  pre-stands (suc d) (pre24 i) at p s = node-back d (λ j. pre24 j) [] _ s (omega arith) λ x. some-back (begun x)
-  pre-stands (suc d) (pre25 i) at p s = node-back d (λ j. pre25 j) [] _ s (omega arith) λ x. some-back (begun x)
-  pre-stands (suc d) (pre26 i) at p s = node-back d (λ j. pre26 j) [] _ s (omega arith) λ x. some-back (begun x)
-  pre-stands (suc d) (pre27 i) at p s = node-back d (λ j. pre27 j) [] _ s (omega arith) λ x. some-back (begun x)
+  pre-stands (suc d) (pre24 i) at p s = bare-back d (λ j. pre24 j) _ s (omega arith) refl
+  pre-stands (suc d) (pre25 i) at p s = bare-back d (λ j. pre25 j) _ s (omega arith) refl
+  pre-stands (suc d) (pre26 i) at p s = bare-back d (λ j. pre26 j) _ s (omega arith) refl
+  pre-stands (suc d) (pre27 i) at p s = bare-back d (λ j. pre27 j) _ s (omega arith) refl
   pre-stands (suc d) (pre28 i φ n₁) at p s =
       node-back d (λ j. pre28 j φ n₁) _ _ s (omega arith) λ x. some-back (
       ended (x .2 .2) (begun refl ⊲ expression-stands file d φ _ _ (x .1) ⊲ pre-stands d n₁ _ _ (x .2 .1)))
-  pre-stands (suc d) (pre29 i) at p s = node-back d (λ j. pre29 j) [] _ s (omega arith) λ x. some-back (begun x)
+  pre-stands (suc d) (pre29 i) at p s = bare-back d (λ j. pre29 j) _ s (omega arith) refl
   pre-stands (suc d) (pre30 i c n₁) at p s =
       node-back d (λ j. pre30 j c n₁) _ _ s (omega arith) λ x. some-back (
       ended (x .2 .2) (begun refl ⊲ command-stands file d c _ _ (x .1) ⊲ pre-stands d n₁ _ _ (x .2 .1)))
@@ -70,9 +79,9 @@ module _ (file : List ℕ) where
       PartStands file (setEvidencePart limits e) d at p → Back (setEvidence limits file d) at e p
   unfolding setEvidence setNode
   set-evidence-stands limits zero e at p s = absurd (s .fit)
-  set-evidence-stands limits (suc d) (set13 i) at p s = node-back d (λ j. set13 j) [] _ s (omega arith) λ x. some-back (begun x)
-  set-evidence-stands limits (suc d) (set14 i) at p s = node-back d (λ j. set14 j) [] _ s (omega arith) λ x. some-back (begun x)
-  set-evidence-stands limits (suc d) (set15 i) at p s = node-back d (λ j. set15 j) [] _ s (omega arith) λ x. some-back (begun x)
+  set-evidence-stands limits (suc d) (set13 i) at p s = bare-back d (λ j. set13 j) _ s (omega arith) refl
+  set-evidence-stands limits (suc d) (set14 i) at p s = bare-back d (λ j. set14 j) _ s (omega arith) refl
+  set-evidence-stands limits (suc d) (set15 i) at p s = bare-back d (λ j. set15 j) _ s (omega arith) refl
   set-evidence-stands limits (suc d) (set16 i p₁ p₂ p₃ p₄ g₁ g₂) at p s =
       node-back d (λ j. set16 j p₁ p₂ p₃ p₄ g₁ g₂) _ _ s (omega arith) λ x. some-back (
       ended (x .2 .2 .2 .2 .2 .2) (begun refl ⊲ set-stands file limits d p₁ _ _ (x .1)
@@ -85,21 +94,21 @@ module _ (file : List ℕ) where
       ⊲ set-stands file limits d p₂ _ _ (x .2 .1) ⊲ set-stands file limits d p₃ _ _ (x .2 .2 .1)
       ⊲ set-evidence-stands limits d g₁ _ _ (x .2 .2 .2 .1)
       ⊲ set-evidence-stands limits d g₂ _ _ (x .2 .2 .2 .2 .1)))
-  set-evidence-stands limits (suc d) (set18 i) at p s = node-back d (λ j. set18 j) [] _ s (omega arith) λ x. some-back (begun x)
-  set-evidence-stands limits (suc d) (set19 i) at p s = node-back d (λ j. set19 j) [] _ s (omega arith) λ x. some-back (begun x)
+  set-evidence-stands limits (suc d) (set18 i) at p s = bare-back d (λ j. set18 j) _ s (omega arith) refl
+  set-evidence-stands limits (suc d) (set19 i) at p s = bare-back d (λ j. set19 j) _ s (omega arith) refl
 
   pub flow-stands : (limits : Limits) (d : ℕ) (e : FlowEvidence) (at p : ℕ) →
       PartStands file (flowPart limits e) d at p → Back (flowEvidence limits file d) at e p
   unfolding flowEvidence flowNode
   flow-stands limits zero e at p s = absurd (s .fit)
-  flow-stands limits (suc d) (flow1 i) at p s = node-back d (λ j. flow1 j) [] _ s (omega arith) λ x. some-back (begun x)
+  flow-stands limits (suc d) (flow1 i) at p s = bare-back d (λ j. flow1 j) _ s (omega arith) refl
   flow-stands limits (suc d) (flow2 i p₁ f₁ f₂) at p s =
       node-back d (λ j. flow2 j p₁ f₁ f₂) _ _ s (omega arith) λ x. some-back (
       ended (x .2 .2 .2) (begun refl ⊲ set-stands file limits d p₁ _ _ (x .1)
       ⊲ flow-stands limits d f₁ _ _ (x .2 .1) ⊲ flow-stands limits d f₂ _ _ (x .2 .2 .1)))
-  flow-stands limits (suc d) (flow3 i) at p s = node-back d (λ j. flow3 j) [] _ s (omega arith) λ x. some-back (begun x)
-  flow-stands limits (suc d) (flow4 i) at p s = node-back d (λ j. flow4 j) [] _ s (omega arith) λ x. some-back (begun x)
-  flow-stands limits (suc d) (flow5 i) at p s = node-back d (λ j. flow5 j) [] _ s (omega arith) λ x. some-back (begun x)
+  flow-stands limits (suc d) (flow3 i) at p s = bare-back d (λ j. flow3 j) _ s (omega arith) refl
+  flow-stands limits (suc d) (flow4 i) at p s = bare-back d (λ j. flow4 j) _ s (omega arith) refl
+  flow-stands limits (suc d) (flow5 i) at p s = bare-back d (λ j. flow5 j) _ s (omega arith) refl
   flow-stands limits (suc d) (flow6 i p₁ p₂ φ f₁ f₂ n₁) at p s =
       node-back d (λ j. flow6 j p₁ p₂ φ f₁ f₂ n₁) _ _ s (omega arith) λ x. some-back (
       ended (x .2 .2 .2 .2 .2 .2) (begun refl ⊲ set-stands file limits d p₁ _ _ (x .1)
@@ -120,7 +129,7 @@ module _ (file : List ℕ) where
       ⊲ set-stands file limits d p₂ _ _ (x .2 .1) ⊲ set-stands file limits d p₃ _ _ (x .2 .2 .1)
       ⊲ set-stands file limits d p₄ _ _ (x .2 .2 .2 .1) ⊲ flow-stands limits d f₁ _ _ (x .2 .2 .2 .2 .1)
       ⊲ flow-stands limits d f₂ _ _ (x .2 .2 .2 .2 .2 .1)))
-  flow-stands limits (suc d) (flow10 i) at p s = node-back d (λ j. flow10 j) [] _ s (omega arith) λ x. some-back (begun x)
+  flow-stands limits (suc d) (flow10 i) at p s = bare-back d (λ j. flow10 j) _ s (omega arith) refl
   flow-stands limits (suc d) (flow11 i n₁) at p s =
       node-back d (λ j. flow11 j n₁) _ _ s (omega arith) λ x. some-back (
       ended (x .2) (begun refl ⊲ pre-stands d n₁ _ _ (x .1)))
@@ -139,8 +148,8 @@ module _ (file : List ℕ) where
 
 -- the same of what is spelled
 pub pre-back :
-    (file : List ℕ) (d : ℕ) (e : PreEvidence) (at : ℕ) → SpelledAt file at (prePart e .spelling) → prePart e .fits d at →
-    preEvidence file d at ≡ read e (at + length (prePart e .spelling))
+    (file : List ℕ) (d : ℕ) (e : PreEvidence) (at : ℕ) → SpelledAt file at (prePart e .spelling) →
+    prePart e .fits d at → preEvidence file d at ≡ read e (at + length (prePart e .spelling))
 pre-back file d e at h f = pre-stands file d e at _ (stands-from (prePart e .spelling) h f) .back
 
 pub set-evidence-back :

@@ -25,19 +25,20 @@ BoundsBy file at (fault n p) = at ≤ wordCount file → FaultAt file at n p
 pub record Bounds {A : Type 0} (file : List ℕ) (at : ℕ) (r : Reader A) : Type 0 where
   pub bounds : BoundsBy file at (r at)
 
-past-bounds : {A : Type 0} {file : List ℕ} {at : ℕ} {T : A → ℕ → Type 0} {r : Reader A} → Past file at T r → Bounds file at r
+past-bounds : {A : Type 0} {file : List ℕ} {at : ℕ} {T : A → ℕ → Type 0} {r : Reader A} → Past file at T r →
+    Bounds file at r
 past-bounds {A} {file} {at} {T} {r} h = record { bounds = go (r at) (h .past) }
   where
     go : (x : Reading A) → PastBy file at T x → BoundsBy file at x
     go (read a p) k = (k .0, k .1)
     go (fault n p) k = k
 
-pub bounds-read : {A : Type 0} {file : List ℕ} {at : ℕ} {r : Reader A} (a : A) (p : ℕ) → Bounds file at r → r at ≡ read a p →
-    (at < p) × (p ≤ wordCount file)
+pub bounds-read : {A : Type 0} {file : List ℕ} {at : ℕ} {r : Reader A} (a : A) (p : ℕ) → Bounds file at r →
+    r at ≡ read a p → (at < p) × (p ≤ wordCount file)
 bounds-read {file} {at} a p h e = subst (λ x. BoundsBy file at x) e (h .bounds)
 
-pub bounds-fault : {A : Type 0} {file : List ℕ} {at : ℕ} {r : Reader A} (n p : ℕ) → Bounds file at r → r at ≡ fault n p →
-    at ≤ wordCount file → FaultAt file at n p
+pub bounds-fault : {A : Type 0} {file : List ℕ} {at : ℕ} {r : Reader A} (n p : ℕ) → Bounds file at r →
+    r at ≡ fault n p → at ≤ wordCount file → FaultAt file at n p
 bounds-fault {file} {at} n p h e = subst (λ x. BoundsBy file at x) e (h .bounds)
 
 pub expression-bounds : (file : List ℕ) (d : ℕ) (j : Sort) (at : ℕ) → Bounds file at (expression file d j)

@@ -1,5 +1,5 @@
--- Reading is exact (document 01, "Layout"): what is read stands in the file by its words and fits, and what stands there
--- and fits is read.
+-- Reading is exact (document 01, "Layout"): what is read stands in the file by its words and fits, and what stands
+-- there and fits is read.
 -- Assumes nothing.
 --     Words              words as numbers
 --     Stands             words between two places
@@ -9,6 +9,7 @@
 --     Back               what stands in the file is read: expressions, commands and sets
 --     BackEvidence       the same of evidence
 --     Faults             where readings end
+--     WholeFile          a whole file
 pub mod Words
 pub mod Stands
 pub mod Yields
@@ -17,3 +18,4 @@ pub mod SpelledEvidence
 pub mod Back
 pub mod BackEvidence
 pub mod Faults
+pub mod WholeFile

@@ -1,21 +1,22 @@
 -- What is read stands in the file by its words and fits (document 01, "Layout"): expressions, commands and sets.
 -- Assumes nothing.
---     expression-past, command-past, set-past          by cases on the reading, refusals too
---     expression-spelled, command-spelled, set-spelled of what was read
+--     ExpressionAt, CommandAt, SetAt                      it stands from a place up to another and fits
+--     expression-past, command-past, set-past             by cases on the reading, refusals too
+--     expression-spelled, command-spelled, set-spelled    of what was read
 use mathlib.Core.Path.{_≡_, refl, sym, subst}
 use mathlib.Core.List.{List, [], _∷_}
 use Prim.Native.Nat.{ℕ, zero, suc, _+_, _/_, _%_, _<_, _≤_}
 use native.Mathlib.Omega.{arith}
 use lib.IntN.{ℤ}
 use lib.ListN.{length}
-use Rattle.language.specs.Syntax.{Sort, Arithmetic, Boolean, Array, Expr}
-use Rattle.language.specs.Syntax.{Command}
+use Rattle.language.specs.Syntax.{Sort, Arithmetic, Boolean, Array, Expr, Command}
 use Rattle.rules.specs.Words.{Word, word, words, commandWords, operatorPayload, comparisonPayload, truthPayload}
 use Rattle.rules.specs.Assertion.{Member, Members}
 use Rattle.rules.specs.Context.{Limits}
 use Rattle.layout.specs.Bytes.{wordCount, kindAt}
 use Rattle.layout.specs.Reading.{read, Reader, several}
-use Rattle.layout.specs.Read.{operatorOf, comparisonOf, truthOf, arithmeticWord, booleanWord, arrayWord, expressionWord}
+use Rattle.layout.specs.Read.{operatorOf, comparisonOf, truthOf}
+use Rattle.layout.specs.Read.{arithmeticWord, booleanWord, arrayWord, expressionWord}
 use Rattle.layout.specs.Read.{expression, commandWord, command, sortOf, consequentAt, memberAt, set}
 use Rattle.layout.specs.Spelling.{payloadOf, SpelledAt, FitsExpression, FitsCommand}
 use Rattle.layout.specs.Spelling.{memberWords, membersWords, setWords, FitsMembers, FitsSet}
@@ -23,14 +24,21 @@ use Rattle.layout.proofs.Words.{Found, word-found, for-found, payload-s
 use Rattle.layout.specs.Standing.{Stands}
 use Rattle.layout.proofs.Stands.{first, both, stands-spelled, stands-end}
 use Rattle.layout.proofs.Yields.{Optional, nothing, something, entry, up-to, on-option}
-use Rattle.layout.proofs.Yields.{Yields, Past, PastBy, past-yields, yields-map, start, _▹_, several-yields, level-past, due-past}
+use Rattle.layout.proofs.Yields.{Yields, Past, PastBy, past-yields, yields-map, start, _▹_}
+use Rattle.layout.proofs.Yields.{several-yields, level-past, due-past}
 
 -- what a payload's table allows has that payload
 operators : (p : ℕ) → Optional (λ o. payloadOf (operatorPayload o) ≡ p) (operatorOf p)
-operators p = entry p 0 (λ e. something (sym e)) (entry p 1 (λ e. something (sym e)) (entry p 2 (λ e. something (sym e)) nothing))
+operators p =
+    entry p 0 (λ e. something (sym e))
+    (entry p 1 (λ e. something (sym e))
+    (entry p 2 (λ e. something (sym e)) nothing))
 
 comparisons : (p : ℕ) → Optional (λ r. payloadOf (comparisonPayload r) ≡ p) (comparisonOf p)
-comparisons p = entry p 0 (λ e. something (sym e)) (entry p 1 (λ e. something (sym e)) (entry p 2 (λ e. something (sym e)) nothing))
+comparisons p =
+    entry p 0 (λ e. something (sym e))
+    (entry p 1 (λ e. something (sym e))
+    (entry p 2 (λ e. something (sym e)) nothing))
 
 truths : (p : ℕ) → Optional (λ t. payloadOf (truthPayload t) ≡ p) (truthOf p)
 truths p = entry p 0 (λ e. something (sym e)) (entry p 1 (λ e. something (sym e)) nothing)
@@ -42,7 +50,7 @@ for-range : (p : ℕ) → p ≤ 1023 → (p % 32 ≤ 31) × (p / 32 ≤ 31)
 for-range p h = omega arith
 
 module _ (file : List ℕ) where
-  -- no word, and one word before others
+  -- no word
   alone : {F : Type 0} {at : ℕ} → F → Stands file [] F at at
   alone h = record { stand = refl; fit = h }
 
@@ -61,30 +69,33 @@ module _ (file : List ℕ) where
   abbrev pub CommandAt : ℕ → ℕ → Command → ℕ → Type 0
   CommandAt d at c p = Stands file (commandWords c) (FitsCommand c d) at p
 
-  module _ (d : ℕ) (part : (j : Sort) → Reader (Expr j)) (a : (j : Sort) (q : ℕ) → Yields file q (ExpressionAt d q) (part j))
+  -- a word's table: `part` reads operands, `a` is the law of `part`, and f is the word that was found
+  module _ (d : ℕ) (part : (j : Sort) → Reader (Expr j))
+      (a : (j : Sort) (q : ℕ) → Yields file q (ExpressionAt d q) (part j))
       (at k p : ℕ) (f : Found file at k p) where
     arithmetic-word : Optional (λ r. Yields file (at + 1) (ExpressionAt (suc d) at) r) (arithmeticWord part k p)
     unfolding words FitsExpression
     arithmetic-word =
-        entry k 1 (λ e. something (start _ (after f e (payload-signed p (f .small)) (alone (signed-fits p (f .small))))))
+        let small = f .small in
+        entry k 1 (λ e. something (start _ (after f e (payload-signed p small) (alone (signed-fits p small)))))
         (entry k 2 (λ e. up-to 31 p _ λ h. start _ (after f e refl (alone h)))
         (entry k 3 (λ e. on-option (operatorOf p) _ (operators p) λ o x.
-        start _ (λ y q s z r t. after f e x (both s t)) ▹ a Arithmetic ▹ a Arithmetic)
+        start _ (λ _ _ s _ _ t. after f e x (both s t)) ▹ a Arithmetic ▹ a Arithmetic)
         (entry k 4 (λ e. up-to 0 p _ λ h.
-        start _ (λ y q s z r t. after f e (none-left h) (both s t)) ▹ a Array ▹ a Arithmetic)
+        start _ (λ _ _ s _ _ t. after f e (none-left h) (both s t)) ▹ a Array ▹ a Arithmetic)
         nothing)))
 
     boolean-word : Optional (λ r. Yields file (at + 1) (ExpressionAt (suc d) at) r) (booleanWord part k p)
     unfolding words FitsExpression
     boolean-word =
         entry k 8 (λ e. on-option (comparisonOf p) _ (comparisons p) λ o x.
-        start _ (λ y q s z r t. after f e x (both s t)) ▹ a Arithmetic ▹ a Arithmetic)
+        start _ (λ _ _ s _ _ t. after f e x (both s t)) ▹ a Arithmetic ▹ a Arithmetic)
         (entry k 9 (λ e. on-option (truthOf p) _ (truths p) λ t x. start _ (after f e x (alone tt)))
         (entry k 10 (λ e. up-to 0 p _ λ h.
-        start _ (λ y q s z r t. after f e (none-left h) (both s t)) ▹ a Boolean ▹ a Boolean)
+        start _ (λ _ _ s _ _ t. after f e (none-left h) (both s t)) ▹ a Boolean ▹ a Boolean)
         (entry k 11 (λ e. up-to 0 p _ λ h.
-        start _ (λ y q s z r t. after f e (none-left h) (both s t)) ▹ a Boolean ▹ a Boolean)
-        (entry k 12 (λ e. up-to 0 p _ λ h. start _ (λ y q s. after f e (none-left h) s) ▹ a Boolean)
+        start _ (λ _ _ s _ _ t. after f e (none-left h) (both s t)) ▹ a Boolean ▹ a Boolean)
+        (entry k 12 (λ e. up-to 0 p _ λ h. start _ (λ _ _ s. after f e (none-left h) s) ▹ a Boolean)
         nothing))))
 
     array-word : Optional (λ r. Yields file (at + 1) (ExpressionAt (suc d) at) r) (arrayWord part k p)
@@ -93,11 +104,12 @@ module _ (file : List ℕ) where
         entry k 16 (λ e. up-to 31 p _ λ h. start _ (after f e refl (alone h)))
         (entry k 17 (λ e. up-to 0 p _ λ h. start _ (after f e (none-left h) (alone tt)))
         (entry k 18 (λ e. up-to 0 p _ λ h.
-        start _ (λ x q s y r t z i u. after f e (none-left h) (both s (both t u)))
+        start _ (λ _ _ s _ _ t _ _ u. after f e (none-left h) (both s (both t u)))
         ▹ a Array ▹ a Arithmetic ▹ a Arithmetic)
         nothing))
 
-    expression-word : (j : Sort) → Optional (λ r. Yields file (at + 1) (ExpressionAt (suc d) at) r) (expressionWord part j k p)
+    expression-word :
+        (j : Sort) → Optional (λ r. Yields file (at + 1) (ExpressionAt (suc d) at) r) (expressionWord part j k p)
     expression-word Arithmetic = arithmetic-word
     expression-word Boolean = boolean-word
     expression-word Array = array-word
@@ -107,15 +119,16 @@ module _ (file : List ℕ) where
       unfolding commandWords FitsCommand
       command-word =
           entry k 24 (λ e. up-to 0 p _ λ h. start _ (after f e (none-left h) (alone tt)))
-          (entry k 25 (λ e. up-to 0 p _ λ h. start _ (λ x q s y r t. after f e (none-left h) (both s t)) ▹ b ▹ b)
-          (entry k 26 (λ e. up-to 0 p _ λ h. start _ (λ x q s. after f e (none-left h) s) ▹ a Boolean)
-          (entry k 27 (λ e. up-to 31 p _ λ h. start _ (λ x q s. after f e refl (too h s)) ▹ a Arithmetic)
-          (entry k 28 (λ e. up-to 31 p _ λ h. start _ (λ x q s. after f e refl (too h s)) ▹ a Array)
+          (entry k 25 (λ e. up-to 0 p _ λ h. start _ (λ _ _ s _ _ t. after f e (none-left h) (both s t)) ▹ b ▹ b)
+          (entry k 26 (λ e. up-to 0 p _ λ h. start _ (λ _ _ s. after f e (none-left h) s) ▹ a Boolean)
+          (entry k 27 (λ e. up-to 31 p _ λ h. start _ (λ _ _ s. after f e refl (too h s)) ▹ a Arithmetic)
+          (entry k 28 (λ e. up-to 31 p _ λ h. start _ (λ _ _ s. after f e refl (too h s)) ▹ a Array)
           (entry k 29 (λ e. up-to 0 p _ λ h.
-          start _ (λ x q s y r t z i u. after f e (none-left h) (both s (both t u))) ▹ a Boolean ▹ b ▹ b)
-          (entry k 30 (λ e. up-to 0 p _ λ h. start _ (λ x q s y r t. after f e (none-left h) (both s t)) ▹ a Boolean ▹ b)
+          start _ (λ _ _ s _ _ t _ _ u. after f e (none-left h) (both s (both t u))) ▹ a Boolean ▹ b ▹ b)
+          (entry k 30 (λ e. up-to 0 p _ λ h.
+          start _ (λ _ _ s _ _ t. after f e (none-left h) (both s t)) ▹ a Boolean ▹ b)
           (entry k 31 (λ e. up-to 1023 p _ λ h.
-          start _ (λ c q s. first (f .inside) (for-found f e) (too (for-range p h) s)) ▹ b)
+          start _ (λ _ _ s. first (f .inside) (for-found f e) (too (for-range p h) s)) ▹ b)
           nothing)))))))
 
   pub expression-past : (d : ℕ) (j : Sort) (at : ℕ) → Past file at (ExpressionAt d at) (expression file d j)
@@ -142,10 +155,10 @@ module _ (file : List ℕ) where
       Stands file (memberWords m) (FitsExpression (m .antecedent) d × FitsExpression (m .consequent) d) at p
 
   consequent-yields : (d at : ℕ) → Yields file at (ConsequentAt d at) (consequentAt file d)
-  consequent-yields d at = record {
+  consequent-yields d at = let j = sortOf (kindAt file at) in record {
     yields =
-        (start {T = λ f q. (e : Expr (sortOf (kindAt file at))) (p : ℕ) → ExpressionAt d q e p → ConsequentAt d at (f e) p}
-        _ (λ e p s φ. (s, refl)) ▹ (λ q. past-yields (expression-past d (sortOf (kindAt file at)) q))) .yields;
+        (start {T = λ m q. (e : Expr j) (p : ℕ) → ExpressionAt d q e p → ConsequentAt d at (m e) p} _
+        (λ e p s φ. (s, refl)) ▹ (λ q. past-yields (expression-past d j q))) .yields;
   }
 
   member-yields : (d at : ℕ) → Yields file at (MemberAt d at) (memberAt file d)
@@ -156,17 +169,20 @@ module _ (file : List ℕ) where
   abbrev pub SetAt : Limits → ℕ → ℕ → Members → ℕ → Type 0
   SetAt limits d at m p = Stands file (setWords m) (FitsSet limits m d) at p
 
+  abbrev MembersAt : ℕ → Members → ℕ → ℕ → Type 0
+  MembersAt d m at p = Stands file (membersWords m) (FitsMembers m d) at p
+
   members-yields :
       (d n at : ℕ) →
-      Yields file at (λ m p. Stands file (membersWords m) (FitsMembers m d) at p × (length m ≡ n)) (several n (memberAt file d))
+      Yields file at (λ m p. MembersAt d m at p × (length m ≡ n)) (several n (memberAt file d))
   members-yields d n at =
-      several-yields (λ m q p. Stands file (membersWords m) (FitsMembers m d) q p) (λ q. alone tt) (λ a l q s p x y. both x y)
-      (member-yields d) n at
+      several-yields (MembersAt d) (λ q. alone tt) (λ m l q r p s t. both s t) (member-yields d) n at
 
-  set-stands : (limits : Limits) (d at k p : ℕ) → Found file at k p → k ≡ 32 → p ≤ limits .members → (m : Members) (q : ℕ) →
-      Stands file (membersWords m) (FitsMembers m d) (at + 1) q × (length m ≡ p) → SetAt limits (suc d) at m q
+  -- a set's word before its members
+  set-after : (limits : Limits) (d at k p : ℕ) → Found file at k p → k ≡ 32 → p ≤ limits .members →
+      (m : Members) (q : ℕ) → MembersAt d m (at + 1) q × (length m ≡ p) → SetAt limits (suc d) at m q
   unfolding FitsSet
-  set-stands limits d at k p f e h m q s =
+  set-after limits d at k p f e h m q s =
       after f e (s .1) (too (rw (s .1) h, rw (s .1) (f .small)) (s .0))
 
   pub set-past : (limits : Limits) (d at : ℕ) → Past file at (SetAt limits d at) (set limits file d)
@@ -175,11 +191,11 @@ module _ (file : List ℕ) where
   set-past limits (suc d) at =
       due-past at _ λ k p f.
       entry k 32 (λ e. up-to (limits .members) p _ λ h.
-      yields-map (set-stands limits d at k p f e h) (members-yields d p (at + 1))) nothing
+      yields-map (set-after limits d at k p f e h) (members-yields d p (at + 1))) nothing
 
 -- the laws of what was read
-pub past-read : {A : Type 0} (file : List ℕ) {at : ℕ} {T : A → ℕ → Type 0} (r : Reader A) (a : A) (p : ℕ) → Past file at T r →
-    r at ≡ read a p → (at < p) × (p ≤ wordCount file) × T a p
+pub past-read : {A : Type 0} (file : List ℕ) {at : ℕ} {T : A → ℕ → Type 0} (r : Reader A) (a : A) (p : ℕ) →
+    Past file at T r → r at ≡ read a p → (at < p) × (p ≤ wordCount file) × T a p
 past-read file {at} {T} r a p h e = subst (λ x. PastBy file at T x) e (h .past)
 
 pub spelled : {file : List ℕ} {l : List Word} {F : Type 0} {at p : ℕ} → Stands file l F at p →

@@ -1,5 +1,6 @@
 -- What is read stands in the file by its words and fits (document 01, "Layout" and "Rules"): evidence.
 -- Assumes nothing.
+--     PreAt, SetEvidenceAt, FlowAt                       it stands from a place up to another and fits
 --     pre-past, set-evidence-past, flow-past             by cases on the reading, refusals too
 --     pre-spelled, set-evidence-spelled, flow-spelled    of what was read
 use mathlib.Core.Path.{_≡_, refl, sym}
@@ -15,7 +16,8 @@ use Rattle.layout.specs.Reading.{read, Reader}
 use Rattle.layout.specs.Read.{expression, command, set}
 use Rattle.layout.specs.ReadEvidence.{preWord, setWord, flowWord, preEvidence, setEvidence, flowEvidence}
 use Rattle.layout.specs.Spelling.{SpelledAt}
-use Rattle.layout.specs.EvidenceWords.{Part, node, nodePart, preNode, setNode, flowNode, prePart, setEvidencePart, flowPart}
+use Rattle.layout.specs.EvidenceWords.{Part, node, nodePart, preNode, setNode, flowNode}
+use Rattle.layout.specs.EvidenceWords.{prePart, setEvidencePart, flowPart}
 use Rattle.layout.proofs.Words.{Found, word-found}
 use Rattle.layout.specs.Standing.{PartStands, Chain}
 use Rattle.layout.proofs.Stands.{chain-stands}
@@ -45,7 +47,8 @@ module _ (file : List ℕ) where
     module _ (boolean : Reader (Expr Boolean)) (b : (q : ℕ) → Yields file q (ExpressionAt file d q) boolean)
         (program : Reader Command) (c : (q : ℕ) → Yields file q (CommandAt file d q) program)
         (reader : Reader PreEvidence) (n : (q : ℕ) → Yields file q (PreAt d q) reader) where
-      pre-word : k ≡ 35 → Optional (λ r. Yields file (at + 1) (PreAt (suc d) at) r) (preWord boolean program reader at p)
+      pre-word : k ≡ 35 →
+          Optional (λ r. Yields file (at + 1) (PreAt (suc d) at) r) (preWord boolean program reader at p)
       unfolding preNode
       pre-word e =
           entry p 20 (λ x. something (
@@ -67,14 +70,16 @@ module _ (file : List ℕ) where
 
     module _ (limits : Limits) (members : Reader Members) (m : (q : ℕ) → Yields file q (SetAt file limits d q) members)
         (reader : Reader SetEvidence) (g : (q : ℕ) → Yields file q (SetEvidenceAt limits d q) reader) where
-      set-word : k ≡ 34 → Optional (λ r. Yields file (at + 1) (SetEvidenceAt limits (suc d) at) r) (setWord members reader at p)
+      set-word : k ≡ 34 →
+          Optional (λ r. Yields file (at + 1) (SetEvidenceAt limits (suc d) at) r) (setWord members reader at p)
       unfolding setNode
       set-word e =
           entry p 13 (λ x. something (start _ (made e x [] refl)))
           (entry p 14 (λ x. something (start _ (made e x [] refl)))
           (entry p 15 (λ x. something (start _ (made e x [] refl)))
           (entry p 16 (λ x. something (
-          start _ (λ _ _ s _ _ t _ _ u _ _ v _ _ w _ _ y. made e x _ (_, s, (_, t, (_, u, (_, v, (_, w, (_, y, refl)))))))
+          start _ (λ _ _ s _ _ t _ _ u _ _ v _ _ w _ _ y.
+          made e x _ (_, s, (_, t, (_, u, (_, v, (_, w, (_, y, refl)))))))
           ▹ m ▹ m ▹ m ▹ m ▹ g ▹ g))
           (entry p 17 (λ x. something (
           start _ (λ _ _ s _ _ t _ _ u _ _ v _ _ w. made e x _ (_, s, (_, t, (_, u, (_, v, (_, w, refl))))))
@@ -103,7 +108,8 @@ module _ (file : List ℕ) where
           (entry p 4 (λ x. something (start _ (made e x [] refl)))
           (entry p 5 (λ x. something (start _ (made e x [] refl)))
           (entry p 6 (λ x. something (
-          start _ (λ _ _ s _ _ t _ _ u _ _ v _ _ w _ _ y. made e x _ (_, s, (_, t, (_, u, (_, v, (_, w, (_, y, refl)))))))
+          start _ (λ _ _ s _ _ t _ _ u _ _ v _ _ w _ _ y.
+          made e x _ (_, s, (_, t, (_, u, (_, v, (_, w, (_, y, refl)))))))
           ▹ m ▹ m ▹ b ▹ h ▹ h ▹ n))
           (entry p 7 (λ x. something (
           start _ (λ _ _ s _ _ t _ _ u. made e x _ (_, s, (_, t, (_, u, refl))))
@@ -112,12 +118,14 @@ module _ (file : List ℕ) where
           start _ (λ _ _ s _ _ t _ _ u. made e x _ (_, s, (_, t, (_, u, refl))))
           ▹ m ▹ h ▹ g))
           (entry p 9 (λ x. something (
-          start _ (λ _ _ s _ _ t _ _ u _ _ v _ _ w _ _ y. made e x _ (_, s, (_, t, (_, u, (_, v, (_, w, (_, y, refl)))))))
+          start _ (λ _ _ s _ _ t _ _ u _ _ v _ _ w _ _ y.
+          made e x _ (_, s, (_, t, (_, u, (_, v, (_, w, (_, y, refl)))))))
           ▹ m ▹ m ▹ m ▹ m ▹ h ▹ h))
           (entry p 10 (λ x. something (start _ (made e x [] refl)))
           (entry p 11 (λ x. something (start _ (λ _ _ s. made e x _ (_, s, refl)) ▹ n))
           (entry p 12 (λ x. something (
-          start _ (λ _ _ s _ _ t _ _ u _ _ v _ _ w _ _ y. made e x _ (_, s, (_, t, (_, u, (_, v, (_, w, (_, y, refl)))))))
+          start _ (λ _ _ s _ _ t _ _ u _ _ v _ _ w _ _ y.
+          made e x _ (_, s, (_, t, (_, u, (_, v, (_, w, (_, y, refl)))))))
           ▹ m ▹ m ▹ b ▹ b ▹ h ▹ n))
           (entry p 13 (λ x. something (start _ (λ _ _ s. made e x _ (_, s, refl)) ▹ h))
           (entry p 14 (λ x. something (start _ (λ _ _ s _ _ t. made e x _ (_, s, (_, t, refl))) ▹ c ▹ h))
@@ -132,7 +140,8 @@ module _ (file : List ℕ) where
       (command file d) (λ q. past-yields (command-past file d q))
       (preEvidence file d) (λ q. past-yields (pre-past d q))) nothing
 
-  pub set-evidence-past : (limits : Limits) (d at : ℕ) → Past file at (SetEvidenceAt limits d at) (setEvidence limits file d)
+  pub set-evidence-past : (limits : Limits) (d at : ℕ) →
+      Past file at (SetEvidenceAt limits d at) (setEvidence limits file d)
   unfolding setEvidence
   set-evidence-past limits zero at = level-past at _
   set-evidence-past limits (suc d) at =

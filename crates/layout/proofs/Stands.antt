@@ -1,11 +1,12 @@
 -- Words between two places: standing words joined and parted.
 -- Assumes nothing.
+--     stands-end, stands-inside         where they end
 --     stands-spelled, spelled-stands    the same by the place where they start, and their number
 --     first, both, parted               a word before others; words before others, and back
 --     chain-stands, stands-chain        parts one after the other, and back
 use mathlib.Core.Path.{_≡_, refl, sym, subst}
 use mathlib.Core.List.{List, [], _∷_, _++_}
-use Prim.Native.Nat.{ℕ, _+_, _<_}
+use Prim.Native.Nat.{ℕ, _+_, _<_, _≤_}
 use native.Mathlib.Omega.{arith}
 use lib.ListN.{length}
 use Rattle.rules.specs.Words.{Word}
@@ -18,6 +19,10 @@ module _ (file : List ℕ) where
   pub stands-end : (at : ℕ) (l : List Word) (p : ℕ) → StandsTo file at l p → p ≡ at + length l
   stands-end at [] p h = omega arith
   stands-end at (w ∷ l) p h = let e = stands-end (at + 1) l p (h .2) in omega arith
+
+  pub stands-inside : (at : ℕ) (l : List Word) (p : ℕ) → StandsTo file at l p → at ≤ wordCount file → p ≤ wordCount file
+  stands-inside at [] p h k = omega arith
+  stands-inside at (w ∷ l) p h k = stands-inside (at + 1) l p (h .2) (omega (arith, h .0))
 
   pub stands-spelled : (at : ℕ) (l : List Word) (p : ℕ) → StandsTo file at l p → SpelledAt file at l
   stands-spelled at [] p h = tt

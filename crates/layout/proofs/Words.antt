@@ -1,7 +1,9 @@
 -- Words as numbers: a number is its kind and its payload, and `encode` and `signed` undo reading.
 -- Assumes nothing.
 --     Found, found-at                 the kind and the payload of the word at a place
---     kind-of-word, payload-of-word   those of an encoded word
+--     quotient, remainder             of a number by its kind and payload
+--     kind-of-word, payload-of-word   the kind and the payload of an encoded word
+--     word-found, for-found           a word by its kind and payload
 --     payload-signed, signed-fits     the payload of a signed payload is that payload; it is in range
 --     signed-payload                  a constant in range is its signed payload
 --     payload-small                   its payload has 26 bits

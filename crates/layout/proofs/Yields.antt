@@ -4,6 +4,7 @@
 --     Yields, Past         what was read is as said and ends at `at` or later; ends later and inside the file
 --     past-yields, yields-map      the weaker; of a weaker statement
 --     start, _▹_, several-yields, level-past, due-past     leaf, _⊛_, several, noLevel, wordDue
+--     yields-here                                          the place at hand
 --     Optional, entry, up-to, on-option                    the tables: allow, upTo, onOption
 use mathlib.Core.Path.{_≡_, refl, ap}
 use mathlib.Core.Bool.{Bool, true, false, cond}
@@ -15,8 +16,9 @@ use borrow.Author.Tests.{eqb-true, leb-true, ltb-true}
 use lib.Dec.{eqb, ltb, leb}
 use lib.ListN.{length}
 use Rattle.layout.specs.Bytes.{wordCount, kindAt, payloadAt}
-use Rattle.layout.specs.Reading.{Reading, read, fault, Reader, onRead, leaf, _⊛_, several, noLevel, allowed, wordDue}
-use Rattle.layout.specs.Reading.{upTo, onOption}
+use Rattle.layout.specs.Reading.{Reading, read, fault, Reader, onRead, leaf, _⊛_, several}
+use Rattle.layout.specs.Reading.{noLevel, allowed, wordDue, upTo, onOption}
+use Rattle.layout.specs.File.{here}
 use Rattle.layout.proofs.Words.{Found, found-at}
 
 -- P holds of what is there
@@ -98,7 +100,8 @@ module _ {file : List ℕ} where
   reach-again : {at q p : ℕ} → Reach file at q → Reach file q p → Reach file at p
   reach-again r s = record { from = omega (arith, r .from, s .from); inside = λ h. s .inside (r .inside h) }
 
-  fault-again : {at q n p : ℕ} → Reach file at q → (q ≤ wordCount file → FaultAt file q n p) → at ≤ wordCount file → FaultAt file at n p
+  fault-again : {at q n p : ℕ} → Reach file at q → (q ≤ wordCount file → FaultAt file q n p) → at ≤ wordCount file →
+      FaultAt file at n p
   fault-again r f h =
       let x = f (r .inside h) in
       record { least = x .least; most = x .most; from = omega (arith, r .from, x .from); inside = x .inside }
@@ -111,7 +114,8 @@ module _ {file : List ℕ} where
 
 -- a reading after another
 then-yields :
-    (file : List ℕ) {A B : Type 0} (U : A → ℕ → Type 0) (T : B → ℕ → Type 0) (at : ℕ) (x : Reading A) (f : A → ℕ → Reading B) →
+    (file : List ℕ) {A B : Type 0} (U : A → ℕ → Type 0) (T : B → ℕ → Type 0) (at : ℕ) (x : Reading A)
+    (f : A → ℕ → Reading B) →
     YieldsBy file at U x → ((a : A) (q : ℕ) → U a q → YieldsBy file q T (f a q)) → YieldsBy file at T (onRead x f)
 then-yields file {B} U T at (read a q) f h k = go (f a q) (k a q (h .1))
   where
@@ -169,7 +173,8 @@ module _ {file : List ℕ} where
 
   pub due-past :
       {A : Type 0} {T : A → ℕ → Type 0} (at : ℕ) (step : ℕ → ℕ → ℕ → Option (Reader A)) →
-      ((k p : ℕ) → Found file at k p → Optional (λ r. Yields file (at + 1) T r) (step at k p)) → Past file at T (wordDue file step)
+      ((k p : ℕ) → Found file at k p → Optional (λ r. Yields file (at + 1) T r) (step at k p)) →
+      Past file at T (wordDue file step)
   unfolding wordDue
   due-past {A} {T} at step f = record { past = go (ltb at (wordCount file)) refl }
     where
@@ -181,3 +186,10 @@ module _ {file : List ℕ} where
           let h = ltb-true at (wordCount file) e in
           allowed-past at T (step at (kindAt file at) (payloadAt file at)) h (f _ _ (found-at file at h))
       go false e = λ h. record { least = omega arith; most = omega arith; from = h; inside = omega arith }
+
+  -- the place at hand as a part
+  pub yields-here : {A : Type 0} {at : ℕ} {T : A → ℕ → Type 0} {r : Reader (ℕ → A)} →
+      Yields file at (λ f q. T (f q) q) r → Yields file at T (r ⊛ here)
+  unfolding _⊛_
+  yields-here {A} {at} {T} {r} h =
+      record { yields = then-yields file _ T at (r at) _ (h .yields) λ f q t. (reach-here q, t) }

@@ -3,7 +3,7 @@
 --     Part                                      a part of a file: its words, and that it fits at a place
 --     expressionPart, commandPart, setPart      what evidence carries
 --     joined, EachFits                          parts one after the other
---     Node, nodePart                            an evidence word at the place that the evidence has for it, then its parts
+--     Node, nodePart                            an evidence word at the evidence's own place, then its parts
 --     preNode, setNode, flowNode                evidence by rule
 --     prePart, setEvidencePart, flowPart        the same as parts of a file
 use mathlib.Core.Path.{_≡_}

@@ -8,6 +8,7 @@
 --     Standing        words and parts between two places
 --     For             refusal 7
 --     File            refusals 1 to 7: a file as trees
+--     FileWords       how a whole file stands by its words
 --     Verdict         refusals 1 to 9: the answer, and the parts of an accepted file
 pub mod Bytes
 pub mod Reading
@@ -18,4 +19,5 @@ pub mod EvidenceWords
 pub mod Standing
 pub mod For
 pub mod File
+pub mod FileWords
 pub mod Verdict
