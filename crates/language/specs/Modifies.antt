@@ -1,6 +1,7 @@
 -- What a command modifies, and the identifiers of an expression (document 01, "Language").
 -- Trusted. Assumes nothing.
 --     Identifier, sameIdentifier    scalars and arrays, by their numbers
+--     target                        the identifier that an assignment gives a value
 --     modifies                      the scalars and arrays that a command assigns, and q of a `for`
 --     identifiers                   the identifiers of an expression
 use mathlib.Core.Bool.{Bool, false, _||_}
@@ -24,7 +25,7 @@ abbrev pub target : Assignment → Identifier
 target (toScalar x e) = scalarOf x
 target (toArray a e) = arrayOf a
 
--- an array even if at one place
+-- whether a command modifies an identifier: an array even if it is assigned at one place
 abbrev pub modifies : Command → Identifier → Bool
 modifies skip x = false
 modifies (sequence c d) x = modifies c x || modifies d x

@@ -4,7 +4,7 @@
 --     sameInteger, put      equality of integers as a test; a map with one value replaced
 --     apply, relate         the operators; the comparisons
 --     value                 the value of an expression
-use mathlib.Core.Bool.{Bool, true, false, not, _&&_, _||_, cond}
+use mathlib.Core.Bool.{Bool, false, not, _&&_, _||_, cond}
 use Prim.Native.Nat.{ℕ}
 use lib.Dec.{eqb}
 use lib.IntN.{ℤ, pos, negsuc, _+ℤ_, _-ℤ_, _*ℤ_}

@@ -1,4 +1,5 @@
--- The words of a file (document 01, "Layout"): 32 bits, low byte first; the top 6 bits the kind, the low 26 the payload.
+-- The words of a file (document 01, "Layout"): 32 bits, low byte first; the top 6 bits are the kind, the low 26 the
+-- payload.
 -- Trusted. Assumes nothing.
 --     wordsOf                the words that bytes make
 --     wordCount, numberAt    how many words there are; the word at a place
@@ -11,6 +12,7 @@ use lib.Dec.{ltb}
 use lib.IntN.{ℤ, pos, _-ℤ_}
 use lib.ListN.{length, getD}
 
+-- four bytes a word; a rest of fewer makes none
 unfoldable pub wordsOf : List ℕ → List ℕ
 wordsOf [] = []
 wordsOf (a ∷ []) = []

@@ -1,14 +1,15 @@
 -- A whole file (document 01, "Layout" and "Judging order" 1 to 7): 63:n, the command, the precondition, the
 -- postcondition and flow evidence.
 -- Trusted. Assumes nothing.
---     File        the trees of a file, and the places of its sets and its evidence
---     parts       3 to 5: the parts from place 1 on
---     finish      6 and 7
---     wordsRead   2 to 7, of words
---     fileOf      1 to 7, of bytes
+--     File                      the trees of a file, and the places of its sets and its evidence
+--     made, here                a file of its parts; the place at hand, read as a part
+--     parts                     refusals 3 to 5: the parts from place 1 on
+--     steadyFile, finish        refusal 7; 6 and 7
+--     wordsRead                 refusals 2 to 7, of words
+--     badLength, fileOf         refusal 1; 1 to 7, of bytes
 use mathlib.Core.Bool.{Bool, true, false, not, _||_}
 use mathlib.Core.List.{List}
-use mathlib.Core.Option.{Option, none, some}
+use mathlib.Core.Option.{none, some}
 use Prim.Native.Nat.{ℕ, _+_, _*_, _%_}
 use lib.Dec.{eqb, ltb}
 use lib.ListN.{length}
@@ -46,16 +47,16 @@ parts limits file =
     (leaf made ⊛ command file d ⊛ here ⊛ set limits file d ⊛ here ⊛ set limits file d ⊛ here
     ⊛ flowEvidence limits file d) 1
 
--- 7
+-- refusal 7: a `for` that is not well formed
 unfoldable pub steadyFile : Limits → List ℕ → File → ℕ → Reading File
 steadyFile limits file f p =
     elim (firstUnsteady limits file (wordCount file) 0) [ none ↦ read f p | some at ↦ fault 7 at ]
 
--- 6, then 7
+-- refusal 6: words follow the evidence; then 7
 unfoldable pub finish : Limits → List ℕ → File → ℕ → Reading File
 finish limits file f p = elim (ltb p (wordCount file)) [ true ↦ fault 6 p | false ↦ steadyFile limits file f p ]
 
--- 2, then the rest
+-- refusal 2: word 0 is not 63:n; then 3 to 7
 unfoldable pub wordsRead : Limits → List ℕ → Reading File
 wordsRead limits file =
     elim (eqb (numberAt file 0) (63 * 67108864 + wordCount file)) [
@@ -63,7 +64,7 @@ wordsRead limits file =
       | false ↦ fault 2 0
     ]
 
--- 1
+-- refusal 1: the byte count is 0, over 32,768 or no multiple of 4
 abbrev pub badLength : List ℕ → Bool
 badLength bytes = eqb (length bytes) 0 || (ltb 32768 (length bytes) || not (eqb (length bytes % 4) 0))
 

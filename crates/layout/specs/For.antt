@@ -1,8 +1,8 @@
 -- Refusal 7 (document 01, "Judging order"): a `for`, also a carried one, has q = m or a body that modifies q or m.
 -- Trusted. Assumes nothing.
---     steady                  of a `for`: it has neither
---     unsteady, unsteadyAt    a `for` that has one of them was read; stands at a place
---     firstUnsteady           the first such of so many places
+--     steady                  a `for` that has neither, by its q, m and body
+--     unsteady, unsteadyAt    what was read is a `for` that has one of them; such a `for` stands at a place
+--     firstUnsteady           the first place, of so many from a place on, where such a `for` stands
 use mathlib.Core.Bool.{Bool, true, false, not, _&&_}
 use mathlib.Core.List.{List}
 use mathlib.Core.Option.{Option, none, some}

@@ -1,11 +1,13 @@
 -- Expressions, commands and sets, read at a place with so many levels left (document 01, "Layout").
 -- Trusted. Assumes nothing.
---     operatorOf, comparisonOf, truthOf     payloads of kinds 3, 8 and 9
---     arithmeticWord, booleanWord, arrayWord, commandWord    the layout's lists, by kind and payload
---     expression, command, memberAt, set    the readers
+--     operatorOf, comparisonOf, truthOf        payloads of kinds 3, 8 and 9
+--     arithmeticWord, booleanWord, arrayWord   the layout's lists, by kind and payload
+--     expressionWord, commandWord              the same by the sort; of commands
+--     sortOf, consequentAt                     a consequent's sort by its first word; a consequent
+--     expression, command, memberAt, set       the readers
 use mathlib.Core.Bool.{Bool, true, false, cond, _&&_}
 use mathlib.Core.List.{List, [], _∷_}
-use mathlib.Core.Option.{Option, none, some}
+use mathlib.Core.Option.{Option, some}
 use Prim.Native.Nat.{ℕ, zero, suc, _/_, _%_}
 use lib.Dec.{leb}
 use Rattle.language.specs.Syntax.{Operator, plus, minus, times, Comparison, equal, less, atMost}
@@ -15,7 +17,7 @@ use Rattle.language.specs.Syntax.{Command, skip, sequence, assert, assign, ifEl
 use Rattle.rules.specs.Assertion.{Member, Members, member}
 use Rattle.rules.specs.Context.{Limits}
 use Rattle.layout.specs.Bytes.{kindAt, signed}
-use Rattle.layout.specs.Reading.{Reading, Reader, leaf, _⊛_, several, noLevel, wordDue, allow, upTo, onOption}
+use Rattle.layout.specs.Reading.{Reader, leaf, _⊛_, several, noLevel, wordDue, allow, upTo, onOption}
 
 abbrev pub operatorOf : ℕ → Option Operator
 operatorOf p = allow p ((0, some plus) ∷ (1, some minus) ∷ (2, some times) ∷ [])
@@ -84,7 +86,7 @@ command file (suc d) at =
 abbrev pub sortOf : ℕ → Sort
 sortOf k = cond (leb 8 k && leb k 12) Boolean (cond (leb 16 k && leb k 18) Array Arithmetic)
 
--- an expression of any sort, as what it makes of an antecedent
+-- a consequent, read as the member that it makes of an antecedent
 abbrev pub consequentAt : List ℕ → ℕ → Reader (Expr Boolean → Member)
 consequentAt file d at = (leaf (λ e φ. member φ e) ⊛ expression file d (sortOf (kindAt file at))) at
 

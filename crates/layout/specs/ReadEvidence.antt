@@ -1,19 +1,19 @@
--- Evidence, read at a place with so many levels left (document 01, "Layout" and "Rules"): for each rule what it carries,
--- then its children.
+-- Evidence, read at a place with so many levels left (document 01, "Layout" and "Rules"): for each rule what it
+-- carries, then its children.
 -- Trusted. Assumes nothing.
 --     preWord, setWord, flowWord                kinds 35, 34 and 33, by rule
 --     preEvidence, setEvidence, flowEvidence    the readers
 use mathlib.Core.List.{List, [], _∷_}
-use mathlib.Core.Option.{Option, none, some}
+use mathlib.Core.Option.{Option, some}
 use Prim.Native.Nat.{ℕ, zero, suc}
 use Rattle.language.specs.Syntax.{Boolean, Expr, Command}
 use Rattle.rules.specs.Assertion.{Members}
 use Rattle.rules.specs.Context.{Limits}
-use Rattle.rules.specs.Evidence.{PreEvidence, pre20, pre21, pre22, pre23, pre24, pre25, pre26, pre27, pre28, pre29, pre30}
-use Rattle.rules.specs.Evidence.{SetEvidence, set13, set14, set15, set16, set17, set18, set19}
+use Rattle.rules.specs.Evidence.{PreEvidence, pre20, pre21, pre22, pre23, pre24, pre25, pre26, pre27, pre28, pre29}
+use Rattle.rules.specs.Evidence.{pre30, SetEvidence, set13, set14, set15, set16, set17, set18, set19}
 use Rattle.rules.specs.Evidence.{FlowEvidence, flow1, flow2, flow3, flow4, flow5, flow6, flow7, flow8, flow9}
 use Rattle.rules.specs.Evidence.{flow10, flow11, flow12, flow13, flow14}
-use Rattle.layout.specs.Reading.{Reading, Reader, leaf, _⊛_, noLevel, wordDue, allow}
+use Rattle.layout.specs.Reading.{Reader, leaf, _⊛_, noLevel, wordDue, allow}
 use Rattle.layout.specs.Read.{expression, command, set}
 
 -- b reads a boolean, c a command, m a set; n, s and f read evidence of kinds 35, 34 and 33; i is the word's place

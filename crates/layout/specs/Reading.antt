@@ -1,11 +1,12 @@
 -- What reading gives, and readers one after the other (document 01, "Judging order" 3 to 5).
 -- Trusted. Assumes nothing.
---     Reading, Reader    what was read with the place after it, or a refusal's number and place
---     leaf, _⊛_          what takes no word; the next part
---     several            a number of parts
---     noLevel, wordDue   a word due too deep; a word due that stands for what a table allows there
---     allow, upTo        the entry of a table; a payload up to a bound
-use mathlib.Core.Bool.{Bool, true, false, cond}
+--     Reading, Reader      what was read with the place after it, or a refusal's number and place
+--     onRead, leaf, _⊛_    going on from what was read; what takes no word; a reader, and then the next part
+--     several              the same part so many times
+--     noLevel, wordDue     a word that is due too deep; a word that is due
+--     allowed, allow       a word that may stand there; the entry of a table
+--     upTo, onOption       a payload up to a bound; an entry made of another
+use mathlib.Core.Bool.{true, false, cond}
 use mathlib.Core.List.{List, [], _∷_}
 use mathlib.Core.Option.{Option, none, some}
 use Prim.Native.Nat.{ℕ, zero, suc, _+_}
@@ -34,15 +35,16 @@ unfoldable pub several : {A : Type 0} → ℕ → Reader A → Reader (List A)
 several zero r at = read [] at
 several (suc n) r at = onRead (r at) λ a p. onRead (several n r p) λ l q. read (a ∷ l) q
 
--- 3: the file ends where a word is due; 4: the word is too deep
+-- a word is due with no level left: refusal 4, or 3 if the file ends there
 abbrev pub noLevel : {A : Type 0} → List ℕ → Reader A
 noLevel file at = cond (ltb at (wordCount file)) (fault 4 at) (fault 3 (wordCount file))
 
+-- refusal 5: the word's kind or payload isn't allowed there
 abbrev pub allowed : {A : Type 0} → Option (Reader A) → Reader A
 allowed none at = fault 5 at
 allowed (some r) at = r (at + 1)
 
--- 3; 5: its kind or payload isn't allowed there; otherwise what `step` makes of its place, kind and payload
+-- refusal 3 if the file ends there; else what `step` makes of the word's place, kind and payload
 unfoldable pub wordDue : {A : Type 0} → List ℕ → (ℕ → ℕ → ℕ → Option (Reader A)) → Reader A
 wordDue file step at =
     elim (ltb at (wordCount file)) [

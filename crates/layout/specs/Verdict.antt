@@ -1,6 +1,7 @@
 -- The answer of the check on bytes (document 01, "Judging order" 1 to 9), and the parts of an accepted file.
 -- Trusted. Assumes nothing.
---     judged, verdictOf                      8 and 9 of a file that was read; of bytes
+--     judged, verdictOf                      refusals 8 and 9 of a file that was read; 1 to 9 of bytes
+--     bytesBetween, partOf                   the bytes of the words between two places; a part of an accepted file
 --     precondition, postcondition            that part of the caller's bytes; empty if the file is refused
 --     packed                                 the number that the C call answers
 use mathlib.Core.List.{List, []}

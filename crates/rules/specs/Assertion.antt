@@ -1,7 +1,8 @@
 -- Members φ ⇒ E, and what it means that two stores agree as a set demands (document 01, "Language").
 -- Trusted. Assumes nothing.
---     Member, Members, one    an antecedent and a consequent; a set, as its written members; a set of one member
---     SameValue               an expression has one value in both stores, an array at every index
+--     Member, Members         an antecedent and a consequent; a set, as its written members
+--     member, one             a member of two expressions; a set of one member
+--     OneValue, SameValue     two values are one, arrays at every index; an expression has one value in both stores
 --     Holds, Agree            a member holds of two stores; two stores agree as a set demands
 --     Secure                  what a contract claims of a program (demand 3)
 use mathlib.Core.Path.{_≡_}

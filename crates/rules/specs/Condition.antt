@@ -2,7 +2,7 @@
 -- Trusted. Assumes nothing.
 --     Result, test, _then_            the three results; of a test; conditions tried as written
 --     implication, eachImpliesFalse   implications, too large above the limit
---     byForm, onSkip .. onFor         a command taken apart by its form; one form, and `o` at every other
+--     byForm, onSkip .. onFor         a command taken apart by its form; by one form, the others all alike
 --     onEmpty, onOne, onSome          an empty set; a set of one written member; operands that are there
 use mathlib.Core.Bool.{Bool, true, false}
 use mathlib.Core.List.{[], _∷_}
@@ -13,7 +13,7 @@ use lib.ListN.{length}
 use Rattle.language.specs.Syntax.{Arithmetic, Boolean, Array, Expr, truth, toScalar, toArray}
 use Rattle.language.specs.Syntax.{Command, skip, sequence, assert, assign, ifElse, while, for}
 use Rattle.rules.specs.Assertion.{Member, Members}
-use Rattle.rules.specs.Context.{Limits, Context}
+use Rattle.rules.specs.Context.{Context}
 use Rattle.rules.specs.Implies.{distinct}
 use Rattle.rules.specs.Tests.{table}
 

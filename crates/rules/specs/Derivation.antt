@@ -9,19 +9,18 @@ use mathlib.Core.List.{[], _++_}
 use mathlib.Core.Option.{some}
 use Prim.Native.Nat.{ℕ}
 use Rattle.language.specs.Syntax.{Sort, Arithmetic, Boolean, Array, Expr, truth, and, or, neg}
-use Rattle.language.specs.Syntax.{Assignment, toScalar, toArray}
-use Rattle.language.specs.Syntax.{Command, skip, sequence, assert, assign, ifElse, while, for}
+use Rattle.language.specs.Syntax.{toScalar, toArray, Command, skip, sequence, assert, assign, ifElse, while, for}
 use Rattle.language.specs.Runs.{meaning}
 use Rattle.language.specs.Modifies.{identifiers}
 use Rattle.rules.specs.Words.{commandWords}
-use Rattle.rules.specs.Assertion.{Member, Members, member, one}
+use Rattle.rules.specs.Assertion.{Members, member, one}
 use Rattle.rules.specs.Context.{Context}
 use Rattle.rules.specs.Replace.{replacement, replace, replaceMembers}
 use Rattle.rules.specs.Sets.{SameAntecedent, SameConsequent, Stands, Within, Same, under, without, operands}
 use Rattle.rules.specs.Sets.{setIdentifiers, Unmodified}
 use Rattle.rules.specs.Implies.{Implies, EachImpliesFalse}
-use Rattle.rules.specs.Evidence.{PreEvidence, pre20, pre21, pre22, pre23, pre24, pre25, pre26, pre27, pre28, pre29}
-use Rattle.rules.specs.Evidence.{pre30, SetEvidence, set13, set14, set15, set16, set17, set18, set19}
+use Rattle.rules.specs.Evidence.{PreEvidence, pre20, pre21, pre22, pre23, pre24, pre25, pre26, pre27, pre28}
+use Rattle.rules.specs.Evidence.{pre29, pre30, SetEvidence, set13, set14, set15, set16, set17, set18, set19}
 use Rattle.rules.specs.Evidence.{FlowEvidence, flow1, flow2, flow3, flow4, flow5, flow6, flow7, flow8, flow9}
 use Rattle.rules.specs.Evidence.{flow10, flow11, flow12, flow13, flow14}
 

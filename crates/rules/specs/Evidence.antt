@@ -1,5 +1,5 @@
--- Evidence as trees (document 01, "Layout" and "Rules"): a constructor a rule, with the place of its word in the file,
--- what the rule carries, and its children.
+-- Evidence as trees (document 01, "Layout" and "Rules"): a constructor for each rule, with the place of its word in the
+-- file, what the rule carries, and its children.
 -- Trusted. Assumes nothing.
 --     PreEvidence, SetEvidence, FlowEvidence    kinds 35, 34 and 33
 use Prim.Native.Nat.{ℕ}

@@ -1,6 +1,7 @@
--- "Implies" of document 01's rules: over the distinct comparisons of both sides, by words, at most as many as the limit.
+-- "Implies" of document 01's rules: over the distinct comparisons of both sides, by words, no more than the limit.
 -- Trusted. Assumes nothing.
 --     truthUnder          a boolean's value where each comparison, by its words, is given true or false
+--     comparisons         the comparisons of a boolean that are not yet listed, with the list
 --     distinct            the distinct comparisons of two booleans
 --     Implies             the sentence
 --     EachImpliesFalse    each antecedent of a set implies false (rule 14 of the sets)
@@ -11,8 +12,8 @@ use Prim.Native.Nat.{_≤_}
 use lib.ListN.{length}
 use Rattle.language.specs.Syntax.{Boolean, Expr, compare, truth, and, or, neg}
 use Rattle.rules.specs.Words.{Word, words, sameWords}
-use Rattle.rules.specs.Assertion.{Member, Members}
-use Rattle.rules.specs.Context.{Limits, Context}
+use Rattle.rules.specs.Assertion.{Members}
+use Rattle.rules.specs.Context.{Context}
 
 -- a comparison, x = x too, is worth what it is given
 unfoldable pub truthUnder : Expr Boolean → (List Word → Bool) → Bool

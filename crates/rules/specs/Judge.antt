@@ -1,22 +1,23 @@
--- Evidence judged in file order (document 01, "Judging order" 8 and 9). Each line is a rule of "Rules".
+-- Evidence judged in file order (document 01, "Judging order" 8 and 9). Each clause is a rule of "Rules".
 -- Trusted. Assumes nothing.
 --     Verdict                            accepted, with a count of evidence words; or refused, with number and place
---     judgeWord, _also_                  an evidence word: its conditions, then its children; children in order
+--     oneMore, _also_                    the count with one word more; children in order
+--     judgeWord, judgeLeaf               an evidence word: its conditions, then its children; with no children
 --     judgePre, judgeSet, judgeFlow      evidence of kinds 35, 34 and 33 against a goal
-use mathlib.Core.Bool.{Bool, true}
+use mathlib.Core.Bool.{true}
 use mathlib.Core.List.{_++_}
 use Prim.Native.Nat.{ℕ, suc, _+_}
-use Rattle.language.specs.Syntax.{Boolean, Expr, truth, and, or, neg, toScalar, toArray, Command, ifElse}
+use Rattle.language.specs.Syntax.{Boolean, Expr, truth, and, or, neg, toScalar, toArray, Command}
 use Rattle.language.specs.Runs.{meaning}
 use Rattle.language.specs.Modifies.{identifiers}
 use Rattle.rules.specs.Words.{commandWords, sameWords}
-use Rattle.rules.specs.Assertion.{Member, Members, member, one}
+use Rattle.rules.specs.Assertion.{Members, member, one}
 use Rattle.rules.specs.Context.{Context}
 use Rattle.rules.specs.Replace.{replacement, replace, replaceMembers}
 use Rattle.rules.specs.Sets.{under, without, operands, setIdentifiers}
 use Rattle.rules.specs.Tests.{sameAntecedent, sameConsequent, stands, within, same, unmodified, isEmpty}
-use Rattle.rules.specs.Evidence.{PreEvidence, pre20, pre21, pre22, pre23, pre24, pre25, pre26, pre27, pre28, pre29}
-use Rattle.rules.specs.Evidence.{pre30, SetEvidence, set13, set14, set15, set16, set17, set18, set19}
+use Rattle.rules.specs.Evidence.{PreEvidence, pre20, pre21, pre22, pre23, pre24, pre25, pre26, pre27, pre28}
+use Rattle.rules.specs.Evidence.{pre29, pre30, SetEvidence, set13, set14, set15, set16, set17, set18, set19}
 use Rattle.rules.specs.Evidence.{FlowEvidence, flow1, flow2, flow3, flow4, flow5, flow6, flow7, flow8, flow9}
 use Rattle.rules.specs.Evidence.{flow10, flow11, flow12, flow13, flow14}
 use Rattle.rules.specs.Condition.{Result, passes, fails, tooLarge, test, _then_, implication, eachImpliesFalse}

@@ -8,7 +8,7 @@ use lib.Dec.{eqb}
 use Rattle.language.specs.Syntax.{Sort, Arithmetic, Array, Expr, constant, scalar, operation, select}
 use Rattle.language.specs.Syntax.{compare, truth, and, or, neg, array, zeros, update, Assignment, toScalar, toArray}
 use Rattle.language.specs.Store.{put}
-use Rattle.rules.specs.Assertion.{Member, Members, member}
+use Rattle.rules.specs.Assertion.{Members, member}
 
 pub record Replacement : Type 0 where
   pub scalars : ℕ → Expr Arithmetic

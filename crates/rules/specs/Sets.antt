@@ -1,15 +1,18 @@
 -- Sets compared and made (document 01, "Language" and "Rules").
 -- Trusted. Assumes nothing.
 --     SameAntecedent, SameConsequent    antecedents and assertions compared; consequents compared
+--     SameMember                        members compared: both
 --     Stands, Within, Same              a member stands in a set; each of a set does; two sets are the same
---     under, without, operands          a set under B; T without S'; φ ⇒ each operand (rule 19)
+--     under                             a set under B
+--     listed, without                   a member is listed, by words; T without S' (rule 17)
+--     operands                          φ ⇒ each operand (rule 19)
 --     setIdentifiers, Unmodified        the identifiers of a set; no identifier is modified
 use mathlib.Core.Path.{_≡_}
 use mathlib.Core.Bool.{Bool, false, _&&_, _||_, cond}
 use mathlib.Core.List.{List, [], _∷_, _++_}
 use mathlib.Core.Option.{Option, none, some}
-use Rattle.language.specs.Syntax.{Sort, Boolean, Expr, constant, scalar, operation, select, compare, truth, and, or, neg}
-use Rattle.language.specs.Syntax.{array, zeros, update, Command}
+use Rattle.language.specs.Syntax.{Sort, Boolean, Expr, constant, scalar, operation, select, compare, truth, and, or}
+use Rattle.language.specs.Syntax.{neg, array, zeros, update, Command}
 use Rattle.language.specs.Modifies.{Identifier, modifies, identifiers}
 use Rattle.rules.specs.Words.{words, sameWords}
 use Rattle.rules.specs.Assertion.{Member, Members, member}

@@ -1,7 +1,9 @@
 -- The statements of `Sets` and `Implies` as tests.
 -- Working: laws in proofs/Decides and proofs/Table say that each test decides its statement.
---     sameAntecedent, sameConsequent, stands, within, same    of `Sets`
+--     sameAntecedent, sameConsequent, sameMember              of `Sets`
+--     stands, within, same                                    of `Sets`
 --     unmodified, isEmpty                                     no identifier is modified; there is none
+--     given, every                                            a list of values as an assignment; every such list
 --     table                                                   every assignment to the listed comparisons is tried
 use mathlib.Core.Bool.{Bool, true, false, not, _&&_, _||_, cond}
 use mathlib.Core.List.{List, [], _∷_}
