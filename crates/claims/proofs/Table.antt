@@ -24,7 +24,7 @@ use Rattle.execution.specs.Ran.{runFile, runOf}
 use Rattle.claims.specs.Table.{right, allRight, table}
 
 pub table-right : allRight table ≡ true
-unfolding allRight table right verdictOf fileOf wordsOf wordsRead parts finish steadyFile unsteadyAt firstUnsteady standard words
-    commandWords replace test _then_ byForm oneMore judgeWord judgeFlow _⊛_ several wordDue expression command set
+unfolding allRight table right verdictOf fileOf wordsOf wordsRead parts finish steadyFile unsteadyAt firstUnsteady standard
+    words commandWords replace test _then_ byForm oneMore judgeWord judgeFlow _⊛_ several wordDue expression command set
     flowEvidence value identifiers setIdentifiers evaluate turns run runFile runOf
 table-right = refl

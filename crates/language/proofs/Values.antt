@@ -34,7 +34,8 @@ module _ (s t : Store) where
   same-value (scalar x) h = h .0
   same-value (operation o a b) h =
       ap₂ (apply o) (same-value a (left (identifiers a) _ h)) (same-value b (right (identifiers a) _ h))
-  same-value (select f i) h = λ j. same-value f (left (identifiers f) _ h) j (same-value i (right (identifiers f) _ h) j)
+  same-value (select f i) h =
+      λ j. same-value f (left (identifiers f) _ h) j (same-value i (right (identifiers f) _ h) j)
   same-value (compare r a b) h =
       ap₂ (relate r) (same-value a (left (identifiers a) _ h)) (same-value b (right (identifiers a) _ h))
   same-value (truth b) h = refl

@@ -32,12 +32,13 @@ module _ (file : List ℕ) where
   spelled-stands at [] p h e = omega arith
   spelled-stands at (w ∷ l) p h e = (h .0, h .1, spelled-stands (at + 1) l p (h .2) (omega arith))
 
-  stands-append : (at : ℕ) (l m : List Word) (q p : ℕ) → StandsTo file at l q → StandsTo file q m p → StandsTo file at (l ++ m) p
+  stands-append : (at : ℕ) (l m : List Word) (q p : ℕ) → StandsTo file at l q → StandsTo file q m p →
+      StandsTo file at (l ++ m) p
   stands-append at [] m q p h k = rw h k
   stands-append at (w ∷ l) m q p h k = (h .0, h .1, stands-append (at + 1) l m q p (h .2) k)
 
-  stands-split :
-      (at : ℕ) (l m : List Word) (p : ℕ) → StandsTo file at (l ++ m) p → (q : ℕ) × StandsTo file at l q × StandsTo file q m p
+  stands-split : (at : ℕ) (l m : List Word) (p : ℕ) → StandsTo file at (l ++ m) p →
+      (q : ℕ) × StandsTo file at l q × StandsTo file q m p
   stands-split at [] m p h = (at, refl, h)
   stands-split at (w ∷ l) m p h =
       let x = stands-split (at + 1) l m p (h .2) in

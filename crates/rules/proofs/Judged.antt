@@ -12,8 +12,8 @@ use Rattle.rules.specs.Assertion.{Member, Members, member, one}
 use Rattle.rules.specs.Context.{Context}
 use Rattle.rules.specs.Sets.{operands, setIdentifiers}
 use Rattle.rules.specs.Tests.{same}
-use Rattle.rules.specs.Evidence.{PreEvidence, pre20, pre21, pre22, pre23, pre24, pre25, pre26, pre27, pre28, pre29}
-use Rattle.rules.specs.Evidence.{pre30, SetEvidence, set13, set14, set15, set16, set17, set18, set19}
+use Rattle.rules.specs.Evidence.{PreEvidence, pre20, pre21, pre22, pre23, pre24, pre25, pre26, pre27, pre28}
+use Rattle.rules.specs.Evidence.{pre29, pre30, SetEvidence, set13, set14, set15, set16, set17, set18, set19}
 use Rattle.rules.specs.Evidence.{FlowEvidence, flow1, flow2, flow3, flow4, flow5, flow6, flow7, flow8, flow9}
 use Rattle.rules.specs.Evidence.{flow10, flow11, flow12, flow13, flow14}
 use Rattle.rules.specs.Derivation.{Necessary, rule-20, rule-21, rule-22, rule-23, rule-24, rule-25, rule-26}
@@ -25,7 +25,8 @@ use Rattle.rules.specs.Condition.{Result, passes, fails, tooLarge, test,
 use Rattle.rules.specs.Judge.{Verdict, accepted, refused, oneMore, _also_, judgeWord, judgeLeaf}
 use Rattle.rules.specs.Judge.{judgePre, judgeSet, judgeFlow}
 use Rattle.rules.proofs.Decides.{sameWords-decides, sameAntecedent-decides, sameConsequent-decides}
-use Rattle.rules.proofs.Decides.{stands-decides, within-decides, same-decides, unmodified-decides, isEmpty-decides}
+use Rattle.rules.proofs.Decides.{stands-decides, within-decides, same-decides, unmodified-decides}
+use Rattle.rules.proofs.Decides.{isEmpty-decides}
 use Rattle.rules.proofs.Passes.{Passes, PassesIff, test-passes, then-passes}
 use Rattle.rules.proofs.Implication.{implication-passes, eachImpliesFalse-passes}
 use Rattle.rules.proofs.Forms.{skip-is, sequence-is, assert-is, scalar-is, array-is, if-is, while-is, for-is}
