@@ -1,23 +1,18 @@
--- The step that is due in a run of the language's definition, and why the runner stops there (document 01, "Judging
--- order" 12 to 15).
+-- The step that is due in a run of the language's definition (document 01, "Language" and "Runner").
 -- Trusted. Assumes nothing.
 --     Step          what a step does
 --     Due           `Due c i s n d p t`: c, whose first word stands at place i, runs from s; after n steps the step d
 --                   is due, at place p, in the store t
---     fits          every operation's value in an expression passes one test, and every index another
---     Reason        why a refusal is said of a step, with so many steps left
+--     DueTurn       the same of a `for` from its test on
 use mathlib.Core.Path.{_≡_}
-use mathlib.Core.Bool.{Bool, true, false, _&&_}
+use mathlib.Core.Bool.{true, false}
 use Prim.Native.Nat.{ℕ, suc, _+_}
-use lib.IntN.{ℤ}
 use lib.ListN.{length}
-use Rattle.language.specs.Syntax.{atMost, Sort, Boolean, Expr, constant, scalar, operation, select}
-use Rattle.language.specs.Syntax.{compare, truth, and, or, neg, array, zeros, update, Assignment, toScalar, toArray}
+use Rattle.language.specs.Syntax.{atMost, Boolean, Expr, scalar, compare, Assignment}
 use Rattle.language.specs.Syntax.{Command, skip, sequence, assert, assign, ifElse, while, for}
 use Rattle.language.specs.Store.{Store, value}
 use Rattle.language.specs.Runs.{assigned, start, increment, Runs}
 use Rattle.rules.specs.Words.{words, commandWords}
-use Rattle.execution.specs.Evaluate.{inRange, isIndex}
 
 pub data Step : Type 0 where
   skips : Step
@@ -62,37 +57,3 @@ mutual
     due-next : {q r : ℕ} {c : Command} {i m n p : ℕ} {s u t : Store} {d : Step} →
         value (compare atMost (scalar q) (scalar r)) s ≡ true → Runs c m s u →
         DueTurn q r c i (assigned (increment q) u) n d p t → DueTurn q r c i s (suc (m + suc n)) d p t
-
-unfoldable pub fits : (ℤ → Bool) → (ℤ → Bool) → {k : Sort} → Expr k → Store → Bool
-fits f g (constant z) s = true
-fits f g (scalar x) s = true
-fits f g (operation o a b) s = fits f g a s && (fits f g b s && f (value (operation o a b) s))
-fits f g (select h i) s = fits f g h s && (fits f g i s && g (value i s))
-fits f g (compare r a b) s = fits f g a s && fits f g b s
-fits f g (truth t) s = true
-fits f g (and b c) s = fits f g b s && fits f g c s
-fits f g (or b c) s = fits f g b s && fits f g c s
-fits f g (neg b) s = fits f g b s
-fits f g (array a) s = true
-fits f g zeros s = true
-fits f g (update h i a) s = fits f g h s && ((fits f g i s && g (value i s)) && fits f g a s)
-
-abbrev pub stepFits : (ℤ → Bool) → (ℤ → Bool) → Step → Store → Bool
-stepFits f g skips s = true
-stepFits f g (asserts b) s = fits f g b s
-stepFits f g (tests b) s = fits f g b s
-stepFits f g (gives (toScalar x e)) s = fits f g e s
-stepFits f g (gives (toArray a e)) s = fits f g e s
-
--- every value is within the signed 64-bit range; every index within 0 to 63
-abbrev pub valuesFit : Step → Store → Bool
-valuesFit d s = stepFits inRange (λ i. true) d s
-
-abbrev pub indexesFit : Step → Store → Bool
-indexesFit d s = stepFits (λ z. true) isIndex d s
-
-pub data Reason : ℕ → Step → ℕ → Store → Type 0 where
-  assertion-false : {b : Expr Boolean} {n : ℕ} {s : Store} → value b s ≡ false → Reason 12 (asserts b) n s
-  budget-used : {d : Step} {s : Store} → Reason 13 d 0 s
-  value-outside : {d : Step} {n : ℕ} {s : Store} → valuesFit d s ≡ false → Reason 14 d n s
-  index-outside : {d : Step} {n : ℕ} {s : Store} → indexesFit d s ≡ false → Reason 15 d n s

@@ -1,7 +1,7 @@
 -- Expressions as the runner works them out (document 01, "Runner"): operands go left first, both sides of and and or
 -- too; an index is tested as soon as it is worked out.
 -- Trusted. Assumes nothing.
---     Outcome               what was worked out, or the number of the refusal that stops it
+--     Outcome, onWorked     what was worked out, or the number of the refusal that stops it; going on from it
 --     inRange, isIndex      the signed 64-bit range; an index 0 to 63
 --     tested, index         a value that is tested; an index, tested
 --     evaluate              an expression in a store
@@ -31,11 +31,11 @@ abbrev pub tested : Bool → ℕ → ℤ → Outcome ℤ
 tested true k z = worked z
 tested false k z = stops k
 
--- 15
+-- refusal 15
 abbrev pub index : Outcome ℤ → Outcome ℤ
 index o = onWorked o λ i. tested (isIndex i) 15 i
 
--- 14, where two operands are brought together
+-- refusal 14 at an operation, 15 at an index
 unfoldable pub evaluate : {k : Sort} → Expr k → Store → Outcome (Value k)
 evaluate (constant z) s = worked z
 evaluate (scalar x) s = worked (s .scalars x)

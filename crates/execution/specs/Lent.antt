@@ -1,6 +1,7 @@
 -- The store that is lent to the runner (document 01, "Runner"): 32 scalars and 2,048 array values.
 -- Trusted. Assumes nothing.
 --     Lent, storeOf    the two lists; the store that they give
+--     elementAt        the value of an array at an index
 --     elements         an array's values at 0 to 63
 --     HeldBy           a store holds the lent values: the scalars, and the arrays at 0 to 63
 use mathlib.Core.Path.{_≡_}

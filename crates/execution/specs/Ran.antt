@@ -1,14 +1,16 @@
 -- The runner's answer on bytes (document 01, "Runner" and "Judging order" 1 to 7 and 10 to 15).
 -- Trusted. Assumes nothing.
 --     Answer, Ran       ended or refused; with the steps finished and the store afterwards
---     ranOf, runOf      of a run on a budget; of bytes, a budget and a lent store
+--     notRun, ranOf     of a refusal before the run; of a run on a budget
+--     wellSized         32 scalars and 2,048 array values
+--     runFile, runOf    of a file that was read; of bytes, a budget and a lent store
 use mathlib.Core.Bool.{Bool, true, false, _&&_}
 use mathlib.Core.List.{List}
 use Prim.Native.Nat.{ℕ, _-_}
 use lib.Dec.{eqb, ltb}
 use lib.ListN.{length}
 use Rattle.rules.specs.Context.{Limits}
-use Rattle.layout.specs.Reading.{Reading, read, fault}
+use Rattle.layout.specs.Reading.{read, fault}
 use Rattle.layout.specs.File.{File, fileOf}
 use Rattle.execution.specs.Lent.{Lent}
 use Rattle.execution.specs.Run.{End, ended, stopped, run}
@@ -33,7 +35,7 @@ ranOf budget (stopped k p n m) = record { answer = refused k p; steps = budget -
 abbrev pub wellSized : Lent → Bool
 wellSized m = eqb (length (m .scalars)) 32 && eqb (length (m .values)) 2048
 
--- 10, then 11
+-- refusal 10, then 11, then the run
 unfoldable pub runFile : File → ℕ → Lent → Ran
 runFile f budget m = elim (ltb 1000000 budget) [
   | true ↦ notRun 10 0 m

@@ -1,11 +1,12 @@
 -- Commands run on a budget of steps (document 01, "Runner" and "Judging order" 12 to 15).
 -- Trusted. Assumes nothing.
---     End          a run ends, or stops by a refusal at a place, with the steps left and the store then
---     step         13 first, then 14 and 15, and then what the step does
---     assigns      an assignment, at a place
---     turns        a while from its test on
---     run          the command whose first word stands at a place
-use mathlib.Core.Bool.{Bool, true, false, cond}
+--     End               a run ends, or stops by a refusal at a place, with the steps left and the store then
+--     onEnded           going on where a run ended
+--     step              13 first, then 14 and 15, and then what the step does
+--     given, assigns    the store after an assignment; an assignment, at a place
+--     turns             a while from its test on
+--     run               the command whose first word stands at a place
+use mathlib.Core.Bool.{true, false, cond}
 use Prim.Native.Nat.{ℕ, zero, suc, _+_, _*_}
 use lib.ListN.{length, set}
 use lib.Seq.{paste}
@@ -41,9 +42,9 @@ given (toArray a e) m = onWorked (evaluate e (storeOf m)) λ f.
 abbrev pub assigns : Assignment → ℕ → ℕ → Lent → End
 assigns a at n m = step at n m (given a m) λ m′ l. ended l m′
 
--- each turn takes a step, so there are no more turns than steps left
+-- each turn takes a step, so there are no more turns than steps left: at zero none is left
 unfoldable pub turns : ℕ → Expr Boolean → (ℕ → Lent → End) → ℕ → ℕ → Lent → End
-turns zero b body at n m = stopped 13 at n m
+turns zero b body at n m = stopped 13 at 0 m
 turns (suc k) b body at n m = step at n m (evaluate b (storeOf m)) λ v l.
     elim v [ true ↦ onEnded (body l m) (turns k b body at) | false ↦ ended l m ]
 

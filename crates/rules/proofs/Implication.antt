@@ -4,12 +4,13 @@
 --     eachImpliesFalse-passes    the same of each antecedent of a set and false
 --     implies-holds              in every store where the first boolean is true, so is the second
 --     eachImpliesFalse-agree     all stores agree as a set demands whose antecedents imply false
+--     itself-not-implied         true does not imply x = x
 use mathlib.Core.Path.{_≡_, refl, sym, _∙_, ap, ap₂}
 use mathlib.Core.Bool.{Bool, true, false, not, _&&_, _||_, false≢true}
 use mathlib.Core.List.{List, [], _∷_}
 use lib.ListN.{length}
 use Rattle.laws.proofs.Decides.{Decides, leb-decides}
-use Rattle.language.specs.Syntax.{Boolean, Expr, compare, truth, and, or, neg}
+use Rattle.language.specs.Syntax.{equal, Boolean, Expr, scalar, compare, truth, and, or, neg}
 use Rattle.language.specs.Store.{Store, value}
 use Rattle.rules.specs.Words.{Word}
 use Rattle.rules.specs.Assertion.{Members, Agree}
@@ -64,3 +65,8 @@ eachImpliesFalse-agree Γ (m ∷ q) h s t = (
   λ i j. absurd (false≢true (implies-holds Γ (m .antecedent) (truth false) (h .0) s i)),
   eachImpliesFalse-agree Γ q (h .1) s t,
 )
+
+-- x = x is one comparison like others, so true does not imply it
+pub itself-not-implied : (Γ : Context) → Implies Γ (truth true) (compare equal (scalar 0) (scalar 0)) → ⊥
+unfolding truthUnder
+itself-not-implied Γ h = false≢true (h .implied (λ w. false) refl)
