@@ -13,11 +13,12 @@ use Rattle.rules.proofs.Sound.{flow-secure}
 use Rattle.layout.specs.Reading.{Reading, read, fault}
 use Rattle.layout.specs.File.{File, fileOf}
 use Rattle.layout.specs.Verdict.{judged, verdictOf}
+use Rattle.layout.proofs.Counted.{Counts, file-counts}
 use Rattle.claims.specs.Check.{Derives, Demand2, Demand3}
 
-counted : (v : Verdict) → Accepts v → (n : ℕ) × (v ≡ accepted n)
-counted (accepted n) h = (n, refl)
-counted (refused k i) h = absurd h
+acceptance : (v : Verdict) → Accepts v → (n : ℕ) × (v ≡ accepted n)
+acceptance (accepted n) h = (n, refl)
+acceptance (refused k i) h = absurd h
 
 module _ (limits : Limits) (bytes : List ℕ) where
   -- what is read, when it is accepted, derives its contract
@@ -35,8 +36,10 @@ module _ (limits : Limits) (bytes : List ℕ) where
   unfolding verdictOf
   demand-2 = record {
     sound = λ n h. derives (fileOf limits bytes) refl (subst Accepts (sym h) tt);
-    complete = λ d. counted _ (subst (λ r. Accepts (judged (record { limits = limits }) r)) (sym (d .reads))
+    complete = λ d. acceptance _ (subst (λ r. Accepts (judged (record { limits = limits }) r)) (sym (d .reads))
         (flow-judged (record { limits = limits }) _ _ _ _ .complete (d .derivation)));
+    counted = λ n h f end e. file-counts (record { limits = limits }) limits f .counted n
+        (sym (ap (judged (record { limits = limits })) e) ∙ h);
   }
 
   pub demand-3 : Demand3 limits bytes

@@ -1,17 +1,20 @@
 -- Demands 2 and 3 of the check on bytes.
 -- Trusted. Assumes nothing.
 --     Derives      the file reads by document 01 and its evidence is a derivation by its rules
---     Demand2      it is accepted exactly then
+--     Demand2      it is accepted exactly then, with the count of its evidence words
 --     Demand3      every accepted file is secure
 use mathlib.Core.Path.{_≡_}
 use mathlib.Core.List.{List}
 use Prim.Native.Nat.{ℕ}
-use Rattle.rules.specs.Assertion.{Members, Secure}
-use Rattle.rules.specs.Context.{Limits, Context}
+use Rattle.rules.specs.Assertion.{Secure}
+use Rattle.rules.specs.Context.{Limits}
 use Rattle.rules.specs.Derivation.{Flow}
-use Rattle.rules.specs.Judge.{Verdict, accepted, refused}
-use Rattle.layout.specs.Reading.{Reading, read, fault}
+use Rattle.rules.specs.Judge.{accepted}
+use Rattle.layout.specs.Reading.{read}
+use Rattle.layout.specs.EvidenceWords.{joined}
 use Rattle.layout.specs.File.{File, fileOf}
+use Rattle.layout.specs.FileWords.{fileParts}
+use Rattle.layout.specs.Counted.{countEvidence}
 use Rattle.layout.specs.Verdict.{verdictOf}
 
 pub record Derives (limits : Limits) (bytes : List ℕ) : Type 0 where
@@ -23,6 +26,9 @@ pub record Derives (limits : Limits) (bytes : List ℕ) : Type 0 where
 pub record Demand2 (limits : Limits) (bytes : List ℕ) : Type 0 where
   pub sound : (n : ℕ) → verdictOf limits bytes ≡ accepted n → Derives limits bytes
   pub complete : Derives limits bytes → (n : ℕ) × (verdictOf limits bytes ≡ accepted n)
+  -- the count is that of the evidence words among the words of the file's parts
+  pub counted : (n : ℕ) → verdictOf limits bytes ≡ accepted n → (f : File) (end : ℕ) →
+      fileOf limits bytes ≡ read f end → n ≡ countEvidence (joined (fileParts limits f))
 
 -- any two ending runs from stores that agree as the precondition demands end in stores that agree as the postcondition
 -- demands

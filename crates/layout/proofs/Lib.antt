@@ -19,3 +19,4 @@ pub mod Back
 pub mod BackEvidence
 pub mod Faults
 pub mod WholeFile
+pub mod Counted

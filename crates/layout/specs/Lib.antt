@@ -20,4 +20,5 @@ pub mod Standing
 pub mod For
 pub mod File
 pub mod FileWords
+pub mod Counted
 pub mod Verdict
