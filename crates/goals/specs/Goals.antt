@@ -39,6 +39,7 @@ verdict Γ (pre k φ c φ′) = judgePre Γ k φ c φ′
 
 pub record At (file : List ℕ) (x : Part) (at : ℕ) : Type 0 where
   pub levels : ℕ
+  pub low : levels ≤ 256
   pub end : ℕ
   pub stands : PartStands file x levels at end
 
