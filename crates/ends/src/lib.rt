@@ -1,1 +1,60 @@
-// Definitions in specs/; no code yet.
+// Where each expression, command and set of a file ends, found in one pass from the last word to the first.
+ghost use mathlib.Core.Path.{_≡_};
+ghost use Prim.Native.Nat.{_/_, _%_, _≤_};
+ghost use lib.ListN.{length};
+ghost use Rattle.ends.specs.Sizes.{countOf, follow, CanFill, Filled};
+
+// How many expressions and commands follow a word (document 01, "Layout").
+fn parts(x: u32) -> usize
+    ensures { λ r. ⌜ r ≡ countOf (x / 67108864) (x % 67108864) ⌝ }
+{
+    let kind = x / 67108864;
+    match kind {
+        3 => 2,
+        4 => 2,
+        8 => 2,
+        10 => 2,
+        11 => 2,
+        12 => 1,
+        18 => 3,
+        25 => 2,
+        26 => 1,
+        27 => 1,
+        28 => 1,
+        29 => 3,
+        30 => 2,
+        31 => 1,
+        32 => 2 * ((x % 67108864) as usize),
+        _ => 0,
+    }
+}
+
+// From a place on, past so many parts, or to the end of the words.
+fn past(ends: &[u32], words: usize, from: usize, count: usize) -> usize
+    requires { ⌜ words ≤ length (now ends) ⌝ }
+    ensures { λ r. ⌜ r ≡ follow (now (ends .entry)) words count from ⌝ }
+{
+    let mut at = from;
+    let mut left = count;
+    while 0 < left {
+        if words <= at {
+            return at;
+        }
+        at = ends[at] as usize;
+        left -= 1;
+    }
+    at
+}
+
+// The ends of all that starts in the words.
+pub fn fill_ends(w: &[u32], ends: &mut [u32])
+    requires { ⌜ CanFill (now w) (now ends) ⌝ }
+    ensures { λ r. ⌜ Filled (now (w .entry)) (now (ends .entry)) (now (ends .exit)) ⌝ }
+{
+    let mut i = w.len();
+    while 0 < i {
+        i -= 1;
+        let end = past(ends, w.len(), i + 1, parts(w[i]));
+        ends[i] = end as u32;
+    }
+}

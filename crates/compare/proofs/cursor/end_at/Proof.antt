@@ -1,0 +1,15 @@
+-- `compare::cursor::end_at` meets its contract.
+-- Assumes nothing.
+use borrow.Author.Needs.{needs}
+use native.Mathlib.Omega.{arith}
+use Rattle.compare.proofs.cursor.end_at.Statement.{statement}
+use Rattle.compare.proofs.cursor.end_at.Tie as tie
+
+pub end-at-spec : {M : Type 1} → statement M
+end-at-spec =
+    tie.close
+    (tie.spec
+    (λ c. search needs)
+    (λ c. search needs)
+    (λ c. omega (arith, c .shared-slice-known .given (c .before .args .at)))
+    (λ c. search needs))

@@ -1,0 +1,40 @@
+-- Numbers matched along a file from a place on, also with others in the place of a word (document 01 compares by words).
+-- Working: `matched-all` and `exchanged-replace` in proofs/ say when all of a tree's numbers are matched. Assumes nothing.
+--     numbers, between        the numbers of words; of a file from a place up to another
+--     matchedWord, matched    a cursor after one number, after a list of them
+--     putFor, exchanged       what is put for a word; for each of a list
+use mathlib.Core.Bool.{true, false, _&&_, cond}
+use mathlib.Core.List.{List, [], _∷_, _++_}
+use Prim.Native.Nat.{ℕ, _+_}
+use lib.Dec.{eqb, ltb}
+use lib.ListN.{length, getD}
+use lib.Seq.{slice}
+use Rattle.rules.specs.Words.{Word}
+use Rattle.layout.specs.Spelling.{encode}
+use Rattle.compare.specs.declared.cursor.Match.{Match}
+use Rattle.compare.specs.declared.cursor.Put.{Put}
+
+unfoldable pub numbers : List Word → List ℕ
+numbers [] = []
+numbers (v ∷ l) = encode v ∷ numbers l
+
+unfoldable pub between : List ℕ → ℕ → ℕ → List ℕ
+between file a e = slice a e file
+
+-- past the number if it stands at the cursor; else the cursor stays, and nothing is matched from there on
+unfoldable pub matchedWord : List ℕ → Match → ℕ → Match
+matchedWord file m x =
+    cond (m .same && (ltb (m .at) (length file) && eqb (getD file (m .at) 0) x))
+    (record { same = true; at = m .at + 1 })
+    (record { same = false; at = m .at })
+
+unfoldable pub matched : List ℕ → Match → List ℕ → Match
+matched file m [] = m
+matched file m (x ∷ l) = matched file (matchedWord file m x) l
+
+unfoldable pub putFor : List ℕ → Put → ℕ → List ℕ
+putFor file put x = cond (eqb x (put .word)) (between file (put .from) (put .to)) (x ∷ [])
+
+unfoldable pub exchanged : List ℕ → Put → List ℕ → List ℕ
+exchanged file put [] = []
+exchanged file put (x ∷ l) = putFor file put x ++ exchanged file put l

@@ -1,0 +1,73 @@
+use crate::cursor::Match;
+use crate::cursor::Put;
+use crate::cursor::end_at;
+use crate::cursor::match_head;
+ghost use Rattle.language.specs.Syntax.{Arithmetic, Boolean, Array};
+ghost use Rattle.compare.specs.Places.{CanMatch, CanMatchAny, Matched};
+
+// The words of the expression at b, with those between put.from and put.to in the place of put.word, stand at the cursor.
+// The kind of its first word says which sort it is: under 8 arithmetic, under 16 boolean.
+pub fn match_expression(w: &[u32], ends: &[u32], m: Match, b: usize, put: Put) -> Match
+    requires { ⌜ CanMatchAny (now w) (now ends) b put ⌝ }
+    ensures { λ r. ⌜ Matched (now (w .entry)) (now (ends .entry)) m b put r ⌝ }
+{
+    let kind = w[b] / 67108864;
+    if kind < 8 {
+        return match_arithmetic(w, ends, m, b, put);
+    }
+    if kind < 16 {
+        return match_boolean(w, ends, m, b, put);
+    }
+    match_array(w, ends, m, b, put)
+}
+
+pub fn match_arithmetic(w: &[u32], ends: &[u32], m: Match, b: usize, put: Put) -> Match
+    requires { ⌜ CanMatch (now w) (now ends) Arithmetic b put ⌝ }
+    ensures { λ r. ⌜ Matched (now (w .entry)) (now (ends .entry)) m b put r ⌝ }
+{
+    let x = w[b];
+    let head = match_head(w, m, x, put);
+    // 1 constant and 2 scalar have no operands; 3 operator and 4 select have two
+    if x / 67108864 < 3 {
+        return head;
+    }
+    let left = match_expression(w, ends, head, b + 1, put);
+    let second = end_at(ends, b + 1);
+    match_expression(w, ends, left, second, put)
+}
+
+pub fn match_boolean(w: &[u32], ends: &[u32], m: Match, b: usize, put: Put) -> Match
+    requires { ⌜ CanMatch (now w) (now ends) Boolean b put ⌝ }
+    ensures { λ r. ⌜ Matched (now (w .entry)) (now (ends .entry)) m b put r ⌝ }
+{
+    let x = w[b];
+    let head = match_head(w, m, x, put);
+    let kind = x / 67108864;
+    // 9 truth has no operand, 12 not has one; 8 comparison, 10 and, 11 or have two
+    if kind == 9 {
+        return head;
+    }
+    if kind == 12 {
+        return match_expression(w, ends, head, b + 1, put);
+    }
+    let left = match_expression(w, ends, head, b + 1, put);
+    let second = end_at(ends, b + 1);
+    match_expression(w, ends, left, second, put)
+}
+
+pub fn match_array(w: &[u32], ends: &[u32], m: Match, b: usize, put: Put) -> Match
+    requires { ⌜ CanMatch (now w) (now ends) Array b put ⌝ }
+    ensures { λ r. ⌜ Matched (now (w .entry)) (now (ends .entry)) m b put r ⌝ }
+{
+    let x = w[b];
+    let head = match_head(w, m, x, put);
+    // 16 identifier and 17 zero everywhere have no operands; 18 update has three
+    if x / 67108864 < 18 {
+        return head;
+    }
+    let array = match_expression(w, ends, head, b + 1, put);
+    let second = end_at(ends, b + 1);
+    let index = match_expression(w, ends, array, second, put);
+    let third = end_at(ends, second);
+    match_expression(w, ends, index, third, put)
+}

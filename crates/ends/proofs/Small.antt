@@ -1,0 +1,128 @@
+-- What stands in a file has payloads of 26 bits, so that the kind and the payload of each of its words are those spelled.
+-- Assumes nothing.
+--     Small, AllSmall                                 the payload of a word, of each of some words
+--     expression-small, command-small, set-small      of what fits
+--     kindOf, contentOf, kind-at, content-at          the kind and the payload of a word, and of the number at its place
+use mathlib.Core.Path.{_≡_, refl, _∙_}
+use mathlib.Core.Bool.{Bool, true, false}
+use mathlib.Core.List.{List, [], _∷_, _++_}
+use Prim.Native.Nat.{ℕ, zero, suc, _+_, _*_, _<_, _≤_}
+use native.Mathlib.Omega.{arith}
+use lib.IntN.{ℤ}
+use Rattle.language.specs.Syntax.{Operator, plus, minus, times, Comparison, equal, less, atMost}
+use Rattle.language.specs.Syntax.{Sort, Expr, constant, scalar, operation, select, compare, truth, and, or, neg}
+use Rattle.language.specs.Syntax.{array, zeros, update, toScalar, toArray}
+use Rattle.language.specs.Syntax.{Command, skip, sequence, assert, assign, ifElse, while, for}
+use Rattle.rules.specs.Words.{Word, word, forWord, words, commandWords, operatorPayload, comparisonPayload, truthPayload}
+use Rattle.rules.specs.Assertion.{Member, Members}
+use Rattle.rules.specs.Context.{Limits}
+use Rattle.layout.specs.Bytes.{numberAt, kindAt, payloadAt}
+use Rattle.layout.specs.Spelling.{payloadOf, encode, FitsExpression, FitsCommand, membersWords, setWords, FitsMembers, FitsSet}
+use Rattle.layout.proofs.Words.{quotient, remainder, payload-small}
+
+abbrev pub Small : Word → Type 0
+Small (word k z) = payloadOf z < 67108864
+Small (forWord q m) = (q ≤ 31) × (m ≤ 31)
+
+abbrev pub AllSmall : List Word → Type 0
+AllSmall [] = Unit {0}
+AllSmall (w ∷ l) = Small w × AllSmall l
+
+small-append : (l m : List Word) → AllSmall l → AllSmall m → AllSmall (l ++ m)
+small-append [] m h k = k
+small-append (w ∷ l) m h k = (h .0, small-append l m (h .1) k)
+
+operator-small : (o : Operator) → payloadOf (operatorPayload o) < 67108864
+operator-small plus = omega arith
+operator-small minus = omega arith
+operator-small times = omega arith
+
+comparison-small : (r : Comparison) → payloadOf (comparisonPayload r) < 67108864
+comparison-small equal = omega arith
+comparison-small less = omega arith
+comparison-small atMost = omega arith
+
+truth-small : (t : Bool) → payloadOf (truthPayload t) < 67108864
+truth-small false = omega arith
+truth-small true = omega arith
+
+number-small : (x : ℕ) → x ≤ 31 → x < 67108864
+number-small x h = omega arith
+
+pub expression-small : (d : ℕ) {j : Sort} (e : Expr j) → FitsExpression e d → AllSmall (words e)
+unfolding words FitsExpression
+expression-small zero e h = absurd h
+expression-small (suc d) (constant z) h = (payload-small z h, tt)
+expression-small (suc d) (scalar x) h = (number-small x h, tt)
+expression-small (suc d) (operation o a b) h =
+    (operator-small o, small-append (words a) (words b) (expression-small d a (h .0)) (expression-small d b (h .1)))
+expression-small (suc d) (select a i) h =
+    (omega arith, small-append (words a) (words i) (expression-small d a (h .0)) (expression-small d i (h .1)))
+expression-small (suc d) (compare r a b) h =
+    (comparison-small r, small-append (words a) (words b) (expression-small d a (h .0)) (expression-small d b (h .1)))
+expression-small (suc d) (truth t) h = (truth-small t, tt)
+expression-small (suc d) (and a b) h =
+    (omega arith, small-append (words a) (words b) (expression-small d a (h .0)) (expression-small d b (h .1)))
+expression-small (suc d) (or a b) h =
+    (omega arith, small-append (words a) (words b) (expression-small d a (h .0)) (expression-small d b (h .1)))
+expression-small (suc d) (neg b) h = (omega arith, expression-small d b h)
+expression-small (suc d) (array a) h = (number-small a h, tt)
+expression-small (suc d) zeros h = (omega arith, tt)
+expression-small (suc d) (update a i b) h = (
+  omega arith,
+  small-append (words a) (words i ++ words b) (expression-small d a (h .0))
+      (small-append (words i) (words b) (expression-small d i (h .1 .0)) (expression-small d b (h .1 .1))),
+)
+
+pub command-small : (d : ℕ) (c : Command) → FitsCommand c d → AllSmall (commandWords c)
+unfolding commandWords FitsCommand
+command-small zero c h = absurd h
+command-small (suc d) skip h = (omega arith, tt)
+command-small (suc d) (sequence c₁ c₂) h =
+    (omega arith, small-append (commandWords c₁) (commandWords c₂) (command-small d c₁ (h .0)) (command-small d c₂ (h .1)))
+command-small (suc d) (assert b) h = (omega arith, expression-small d b h)
+command-small (suc d) (assign (toScalar x e)) h = (number-small x (h .0), expression-small d e (h .1))
+command-small (suc d) (assign (toArray a e)) h = (number-small a (h .0), expression-small d e (h .1))
+command-small (suc d) (ifElse b c₁ c₂) h = (
+  omega arith,
+  small-append (words b) (commandWords c₁ ++ commandWords c₂) (expression-small d b (h .0))
+      (small-append (commandWords c₁) (commandWords c₂) (command-small d c₁ (h .1 .0)) (command-small d c₂ (h .1 .1))),
+)
+command-small (suc d) (while b c) h =
+    (omega arith, small-append (words b) (commandWords c) (expression-small d b (h .0)) (command-small d c (h .1)))
+command-small (suc d) (for q m c) h = (h .0, command-small d c (h .1))
+
+pub members-small : (d : ℕ) (m : Members) → FitsMembers m d → AllSmall (membersWords m)
+members-small d [] h = tt
+members-small d (m ∷ l) h =
+    small-append (words (m .antecedent) ++ words (m .consequent)) (membersWords l)
+    (small-append (words (m .antecedent)) (words (m .consequent)) (expression-small d (m .antecedent) (h .0 .0))
+    (expression-small d (m .consequent) (h .0 .1)))
+    (members-small d l (h .1))
+
+pub set-small : (limits : Limits) (d : ℕ) (m : Members) → FitsSet limits m d → AllSmall (setWords m)
+unfolding FitsSet
+set-small limits zero m h = absurd h
+set-small limits (suc d) m h = (h .0 .1, members-small d m (h .1))
+
+abbrev pub kindOf : Word → ℕ
+kindOf (word k z) = k
+kindOf (forWord q m) = 31
+
+abbrev pub contentOf : Word → ℕ
+contentOf (word k z) = payloadOf z
+contentOf (forWord q m) = q + 32 * m
+
+content-small : (w : Word) → Small w → contentOf w < 67108864
+content-small (word k z) h = h
+content-small (forWord q m) h = omega arith
+
+encoded : (w : Word) → encode w ≡ kindOf w * 67108864 + contentOf w
+encoded (word k z) = refl
+encoded (forWord q m) = refl
+
+pub kind-at : (file : List ℕ) (at : ℕ) (w : Word) → numberAt file at ≡ encode w → Small w → kindAt file at ≡ kindOf w
+kind-at file at w e h = quotient (kindOf w) (contentOf w) (numberAt file at) (e ∙ encoded w) (content-small w h)
+
+pub content-at : (file : List ℕ) (at : ℕ) (w : Word) → numberAt file at ≡ encode w → Small w → payloadAt file at ≡ contentOf w
+content-at file at w e h = remainder (kindOf w) (contentOf w) (numberAt file at) (e ∙ encoded w) (content-small w h)

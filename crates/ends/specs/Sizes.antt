@@ -1,0 +1,61 @@
+-- The place past what starts at each word of a file, found from the last word to the first (document 01, "Layout").
+-- Working: `sizes-ends` of proofs/Ends says that the list made of these places is `EndsOf` the file. Assumes nothing.
+--     countOf        how many expressions and commands follow a word, by its kind and payload
+--     past, sizes    the words of the next parts, by the sizes of what starts at each place; those sizes
+--     endPlaces      the places past what starts at each word
+--     follow         from a place on, past so many parts, by a list of ends
+--     CanFill        a list of ends has room for the words of a file
+--     Filled         what is left of a list of ends when they are written to it
+use mathlib.Core.Path.{_≡_}
+use mathlib.Core.Bool.{true, false, cond}
+use mathlib.Core.List.{List, [], _∷_, _++_}
+use Prim.Native.Nat.{ℕ, zero, suc, _+_, _*_, _/_, _%_, _<_, _≤_}
+use lib.Dec.{eqb, ltb}
+use lib.ListN.{length, getD, drop}
+use Rattle.ends.specs.Ends.{EndsOf}
+
+-- the count beside a kind, or 0
+abbrev pub countAt : ℕ → List (ℕ × ℕ) → ℕ
+countAt k [] = 0
+countAt k (e ∷ l) = cond (eqb k (e .0)) (e .1) (countAt k l)
+
+-- a set has two expressions for each of its members; words of other kinds are taken alone
+abbrev pub counts : ℕ → List (ℕ × ℕ)
+counts p =
+    (32, 2 * p) ∷ (31, 1) ∷ (30, 2) ∷ (29, 3) ∷ (28, 1) ∷ (27, 1) ∷ (26, 1) ∷ (25, 2) ∷ (18, 3) ∷ (12, 1) ∷ (11, 2)
+    ∷ (10, 2) ∷ (8, 2) ∷ (4, 2) ∷ (3, 2) ∷ []
+
+unfoldable pub countOf : ℕ → ℕ → ℕ
+countOf k p = countAt k (counts p)
+
+-- `past n m`: the words of the next n parts, where m has the sizes of what starts at each place
+unfoldable pub past : ℕ → List ℕ → ℕ
+past zero m = 0
+past (suc n) [] = 0
+past (suc n) (s ∷ m) = s + past n (drop s (s ∷ m))
+
+unfoldable pub sizes : List ℕ → List ℕ
+sizes [] = []
+sizes (x ∷ l) = suc (past (countOf (x / 67108864) (x % 67108864)) (sizes l)) ∷ sizes l
+
+-- sizes as places, of which the first is `at`
+unfoldable pub placed : ℕ → List ℕ → List ℕ
+placed at [] = []
+placed at (s ∷ m) = (at + s) ∷ placed (suc at) m
+
+abbrev pub endPlaces : List ℕ → List ℕ
+endPlaces file = placed 0 (sizes file)
+
+-- of a file of n words
+unfoldable pub follow : List ℕ → ℕ → ℕ → ℕ → ℕ
+follow ends n zero at = at
+follow ends n (suc k) at = elim (ltb at n) [ true ↦ follow ends n k (getD ends at 0) | false ↦ at ]
+
+pub record CanFill (file ends : List ℕ) : Type 0 where
+  pub long : length file ≤ length ends
+  pub small : length file < 4294967296
+
+-- what stands past the file's words is as it was
+pub record Filled (file before after : List ℕ) : Type 0 where
+  pub content : after ≡ endPlaces file ++ drop (length file) before
+  pub ends : EndsOf file after

@@ -1,0 +1,250 @@
+-- What the scans find where an expression, a command or a set stands.
+-- Assumes nothing.
+--     anyOf, any-stands                        a test passes at one of some words; a scan of where they stand
+--     expression-quiet                         a test of no expression's kinds passes at none
+--     modified-tree, unmarked-tree, closed-tree
+--                                              the contracts of the scans
+use mathlib.Core.Path.{_≡_, refl, sym, ap, ap₂, _∙_}
+use mathlib.Core.Bool.{Bool, true, false, not, _&&_, _||_, or-assoc, or-false}
+use mathlib.Core.List.{List, [], _∷_, _++_, append-assoc}
+use Prim.Native.Nat.{ℕ, zero, suc, _+_, _*_, _-_, _%_, _<_, _≤_}
+use native.Mathlib.Omega.{arith}
+use native.Mathlib.Nat.{div-eq-of-lt}
+use lib.ListN.{length}
+use lib.Pow.{pow-pos}
+use Rattle.language.specs.Syntax.{Sort, Expr, constant, scalar, operation, select, compare, truth, and, or, neg}
+use Rattle.language.specs.Syntax.{array, zeros, update, toScalar, toArray}
+use Rattle.language.specs.Syntax.{Command, skip, sequence, assert, assign, ifElse, while, for}
+use Rattle.language.specs.Modifies.{Identifier, scalarOf, arrayOf, sameIdentifier, modifies, identifiers}
+use Rattle.rules.specs.Words.{Word, words, commandWords}
+use Rattle.rules.specs.Assertion.{Member, Members}
+use Rattle.rules.specs.Context.{Limits}
+use Rattle.rules.specs.Sets.{setIdentifiers}
+use Rattle.rules.specs.Tests.{unmodified, isEmpty}
+use Rattle.layout.specs.Spelling.{FitsExpression, FitsCommand, memberWords, membersWords, setWords, FitsMembers, FitsSet}
+use Rattle.layout.specs.Standing.{StandsTo}
+use Rattle.layout.proofs.Stands.{stands-end}
+use Rattle.ends.proofs.Small.{AllSmall, kindOf, contentOf, kind-at, content-at, expression-small, command-small, set-small}
+use Rattle.scan.specs.Mask.{bit, Low, slot, ModifiedBy}
+use Rattle.scan.specs.Scan.{written, mentioned, ifAny, anyIn, marked, marksIn, Modified, Unmarked, Closed}
+use Rattle.scan.proofs.Bits.{bit-ones}
+use Rattle.scan.proofs.Ranges.{any-none, any-next}
+use Rattle.scan.proofs.Marks.{assigns, marks-any}
+
+module _ (t : ℕ → ℕ → Bool) where
+  abbrev pub anyOf : List Word → Bool
+  anyOf [] = false
+  anyOf (w ∷ l) = t (kindOf w) (contentOf w) || anyOf l
+
+  pub any-append : (l m : List Word) → anyOf (l ++ m) ≡ (anyOf l || anyOf m)
+  any-append [] m = refl
+  any-append (w ∷ l) m =
+      ap (λ b. t (kindOf w) (contentOf w) || b) (any-append l m)
+      ∙ sym (or-assoc (t (kindOf w) (contentOf w)) (anyOf l) (anyOf m))
+
+  -- words one after the other, of which each part is known
+  pub appended : (l m : List Word) {a b : Bool} → anyOf l ≡ a → anyOf m ≡ b → anyOf (l ++ m) ≡ (a || b)
+  appended l m h k = any-append l m ∙ ap₂ (λ a b. a || b) h k
+
+  pub any-stands : (file : List ℕ) (at : ℕ) (l : List Word) (p : ℕ) → StandsTo file at l p → AllSmall l →
+      anyIn t file (p - at) at ≡ anyOf l
+  any-stands file at [] p h k = any-none t file at p (omega arith)
+  any-stands file at (w ∷ l) p h k =
+      let e = stands-end file at (w ∷ l) p h in
+      any-next t file at p (omega arith)
+      ∙ ap₂ (λ a b. a || b) (ap₂ t (kind-at file at w (h .1) (k .0)) (content-at file at w (h .1) (k .0)))
+      (any-stands file (at + 1) l p (h .2) (k .1))
+
+  -- the kinds of expressions' words
+  pub record Quiet : Type 0 where
+    pub none : (p : ℕ) →
+        (t 1 p ≡ false) × (t 2 p ≡ false) × (t 3 p ≡ false) × (t 4 p ≡ false) × (t 8 p ≡ false) × (t 9 p ≡ false)
+        × (t 10 p ≡ false) × (t 11 p ≡ false) × (t 12 p ≡ false) × (t 16 p ≡ false) × (t 17 p ≡ false) × (t 18 p ≡ false)
+
+  both : {a b : Bool} → a ≡ false → b ≡ false → (a || b) ≡ false
+  both h k = cc
+
+  pub expression-quiet : Quiet → {j : Sort} (e : Expr j) → anyOf (words e) ≡ false
+  unfolding words
+  expression-quiet q (constant z) = both (q .none _ .0) refl
+  expression-quiet q (scalar x) = both (q .none _ .1) refl
+  expression-quiet q (operation o a b) =
+      both (q .none _ .2) (appended (words a) (words b) (expression-quiet q a) (expression-quiet q b))
+  expression-quiet q (select a i) =
+      both (q .none _ .3) (appended (words a) (words i) (expression-quiet q a) (expression-quiet q i))
+  expression-quiet q (compare r a b) =
+      both (q .none _ .4) (appended (words a) (words b) (expression-quiet q a) (expression-quiet q b))
+  expression-quiet q (truth v) = both (q .none _ .5) refl
+  expression-quiet q (and a b) =
+      both (q .none _ .6) (appended (words a) (words b) (expression-quiet q a) (expression-quiet q b))
+  expression-quiet q (or a b) =
+      both (q .none _ .7) (appended (words a) (words b) (expression-quiet q a) (expression-quiet q b))
+  expression-quiet q (neg b) = both (q .none _ .8) (expression-quiet q b)
+  expression-quiet q (array a) = both (q .none _ .9) refl
+  expression-quiet q zeros = both (q .none _ .10) refl
+  expression-quiet q (update a i b) =
+      both (q .none _ .11)
+      (appended (words a) (words i ++ words b) (expression-quiet q a)
+      (appended (words i) (words b) (expression-quiet q i) (expression-quiet q b)))
+
+-- a number below 32 is its own remainder
+low-number : (x : ℕ) → x ≤ 31 → x % 32 ≡ x
+low-number x h = omega arith
+
+for-number : (q m : ℕ) → q ≤ 31 → (q + 32 * m) % 32 ≡ q
+for-number q m h = omega arith
+
+module _ (x : Identifier) where
+  written-quiet : Quiet (assigns x)
+  unfolding written
+  written-quiet =
+      record { none = λ p. (refl, refl, refl, refl, refl, refl, refl, refl, refl, refl, refl, refl) }
+
+  -- a word that assigns y, before words that assign nothing
+  assigned : (y : Identifier) {b : Bool} → b ≡ false → (sameIdentifier y x || b) ≡ sameIdentifier y x
+  assigned y h = ap (λ b. sameIdentifier y x || b) h ∙ or-false (sameIdentifier y x)
+
+  command-assigns : (d : ℕ) (c : Command) → FitsCommand c d → anyOf (assigns x) (commandWords c) ≡ modifies c x
+  unfolding commandWords FitsCommand written
+  command-assigns zero c h = absurd h
+  command-assigns (suc d) skip h = refl
+  command-assigns (suc d) (sequence c₁ c₂) h =
+      appended (assigns x) (commandWords c₁) (commandWords c₂) (command-assigns d c₁ (h .0)) (command-assigns d c₂ (h .1))
+  command-assigns (suc d) (assert b) h = expression-quiet (assigns x) written-quiet b
+  command-assigns (suc d) (assign (toScalar y e)) h =
+      rw (low-number y (h .0)) (assigned (scalarOf y) (expression-quiet (assigns x) written-quiet e))
+  command-assigns (suc d) (assign (toArray y e)) h =
+      rw (low-number y (h .0)) (assigned (arrayOf y) (expression-quiet (assigns x) written-quiet e))
+  command-assigns (suc d) (ifElse b c₁ c₂) h =
+      appended (assigns x) (words b) (commandWords c₁ ++ commandWords c₂) (expression-quiet (assigns x) written-quiet b)
+      (appended (assigns x) (commandWords c₁) (commandWords c₂) (command-assigns d c₁ (h .1 .0))
+      (command-assigns d c₂ (h .1 .1)))
+  command-assigns (suc d) (while b c) h =
+      appended (assigns x) (words b) (commandWords c) (expression-quiet (assigns x) written-quiet b)
+      (command-assigns d c (h .1))
+  command-assigns (suc d) (for q m c) h =
+      rw (for-number q m (h .0 .0)) (ap (λ b. sameIdentifier (scalarOf q) x || b) (command-assigns d c (h .1)))
+
+no-bit : (i : ℕ) → bit 0 i ≡ false
+unfolding bit
+no-bit i = rw (div-eq-of-lt (pow-pos i)) refl
+
+pub modified-tree : (file : List ℕ) (from to r : ℕ) → r ≡ marksIn file (to - from) from 0 → Modified file from to r
+modified-tree file from to r e = record {
+  command = λ c d s. record {
+    marks = λ x l.
+        ap (λ m. bit m (slot x)) e ∙ marks-any file x l (to - from) from 0
+        ∙ ap (λ b. b || anyIn (assigns x) file (to - from) from) (no-bit (slot x))
+        ∙ any-stands (assigns x) file from (commandWords c) to (s .stand) (command-small d c (s .fit))
+        ∙ command-assigns x d c (s .fit);
+  };
+}
+
+-- a test passes at one of some identifiers
+abbrev anyId : (Identifier → Bool) → List Identifier → Bool
+anyId f [] = false
+anyId f (x ∷ l) = f x || anyId f l
+
+id-append : (f : Identifier → Bool) (l m : List Identifier) → anyId f (l ++ m) ≡ (anyId f l || anyId f m)
+id-append f [] m = refl
+id-append f (x ∷ l) m = ap (λ b. f x || b) (id-append f l m) ∙ sym (or-assoc (f x) (anyId f l) (anyId f m))
+
+-- two tests of identifiers that agree where the numbers are low
+module _ (f g : Identifier → Bool) (h : (x : Identifier) → Low x → f x ≡ g x) where
+  abbrev mentions : ℕ → ℕ → Bool
+  mentions k p = ifAny f (mentioned k p)
+
+  two : (l m : List Word) (i j : List Identifier) → anyOf mentions l ≡ anyId g i → anyOf mentions m ≡ anyId g j →
+      anyOf mentions (l ++ m) ≡ anyId g (i ++ j)
+  two l m i j a b = appended mentions l m a b ∙ sym (id-append g i j)
+
+  alone : (x : Identifier) (k p : ℕ) → Low x → mentions k p ≡ f x → (mentions k p || false) ≡ (g x || false)
+  alone x k p l e = ap (λ b. b || false) (e ∙ h x l)
+
+  expression-mentions : (d : ℕ) {j : Sort} (e : Expr j) → FitsExpression e d →
+      anyOf mentions (words e) ≡ anyId g (identifiers e)
+  unfolding words FitsExpression identifiers mentioned
+  expression-mentions zero e l = absurd l
+  expression-mentions (suc d) (constant z) l = refl
+  expression-mentions (suc d) (scalar x) l =
+      alone (scalarOf x) 2 x l (ap (λ y. f (scalarOf y)) (low-number x l))
+  expression-mentions (suc d) (operation o a b) l =
+      two (words a) (words b) (identifiers a) (identifiers b) (expression-mentions d a (l .0)) (expression-mentions d b (l .1))
+  expression-mentions (suc d) (select a i) l =
+      two (words a) (words i) (identifiers a) (identifiers i) (expression-mentions d a (l .0)) (expression-mentions d i (l .1))
+  expression-mentions (suc d) (compare r a b) l =
+      two (words a) (words b) (identifiers a) (identifiers b) (expression-mentions d a (l .0)) (expression-mentions d b (l .1))
+  expression-mentions (suc d) (truth t) l = refl
+  expression-mentions (suc d) (and a b) l =
+      two (words a) (words b) (identifiers a) (identifiers b) (expression-mentions d a (l .0)) (expression-mentions d b (l .1))
+  expression-mentions (suc d) (or a b) l =
+      two (words a) (words b) (identifiers a) (identifiers b) (expression-mentions d a (l .0)) (expression-mentions d b (l .1))
+  expression-mentions (suc d) (neg b) l = expression-mentions d b l
+  expression-mentions (suc d) (array a) l =
+      alone (arrayOf a) 16 a l (ap (λ y. f (arrayOf y)) (low-number a l))
+  expression-mentions (suc d) zeros l = refl
+  expression-mentions (suc d) (update a i b) l =
+      two (words a) (words i ++ words b) (identifiers a) (identifiers i ++ identifiers b) (expression-mentions d a (l .0))
+      (two (words i) (words b) (identifiers i) (identifiers b) (expression-mentions d i (l .1 .0))
+      (expression-mentions d b (l .1 .1)))
+
+  members-mentions : (d : ℕ) (m : Members) → FitsMembers m d →
+      anyOf mentions (membersWords m) ≡ anyId g (setIdentifiers m)
+  unfolding setIdentifiers
+  members-mentions d [] l = refl
+  members-mentions d (m ∷ p) l =
+      let a = m .antecedent in
+      let c = m .consequent in
+      two (memberWords m) (membersWords p) (identifiers a ++ identifiers c) (setIdentifiers p)
+      (two (words a) (words c) (identifiers a) (identifiers c) (expression-mentions d a (l .0 .0))
+      (expression-mentions d c (l .0 .1))) (members-mentions d p (l .1))
+      ∙ ap (anyId g) (append-assoc (identifiers a) (identifiers c) (setIdentifiers p))
+
+  set-mentions : (limits : Limits) (d : ℕ) (m : Members) → FitsSet limits m d →
+      anyOf mentions (setWords m) ≡ anyId g (setIdentifiers m)
+  unfolding FitsSet mentioned
+  set-mentions limits zero m l = absurd l
+  set-mentions limits (suc d) m l = members-mentions d m (l .1)
+
+none-modified : (c : Command) (l : List Identifier) → not (anyId (modifies c) l) ≡ unmodified l c
+none-modified c [] = refl
+none-modified c (x ∷ l) = go (modifies c x) (none-modified c l)
+  where
+    go : (b : Bool) → not (anyId (modifies c) l) ≡ unmodified l c →
+        not (b || anyId (modifies c) l) ≡ (not b && unmodified l c)
+    go true h = refl
+    go false h = h
+
+none-there : (l : List Identifier) → not (anyId (λ x. true) l) ≡ isEmpty l
+none-there [] = refl
+none-there (x ∷ l) = refl
+
+pub unmarked-tree : (file : List ℕ) (from to mask : ℕ) (b : Bool) → b ≡ anyIn (marked mask) file (to - from) from →
+    Unmarked file from to mask (not b)
+unmarked-tree file from to mask b e = record {
+  expression = λ x d s c m.
+      ap not
+      (e ∙ any-stands (marked mask) file from (words x) to (s .stand) (expression-small d x (s .fit))
+      ∙ expression-mentions (λ i. bit mask (slot i)) (modifies c) (m .marks) d x (s .fit))
+      ∙ none-modified c (identifiers x);
+  set = λ limits q d s c m.
+      ap not
+      (e ∙ any-stands (marked mask) file from (setWords q) to (s .stand) (set-small limits d q (s .fit))
+      ∙ set-mentions (λ i. bit mask (slot i)) (modifies c) (m .marks) limits d q (s .fit))
+      ∙ none-modified c (setIdentifiers q);
+}
+
+slot-small : (x : Identifier) → Low x → slot x < 64
+slot-small (scalarOf x) h = omega arith
+slot-small (arrayOf a) h = omega arith
+
+pub closed-tree : (file : List ℕ) (from to : ℕ) (b : Bool) →
+    b ≡ anyIn (marked 18446744073709551615) file (to - from) from → Closed file from to (not b)
+closed-tree file from to b e = record {
+  expression = λ x d s.
+      ap not
+      (e ∙ any-stands (marked 18446744073709551615) file from (words x) to (s .stand) (expression-small d x (s .fit))
+      ∙ expression-mentions (λ i. bit 18446744073709551615 (slot i)) (λ i. true)
+      (λ i l. bit-ones (slot i) (slot-small i l)) d x (s .fit))
+      ∙ none-there (identifiers x);
+}

@@ -1,0 +1,39 @@
+-- `scan::range::marks` meets its contract: what the words left add to the mask at hand is what all of them make.
+-- The measure is the words left. Assumes nothing.
+use mathlib.Core.Path.{_≡_, refl, sym, ap, _∙_}
+use Prim.Native.Nat.{_-_}
+use native.Mathlib.Omega.{arith}
+use borrow.Author.Needs.{needs}
+use Rattle.scan.specs.Scan.{marksIn}
+use Rattle.scan.proofs.Ranges.{marks-none, marks-next}
+use Rattle.scan.proofs.range.marks.Statement.{statement}
+use Rattle.scan.proofs.range.marks.Tie as tie
+
+abbrev Inv-loop : tie.InvT-loop
+Inv-loop w from to mask₀ at₀ mask at = marksIn w (to - at) at mask ≡ marksIn w (to - from) from 0
+
+abbrev μ-loop : tie.MeasureT-loop
+μ-loop w from to mask₀ at₀ mask at = to - at
+
+loop-again : tie.Need-loop-again Inv-loop μ-loop
+loop-again c =
+    let test = c .before .before in
+    ap (marksIn _ _ _) (c .mark .ensures) ∙ sym (marks-next _ _ _ _ (test .loop-test .taken)) ∙ test .before .loop .inv
+
+returns : tie.Need-returns Inv-loop μ-loop
+returns c = sym (marks-none _ _ _ _ (c .loop-test .left)) ∙ c .before .loop .inv
+
+pub marks-spec : {M : Type 1} → statement M
+marks-spec =
+    tie.close
+    (tie.spec
+    Inv-loop
+    μ-loop
+    (λ c. refl)
+    (λ c. search needs)
+    (λ c. omega arith)
+    (λ c κs. search needs)
+    (λ c. omega arith)
+    (λ c. omega arith)
+    loop-again
+    returns)

@@ -1,0 +1,9 @@
+-- `scan::range::modified` meets its contract: the words assign what the command modifies.
+-- Assumes nothing.
+use borrow.Author.Needs.{needs}
+use Rattle.scan.proofs.Trees.{modified-tree}
+use Rattle.scan.proofs.range.modified.Statement.{statement}
+use Rattle.scan.proofs.range.modified.Tie as tie
+
+pub modified-spec : {M : Type 1} → statement M
+modified-spec = tie.close (tie.spec (λ c κs. search needs) (λ c. modified-tree _ _ _ _ (c .marks .ensures)))
