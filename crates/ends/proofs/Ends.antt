@@ -25,7 +25,8 @@ use Rattle.ends.proofs.Small.{expression-small, command-small}
 
 module _ {file : List ℕ} where
   -- what stands after a word
-  pub rest : {w : Word} {l : List Word} {F : Type 0} {at p : ℕ} → Stands file (w ∷ l) F at p → Stands file l F (at + 1) p
+  pub rest : {w : Word} {l : List Word} {F : Type 0} {at p : ℕ} → Stands file (w ∷ l) F at p →
+      Stands file l F (at + 1) p
   rest s = record { stand = s .stand .2; fit = s .fit }
 
   -- without a fact that comes first
@@ -87,21 +88,26 @@ module _ (file : List ℕ) where
       by-word 0 s (expression-small (suc d) (scalar x) (s .fit) .0) refl (ended (s .stand .2))
   expression-sized (suc d) (operation o a b) at p s =
       by-word 2 s (expression-small (suc d) (operation o a b) (s .fit) .0) refl
-      (parted (words a) (words b) (rest s) λ q x y. two (expression-sized d a (at + 1) q x) (expression-sized d b q p y))
+      (parted (words a) (words b) (rest s) λ q x y.
+      two (expression-sized d a (at + 1) q x) (expression-sized d b q p y))
   expression-sized (suc d) (select a i) at p s =
       by-word 2 s (omega arith) refl
-      (parted (words a) (words i) (rest s) λ q x y. two (expression-sized d a (at + 1) q x) (expression-sized d i q p y))
+      (parted (words a) (words i) (rest s) λ q x y.
+      two (expression-sized d a (at + 1) q x) (expression-sized d i q p y))
   expression-sized (suc d) (compare r a b) at p s =
       by-word 2 s (expression-small (suc d) (compare r a b) (s .fit) .0) refl
-      (parted (words a) (words b) (rest s) λ q x y. two (expression-sized d a (at + 1) q x) (expression-sized d b q p y))
+      (parted (words a) (words b) (rest s) λ q x y.
+      two (expression-sized d a (at + 1) q x) (expression-sized d b q p y))
   expression-sized (suc d) (truth t) at p s =
       by-word 0 s (expression-small (suc d) (truth t) (s .fit) .0) refl (ended (s .stand .2))
   expression-sized (suc d) (and a b) at p s =
       by-word 2 s (omega arith) refl
-      (parted (words a) (words b) (rest s) λ q x y. two (expression-sized d a (at + 1) q x) (expression-sized d b q p y))
+      (parted (words a) (words b) (rest s) λ q x y.
+      two (expression-sized d a (at + 1) q x) (expression-sized d b q p y))
   expression-sized (suc d) (or a b) at p s =
       by-word 2 s (omega arith) refl
-      (parted (words a) (words b) (rest s) λ q x y. two (expression-sized d a (at + 1) q x) (expression-sized d b q p y))
+      (parted (words a) (words b) (rest s) λ q x y.
+      two (expression-sized d a (at + 1) q x) (expression-sized d b q p y))
   expression-sized (suc d) (neg b) at p s =
       by-word 1 s (omega arith) refl (next (expression-sized d b (at + 1) p (rest s)) (ended refl))
   expression-sized (suc d) (array a) at p s =
@@ -112,7 +118,8 @@ module _ (file : List ℕ) where
       (parted (words a) (words i ++ words b) (rest s) λ q x t. parted (words i) (words b) t λ r y z.
       three (expression-sized d a (at + 1) q x) (expression-sized d i q r y) (expression-sized d b r p z))
 
-  pub command-sized : (d : ℕ) (c : Command) (at p : ℕ) → Stands file (commandWords c) (FitsCommand c d) at p → Sized at p
+  pub command-sized : (d : ℕ) (c : Command) (at p : ℕ) → Stands file (commandWords c) (FitsCommand c d) at p →
+      Sized at p
   unfolding commandWords FitsCommand countOf
   command-sized zero c at p s = absurd (s .fit)
   command-sized (suc d) skip at p s = by-word 0 s (omega arith) refl (ended (s .stand .2))
@@ -150,7 +157,8 @@ module _ (file : List ℕ) where
       parted (words (m .antecedent) ++ words (m .consequent)) (membersWords l) s λ q t z.
       parted (words (m .antecedent)) (words (m .consequent)) t λ r x y.
       subst (λ n. Run n at p) (twice (length l))
-      (next (expression-sized d (m .antecedent) at r x) (next (expression-sized d (m .consequent) r q y) (members-run d l q p z)))
+      (next (expression-sized d (m .antecedent) at r x)
+      (next (expression-sized d (m .consequent) r q y) (members-run d l q p z)))
 
   pub set-sized : (limits : Limits) (d : ℕ) (m : Members) (at p : ℕ) →
       Stands file (setWords m) (FitsSet limits m d) at p → Sized at p

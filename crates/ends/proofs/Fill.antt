@@ -9,8 +9,8 @@ use mathlib.Core.List.{List, [], _∷_, _++_, append-assoc}
 use Prim.Native.Nat.{ℕ, zero, suc, _+_, _-_, _<_, _≤_}
 use native.Mathlib.Omega.{arith}
 use native.Mathlib.Numerals.{add-one}
-use lib.ListN.{length, getD, take, drop, set, length-append, length-take, length-drop, drop-of-length-le, take-append-drop}
-use lib.ListN.{List·getD-append}
+use lib.ListN.{length, getD, take, drop, set, length-append, length-take, length-drop}
+use lib.ListN.{drop-of-length-le, take-append-drop, List·getD-append}
 use lib.Seq.{take-suc, drop-cons, set-at, getD-append-add, getD-drop, length-take-le}
 use Rattle.layout.specs.Bytes.{kindAt, payloadAt}
 use Rattle.ends.specs.Sizes.{countOf, past, sizes, placed, endPlaces, follow, CanFill, Filled}
@@ -83,7 +83,8 @@ module _ (file before : List ℕ) where
     }
     partly-all ends (suc i) l h = absurd (omega arith)
 
-    pub end-at : (ends : List ℕ) (i n : ℕ) → 0 < i → Partly ends i → n ≡ countOf (kindAt file (i - 1)) (payloadAt file (i - 1)) →
+    pub end-at : (ends : List ℕ) (i n : ℕ) → 0 < i → Partly ends i →
+        n ≡ countOf (kindAt file (i - 1)) (payloadAt file (i - 1)) →
         (follow ends (length file) n (i - 1 + 1) ≡ getD (endPlaces file) (i - 1) 0)
         × (follow ends (length file) n (i - 1 + 1) ≤ length file)
     end-at ends zero n l h e = absurd (omega arith)

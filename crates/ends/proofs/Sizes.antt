@@ -130,7 +130,8 @@ follow-next : (ends : List ℕ) (n k at : ℕ) → at < n → follow ends n (suc
 unfolding follow
 follow-next ends n k at h = rw (lt-ltb at n h, follow) refl
 
-pub follow-on : (ends : List ℕ) (n k at : ℕ) → 0 < k → at < n → follow ends n k at ≡ follow ends n (k - 1) (getD ends at 0)
+pub follow-on : (ends : List ℕ) (n k at : ℕ) → 0 < k → at < n →
+    follow ends n k at ≡ follow ends n (k - 1) (getD ends at 0)
 follow-on ends n zero at l h = absurd (omega arith)
 follow-on ends n (suc k) at l h =
     let e : k ≡ suc k - 1 = omega arith in

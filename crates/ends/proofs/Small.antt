@@ -1,8 +1,8 @@
--- What stands in a file has payloads of 26 bits, so that the kind and the payload of each of its words are those spelled.
+-- What stands in a file has payloads of 26 bits, so that each of its words has the kind and the payload spelled.
 -- Assumes nothing.
 --     Small, AllSmall                                 the payload of a word, of each of some words
 --     expression-small, command-small, set-small      of what fits
---     kindOf, contentOf, kind-at, content-at          the kind and the payload of a word, and of the number at its place
+--     kindOf, contentOf, kind-at, content-at          the kind and the payload of a word, and of what stands there
 use mathlib.Core.Path.{_≡_, refl, _∙_}
 use mathlib.Core.Bool.{Bool, true, false}
 use mathlib.Core.List.{List, [], _∷_, _++_}
@@ -13,11 +13,13 @@ use Rattle.language.specs.Syntax.{Operator, plus, minus, times, Comparison, equ
 use Rattle.language.specs.Syntax.{Sort, Expr, constant, scalar, operation, select, compare, truth, and, or, neg}
 use Rattle.language.specs.Syntax.{array, zeros, update, toScalar, toArray}
 use Rattle.language.specs.Syntax.{Command, skip, sequence, assert, assign, ifElse, while, for}
-use Rattle.rules.specs.Words.{Word, word, forWord, words, commandWords, operatorPayload, comparisonPayload, truthPayload}
+use Rattle.rules.specs.Words.{Word, word, forWord, words, commandWords}
+use Rattle.rules.specs.Words.{operatorPayload, comparisonPayload, truthPayload}
 use Rattle.rules.specs.Assertion.{Member, Members}
 use Rattle.rules.specs.Context.{Limits}
 use Rattle.layout.specs.Bytes.{numberAt, kindAt, payloadAt}
-use Rattle.layout.specs.Spelling.{payloadOf, encode, FitsExpression, FitsCommand, membersWords, setWords, FitsMembers, FitsSet}
+use Rattle.layout.specs.Spelling.{payloadOf, encode, FitsExpression, FitsCommand}
+use Rattle.layout.specs.Spelling.{membersWords, setWords, FitsMembers, FitsSet}
 use Rattle.layout.proofs.Words.{quotient, remainder, payload-small}
 
 abbrev pub Small : Word → Type 0
@@ -78,8 +80,11 @@ pub command-small : (d : ℕ) (c : Command) → FitsCommand c d → AllSmall (co
 unfolding commandWords FitsCommand
 command-small zero c h = absurd h
 command-small (suc d) skip h = (omega arith, tt)
-command-small (suc d) (sequence c₁ c₂) h =
-    (omega arith, small-append (commandWords c₁) (commandWords c₂) (command-small d c₁ (h .0)) (command-small d c₂ (h .1)))
+command-small (suc d) (sequence c₁ c₂) h = (
+  omega arith,
+  small-append (commandWords c₁) (commandWords c₂) (command-small d c₁ (h .0))
+      (command-small d c₂ (h .1)),
+)
 command-small (suc d) (assert b) h = (omega arith, expression-small d b h)
 command-small (suc d) (assign (toScalar x e)) h = (number-small x (h .0), expression-small d e (h .1))
 command-small (suc d) (assign (toArray a e)) h = (number-small a (h .0), expression-small d e (h .1))
@@ -124,5 +129,6 @@ encoded (forWord q m) = refl
 pub kind-at : (file : List ℕ) (at : ℕ) (w : Word) → numberAt file at ≡ encode w → Small w → kindAt file at ≡ kindOf w
 kind-at file at w e h = quotient (kindOf w) (contentOf w) (numberAt file at) (e ∙ encoded w) (content-small w h)
 
-pub content-at : (file : List ℕ) (at : ℕ) (w : Word) → numberAt file at ≡ encode w → Small w → payloadAt file at ≡ contentOf w
+pub content-at : (file : List ℕ) (at : ℕ) (w : Word) → numberAt file at ≡ encode w → Small w →
+    payloadAt file at ≡ contentOf w
 content-at file at w e h = remainder (kindOf w) (contentOf w) (numberAt file at) (e ∙ encoded w) (content-small w h)

@@ -38,7 +38,8 @@ pub bit-or : (a b i : ℕ) → bit (bitOr a b) i ≡ (bit a i || bit b i)
 unfolding bit
 bit-or a b i =
     ap (λ n. eqb (n % 2) 1) (or-shr a b i ∙ or-step (a / 2 ^ i) (b / 2 ^ i))
-    ∙ ap (λ n. eqb n 1) (last-digit _ (max (a / 2 ^ i % 2) (b / 2 ^ i % 2)) (most _ _ (half (a / 2 ^ i)) (half (b / 2 ^ i))))
+    ∙ ap (λ n. eqb n 1)
+    (last-digit _ (max (a / 2 ^ i % 2) (b / 2 ^ i % 2)) (most _ _ (half (a / 2 ^ i)) (half (b / 2 ^ i))))
     ∙ either (a / 2 ^ i % 2) (b / 2 ^ i % 2) (half (a / 2 ^ i)) (half (b / 2 ^ i))
 
 -- by the order of the two
@@ -55,7 +56,8 @@ unfolding bit
 above i j h =
     let e : suc (i - j - 1) + j ≡ i = omega arith in
     ap (λ n. eqb (n % 2) 1)
-    (ap (λ n. 2 ^ n / 2 ^ j) (sym e) ∙ ap (λ n. n / 2 ^ j) (pow-add 2 (suc (i - j - 1)) j) ∙ shl-shr (2 ^ suc (i - j - 1)) j)
+    (ap (λ n. 2 ^ n / 2 ^ j) (sym e) ∙ ap (λ n. n / 2 ^ j) (pow-add 2 (suc (i - j - 1)) j)
+    ∙ shl-shr (2 ^ suc (i - j - 1)) j)
     ∙ ap (λ n. eqb n 1) (ap (λ n. n % 2) (pow-suc 2 (i - j - 1)) ∙ mul-mod-left (2 ^ (i - j - 1)) 2)
 
 pub bit-power : (i j : ℕ) → bit (2 ^ i) j ≡ eqb i j
@@ -77,7 +79,9 @@ bit-ones i h =
     ap (λ n. eqb (n % 2) 1)
     (ap (λ n. (2 ^ n - 1) / 2 ^ i) (sym e) ∙ ap (λ n. n / 2 ^ i) (ones-split (suc (63 - i)) i)
     ∙ high (2 ^ suc (63 - i) - 1) i (ones-lt i))
-    ∙ ap (λ n. eqb n 1) (ap (λ n. (n - 1) % 2) (pow-suc 2 (63 - i) ∙ mul-comm (2 ^ (63 - i)) 2) ∙ odd (2 ^ (63 - i)) (pow-pos (63 - i)))
+    ∙ ap (λ n. eqb n 1)
+    (ap (λ n. (n - 1) % 2) (pow-suc 2 (63 - i) ∙ mul-comm (2 ^ (63 - i)) 2)
+    ∙ odd (2 ^ (63 - i)) (pow-pos (63 - i)))
 
 pub shifted : (m i : ℕ) → i < 64 → bitOr m (1 * 2 ^ i % 18446744073709551616) ≡ bitOr m (2 ^ i)
 shifted m i h = ap (λ n. bitOr m n) (shl-exact {a = 1} 1 i 64 (omega arith) (omega arith) ∙ one-mul (2 ^ i))

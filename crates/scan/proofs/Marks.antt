@@ -64,5 +64,6 @@ marks-any file x h zero at m = sym (or-false (bit m (slot x)))
 marks-any file x h (suc n) at m =
     let o = written (kindAt file at) (payloadAt file at) in
     marks-any file x h n (suc at) (withMark m o)
-    ∙ ap (λ b. b || anyIn (assigns x) file n (suc at)) (mark-bit o m x (written-low (kindAt file at) (payloadAt file at)) h)
+    ∙ ap (λ b. b || anyIn (assigns x) file n (suc at))
+    (mark-bit o m x (written-low (kindAt file at) (payloadAt file at)) h)
     ∙ or-assoc (bit m (slot x)) (assigns x (kindAt file at) (payloadAt file at)) (anyIn (assigns x) file n (suc at))

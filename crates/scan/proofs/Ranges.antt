@@ -1,7 +1,7 @@
 -- A turn of a scan.
 -- Assumes nothing.
 --     written-as, unwritten, mentioned-as, unmentioned    what a word assigns or is, by its kind
---     any-none, any-next, any-hit, any-miss               the end of a scan for a word that passes a test, and a turn of it
+--     any-none, any-next, any-hit, any-miss               the end of a scan for a word that passes a test; a turn
 --     marks-none, marks-next                              the same of the scan that collects a mask
 use mathlib.Core.Path.{_≡_, refl, ap, _∙_}
 use mathlib.Core.Bool.{Bool, true, false, _||_}

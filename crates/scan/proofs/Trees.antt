@@ -21,10 +21,12 @@ use Rattle.rules.specs.Assertion.{Member, Members}
 use Rattle.rules.specs.Context.{Limits}
 use Rattle.rules.specs.Sets.{setIdentifiers}
 use Rattle.rules.specs.Tests.{unmodified, isEmpty}
-use Rattle.layout.specs.Spelling.{FitsExpression, FitsCommand, memberWords, membersWords, setWords, FitsMembers, FitsSet}
+use Rattle.layout.specs.Spelling.{FitsExpression, FitsCommand}
+use Rattle.layout.specs.Spelling.{memberWords, membersWords, setWords, FitsMembers, FitsSet}
 use Rattle.layout.specs.Standing.{StandsTo}
 use Rattle.layout.proofs.Stands.{stands-end}
-use Rattle.ends.proofs.Small.{AllSmall, kindOf, contentOf, kind-at, content-at, expression-small, command-small, set-small}
+use Rattle.ends.proofs.Small.{AllSmall, kindOf, contentOf, kind-at, content-at}
+use Rattle.ends.proofs.Small.{expression-small, command-small, set-small}
 use Rattle.scan.specs.Mask.{bit, Low, slot, ModifiedBy}
 use Rattle.scan.specs.Scan.{written, mentioned, ifAny, anyIn, marked, marksIn, Modified, Unmarked, Closed}
 use Rattle.scan.proofs.Bits.{bit-ones}
@@ -59,7 +61,8 @@ module _ (t : ℕ → ℕ → Bool) where
   pub record Quiet : Type 0 where
     pub none : (p : ℕ) →
         (t 1 p ≡ false) × (t 2 p ≡ false) × (t 3 p ≡ false) × (t 4 p ≡ false) × (t 8 p ≡ false) × (t 9 p ≡ false)
-        × (t 10 p ≡ false) × (t 11 p ≡ false) × (t 12 p ≡ false) × (t 16 p ≡ false) × (t 17 p ≡ false) × (t 18 p ≡ false)
+        × (t 10 p ≡ false) × (t 11 p ≡ false) × (t 12 p ≡ false) × (t 16 p ≡ false) × (t 17 p ≡ false)
+        × (t 18 p ≡ false)
 
   both : {a b : Bool} → a ≡ false → b ≡ false → (a || b) ≡ false
   both h k = cc
@@ -109,7 +112,8 @@ module _ (x : Identifier) where
   command-assigns zero c h = absurd h
   command-assigns (suc d) skip h = refl
   command-assigns (suc d) (sequence c₁ c₂) h =
-      appended (assigns x) (commandWords c₁) (commandWords c₂) (command-assigns d c₁ (h .0)) (command-assigns d c₂ (h .1))
+      appended (assigns x) (commandWords c₁) (commandWords c₂) (command-assigns d c₁ (h .0))
+      (command-assigns d c₂ (h .1))
   command-assigns (suc d) (assert b) h = expression-quiet (assigns x) written-quiet b
   command-assigns (suc d) (assign (toScalar y e)) h =
       rw (low-number y (h .0)) (assigned (scalarOf y) (expression-quiet (assigns x) written-quiet e))
@@ -169,22 +173,28 @@ module _ (f g : Identifier → Bool) (h : (x : Identifier) → Low x → f x ≡
   expression-mentions (suc d) (scalar x) l =
       alone (scalarOf x) 2 x l (ap (λ y. f (scalarOf y)) (low-number x l))
   expression-mentions (suc d) (operation o a b) l =
-      two (words a) (words b) (identifiers a) (identifiers b) (expression-mentions d a (l .0)) (expression-mentions d b (l .1))
+      two (words a) (words b) (identifiers a) (identifiers b) (expression-mentions d a (l .0))
+      (expression-mentions d b (l .1))
   expression-mentions (suc d) (select a i) l =
-      two (words a) (words i) (identifiers a) (identifiers i) (expression-mentions d a (l .0)) (expression-mentions d i (l .1))
+      two (words a) (words i) (identifiers a) (identifiers i) (expression-mentions d a (l .0))
+      (expression-mentions d i (l .1))
   expression-mentions (suc d) (compare r a b) l =
-      two (words a) (words b) (identifiers a) (identifiers b) (expression-mentions d a (l .0)) (expression-mentions d b (l .1))
+      two (words a) (words b) (identifiers a) (identifiers b) (expression-mentions d a (l .0))
+      (expression-mentions d b (l .1))
   expression-mentions (suc d) (truth t) l = refl
   expression-mentions (suc d) (and a b) l =
-      two (words a) (words b) (identifiers a) (identifiers b) (expression-mentions d a (l .0)) (expression-mentions d b (l .1))
+      two (words a) (words b) (identifiers a) (identifiers b) (expression-mentions d a (l .0))
+      (expression-mentions d b (l .1))
   expression-mentions (suc d) (or a b) l =
-      two (words a) (words b) (identifiers a) (identifiers b) (expression-mentions d a (l .0)) (expression-mentions d b (l .1))
+      two (words a) (words b) (identifiers a) (identifiers b) (expression-mentions d a (l .0))
+      (expression-mentions d b (l .1))
   expression-mentions (suc d) (neg b) l = expression-mentions d b l
   expression-mentions (suc d) (array a) l =
       alone (arrayOf a) 16 a l (ap (λ y. f (arrayOf y)) (low-number a l))
   expression-mentions (suc d) zeros l = refl
   expression-mentions (suc d) (update a i b) l =
-      two (words a) (words i ++ words b) (identifiers a) (identifiers i ++ identifiers b) (expression-mentions d a (l .0))
+      two (words a) (words i ++ words b) (identifiers a) (identifiers i ++ identifiers b)
+      (expression-mentions d a (l .0))
       (two (words i) (words b) (identifiers i) (identifiers b) (expression-mentions d i (l .1 .0))
       (expression-mentions d b (l .1 .1)))
 

@@ -68,4 +68,5 @@ pub record Unmarked (file : List ℕ) (from to mask : ℕ) (r : Bool) : Type 0 w
 
 -- the test tells whether the expression in the range has no identifier
 pub record Closed (file : List ℕ) (from to : ℕ) (r : Bool) : Type 0 where
-  pub expression : {k : Sort} (e : Expr k) (d : ℕ) → PartStands file (expressionPart e) d from to → r ≡ isEmpty (identifiers e)
+  pub expression : {k : Sort} (e : Expr k) (d : ℕ) → PartStands file (expressionPart e) d from to →
+      r ≡ isEmpty (identifiers e)

@@ -1,3 +1,5 @@
-// Scans of a range of words: what a command modifies, and whether an expression or a set has an identifier of that.
+// Scans of words: what a command modifies, whether an expression or a set has an identifier of that, and refusal 7.
 pub mod mask;
+pub mod place;
 pub mod range;
+pub mod steady;

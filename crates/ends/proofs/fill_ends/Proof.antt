@@ -1,4 +1,4 @@
--- `ends::fill_ends` meets its contract: from the place at hand on the ends are written, and each turn writes the one before.
+-- `ends::fill_ends` meets its contract: the ends from a place on are written, and each turn writes the one before.
 -- The measure is that place. Assumes nothing.
 use mathlib.Core.Path.{_∙_}
 use native.Mathlib.Omega.{arith}
@@ -52,7 +52,9 @@ same-length : tie.Need-same-length Inv-loop μ-loop
 same-length c = partly-length _ _ (c .before .before .before .before .pre .long) _ _ (c .before .loop .inv)
 
 returns : tie.Need-returns Inv-loop μ-loop
-returns c = partly-all _ _ (c .before .before .before .before .pre .long) _ _ (c .loop-test .left) (c .before .loop .inv)
+returns c =
+    let args = c .before .before .before .before in
+    partly-all _ _ (args .pre .long) _ _ (c .loop-test .left) (c .before .loop .inv)
 
 pub fill-ends-spec : {M : Type 1} → statement M
 fill-ends-spec =

@@ -1,4 +1,4 @@
--- `ends::past` meets its contract: what is left to follow from the place at hand gives what all of it gives from the first.
+-- `ends::past` meets its contract: what is left to follow from the place at hand gives what is asked from the first.
 -- The measure is the parts left. Assumes nothing.
 use mathlib.Core.Path.{_≡_, refl, sym, _∙_}
 use Prim.Native.Nat.{_≤_}

@@ -1,0 +1,36 @@
+-- `implication::implies` meets its contract: the bytes lent are as many as the formula may take. Assumes nothing.
+use native.Mathlib.Omega.{arith}
+use borrow.Author.Needs.{needs}
+use Rattle.implication.proofs.Answers.{left-fits, right-fits}
+use Rattle.implication.proofs.implies.Statement.{statement}
+use Rattle.implication.proofs.implies.Tie as tie
+
+settle-requires : tie.Need-settle-requires
+settle-requires c κs =
+    let at-left = c .before .before .before in
+    let first = at-left .room .ensures .0 in
+    let second = c .before .before .room2 .ensures .0 in
+    let few = c .before .if1 .taken in
+    (at-left .before .before .pre, omega arith)
+
+settle-requires-2 : tie.Need-settle-requires-2
+settle-requires-2 c κs =
+    let at-left = c .before .before .before in
+    let first = at-left .room .ensures in
+    let second = c .before .before .room2 .ensures in
+    (at-left .before .before .pre, omega arith)
+
+pub implies-spec : {M : Type 1} → statement M
+implies-spec =
+    tie.close
+    (tie.spec
+    (λ c κs. let can = c .before .pre in (left-fits can, can .size))
+    (λ c. omega (arith, c .room .ensures .1))
+    (λ c κs. let can = c .before .before .pre in (right-fits can, can .size))
+    (λ c. omega (arith, c .room2 .ensures .1, c .before .room .ensures .1))
+    (λ c. search needs)
+    settle-requires
+    (λ c. c .before .settle .ensures)
+    (λ c. search needs)
+    settle-requires-2
+    (λ c. c .before .settle2 .ensures))

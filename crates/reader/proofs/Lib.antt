@@ -1,0 +1,11 @@
+-- Laws of walks.
+--     Walks        walks by the word that is due
+--     Rest         words that are not allowed
+--     Sets         sorts by kind, and members one after the other
+--     RuleParts    the parts of evidence, by rule
+--     Whole        a whole file
+pub mod Walks
+pub mod Rest
+pub mod Sets
+pub mod RuleParts
+pub mod Whole

@@ -1,0 +1,137 @@
+-- The readers of commands meet their contracts: each goes by the word that is due, and the levels left fall.
+-- Assumes nothing.
+use borrow.Author.Needs.{needs}
+use native.Mathlib.Omega.{arith}
+use mathlib.Core.Path.{refl, _∙_, ap}
+use Prim.Native.Nat.{ℕ, _<_, _+_, _*_}
+use Rattle.layout.specs.Read.{expression, command}
+use Rattle.words.specs.declared.Word.the-variants as Word
+use Rattle.reader.proofs.Walks.{room, onto, command-goes, stop, arm, none-arm}
+use Rattle.reader.proofs.Rest.{not-command}
+use Prim.Native.Nat.{ℕ, _<_}
+use borrow.Fn.Kinds.{In}
+use borrow.Fn.PlainCycle.{Measures, is, falls, and}
+use Rattle.reader.proofs.command.read_body.Reads as read-body
+use Rattle.reader.proofs.command.read_body.Kinds as read-body-kinds
+use Rattle.reader.proofs.command.+read_body+read_command.Lts-read_body as read-body-lts
+use Rattle.reader.proofs.command.read_command.Reads as read-command
+use Rattle.reader.proofs.command.read_command.Kinds as read-command-kinds
+use Rattle.reader.proofs.command.+read_body+read_command.Lts-read_command as read-command-lts
+use Rattle.reader.proofs.expression.read_operand.Reads as read-operand-reads
+use Rattle.reader.proofs.word.word_due.Reads as word-due-reads
+use Rattle.reader.proofs.command.+read_body+read_command.{statement}
+use Rattle.reader.proofs.command.+read_body+read_command.Tie.{close}
+
+abbrev μ-read-body : Measures 1 read-body-kinds.ps ℕ
+μ-read-body κs a = 2 * a .1 .1 .0 + 1
+
+abbrev μ-read-command : Measures 1 read-command-kinds.ps ℕ
+μ-read-command κs a = 2 * a .1 .1 .0
+
+abbrev read-body-at : ℕ → In 1 read-body-kinds.ps
+read-body-at t = and 1 read-body-kinds.ps (is 1 read-body-kinds.ps μ-read-body t) read-body.Pre
+
+abbrev read-body-below : ℕ → In 1 read-body-kinds.ps
+read-body-below t =
+    and 1 read-body-kinds.ps (falls 1 read-body-kinds.ps _<_ μ-read-body t) read-body.Pre
+
+abbrev read-command-at : ℕ → In 1 read-command-kinds.ps
+read-command-at t =
+    and 1 read-command-kinds.ps (is 1 read-command-kinds.ps μ-read-command t) read-command.Pre
+
+abbrev read-command-below : ℕ → In 1 read-command-kinds.ps
+read-command-below t =
+    and
+    1
+    read-command-kinds.ps
+    (falls 1 read-command-kinds.ps _<_ μ-read-command t)
+    read-command.Pre
+
+pub +read-body+read-command-spec : {M : Type 1} → statement M
++read-body+read-command-spec = close μ-read-body μ-read-command (λ t. read-body-lts.spec (
+  read-command-below t,
+  read-command.Post,
+)
+    (read-body-at t)
+    read-body.Post
+    (λ c. search needs)
+    (λ c κs. omega arith)
+    (λ c. search needs)
+    (λ c. rw (c .before .before .from .given .1) (c .read-command .ensures))
+    (λ c. rw (c .enum-told .given .1)))
+    λ t. read-command-lts.spec (
+      word-due-reads.Asked,
+      word-due-reads.Learnt,
+      read-body-below t,
+      read-body.Post,
+      read-operand-reads.Asked,
+      read-operand-reads.Learnt,
+    )
+    (read-command-at t)
+    read-command.Post
+    (λ c κs. search needs)
+    (λ c. search needs)
+    (λ c. search needs)
+    (λ c. search needs)
+    (λ c. search needs)
+    (λ c. search needs)
+    (λ c κs. let a = c .before .before .before .before .before .before .before .before .before .before .args in
+    let h = room (a .w .now) (a .left) (a .at) _ _ _ _ (c .before .before .before .before .before .before .before .before .word-due .ensures) (c .before .before .before .before .before .before .d2 .given .1) in omega arith)
+    (λ c κs. let a = c .before .before .before .before .before .before .before .before .before .before .before .args in
+    let h = room (a .w .now) (a .left) (a .at) _ _ _ _ (c .before .before .before .before .before .before .before .before .before .word-due .ensures) (c .before .before .before .before .before .before .before .d2 .given .1) in omega arith)
+    (λ c. search needs)
+    (λ c κs. search needs)
+    (λ c. search needs)
+    (λ c κs. search needs)
+    (λ c. search needs)
+    (λ c κs. search needs)
+    (λ c. search needs)
+    (λ c κs. search needs)
+    (λ c κs. let a = c .before .before .before .before .before .before .before .before .before .before .before .args in
+    let h = room (a .w .now) (a .left) (a .at) _ _ _ _ (c .before .before .before .before .before .before .before .before .before .word-due .ensures) (c .before .before .before .before .before .before .before .d2 .given .1) in omega arith)
+    (λ c κs. let a = c .before .before .before .before .before .before .before .before .before .before .before .before .args in
+    let h = room (a .w .now) (a .left) (a .at) _ _ _ _ (c .before .before .before .before .before .before .before .before .before .before .word-due .ensures) (c .before .before .before .before .before .before .before .before .d2 .given .1) in omega arith)
+    (λ c. search needs)
+    (λ c κs. search needs)
+    (λ c κs. let a = c .before .before .before .before .before .before .before .before .before .before .before .args in
+    let h = room (a .w .now) (a .left) (a .at) _ _ _ _ (c .before .before .before .before .before .before .before .before .before .word-due .ensures) (c .before .before .before .before .before .before .before .d2 .given .1) in omega arith)
+    (λ c. search needs)
+    (λ c κs. let a = c .before .before .before .before .before .before .before .before .before .before .args in
+    let h = room (a .w .now) (a .left) (a .at) _ _ _ _ (c .before .before .before .before .before .before .before .before .word-due .ensures) (c .before .before .before .before .before .before .d2 .given .1) in omega arith)
+    (λ c. let a = c .before .before .before .before .before .args in stop (command-goes (a .w .now) (a .left) (a .at)) _ (c .before .before .before .word-due .ensures) _ _ (c .before .d .given .1))
+    (λ c. let a = c .before .before .before .before .before .before .before .before .before .before .args in
+    arm (command-goes (a .w .now) (a .left) (a .at)) _ (c .before .before .before .before .before .before .before .before .word-due .ensures) _ _ _ _ _ (c .before .before .before .before .before .before .d2 .given .1)
+    (c .before .before .before .word .given .1 ∙ ap Word.Command (c .enum-told .given .1))
+    refl)
+    (λ c. let a = c .before .before .before .before .before .before .before .before .before .before .before .before .args in
+    arm (command-goes (a .w .now) (a .left) (a .at)) _ (c .before .before .before .before .before .before .before .before .before .before .word-due .ensures) _ _ _ _ _ (c .before .before .before .before .before .before .before .before .d2 .given .1)
+    (c .before .before .before .before .before .word .given .1 ∙ ap Word.Command (c .before .before .enum-told2 .given .1))
+    (onto _ _ _ _ _ (c .read-body2 .ensures) (onto _ _ _ _ _ (c .before .read-body .ensures) refl)))
+    (λ c. let a = c .before .before .before .before .before .before .before .before .before .before .before .args in
+    arm (command-goes (a .w .now) (a .left) (a .at)) _ (c .before .before .before .before .before .before .before .before .before .word-due .ensures) _ _ _ _ _ (c .before .before .before .before .before .before .before .d2 .given .1)
+    (c .before .before .before .before .word .given .1 ∙ ap Word.Command (c .before .enum-told3 .given .1))
+    (onto _ _ _ _ _ (c .read-operand .ensures) refl))
+    (λ c. let a = c .before .before .before .before .before .before .before .before .before .before .before .args in
+    arm (command-goes (a .w .now) (a .left) (a .at)) _ (c .before .before .before .before .before .before .before .before .before .word-due .ensures) _ _ _ _ _ (c .before .before .before .before .before .before .before .d2 .given .1)
+    (c .before .before .before .before .word .given .1 ∙ ap Word.Command (c .before .enum-told4 .given .1))
+    (onto _ _ _ _ _ (c .read-operand2 .ensures) refl))
+    (λ c. let a = c .before .before .before .before .before .before .before .before .before .before .before .args in
+    arm (command-goes (a .w .now) (a .left) (a .at)) _ (c .before .before .before .before .before .before .before .before .before .word-due .ensures) _ _ _ _ _ (c .before .before .before .before .before .before .before .d2 .given .1)
+    (c .before .before .before .before .word .given .1 ∙ ap Word.Command (c .before .enum-told5 .given .1))
+    (onto _ _ _ _ _ (c .read-operand3 .ensures) refl))
+    (λ c. let a = c .before .before .before .before .before .before .before .before .before .before .before .before .before .args in
+    arm (command-goes (a .w .now) (a .left) (a .at)) _ (c .before .before .before .before .before .before .before .before .before .before .before .word-due .ensures) _ _ _ _ _ (c .before .before .before .before .before .before .before .before .before .d2 .given .1)
+    (c .before .before .before .before .before .before .word .given .1 ∙ ap Word.Command (c .before .before .before .enum-told6 .given .1))
+    (onto _ _ _ _ _ (c .read-body4 .ensures) (onto _ _ _ _ _ (c .before .read-body3 .ensures) (onto _ _ _ _ _ (c .before .before .read-operand4 .ensures) refl))))
+    (λ c. let a = c .before .before .before .before .before .before .before .before .before .before .before .before .args in
+    arm (command-goes (a .w .now) (a .left) (a .at)) _ (c .before .before .before .before .before .before .before .before .before .before .word-due .ensures) _ _ _ _ _ (c .before .before .before .before .before .before .before .before .d2 .given .1)
+    (c .before .before .before .before .before .word .given .1 ∙ ap Word.Command (c .before .before .enum-told7 .given .1))
+    (onto _ _ _ _ _ (c .read-body5 .ensures) (onto _ _ _ _ _ (c .before .read-operand5 .ensures) refl)))
+    (λ c. let a = c .before .before .before .before .before .before .before .before .before .before .before .args in
+    arm (command-goes (a .w .now) (a .left) (a .at)) _ (c .before .before .before .before .before .before .before .before .before .word-due .ensures) _ _ _ _ _ (c .before .before .before .before .before .before .before .d2 .given .1)
+    (c .before .before .before .before .word .given .1 ∙ ap Word.Command (c .before .enum-told8 .given .1))
+    (onto _ _ _ _ _ (c .read-body6 .ensures) refl))
+    (λ c. let a = c .before .before .before .before .before .before .args in
+    none-arm (command-goes (a .w .now) (a .left) (a .at)) _ (c .before .before .before .before .word-due .ensures) _ _ _ (c .before .before .d2 .given .1)
+    (not-command (expression (a .w .now) (c .before .before .d2 .given .0 .1 .1 .0)) (command (a .w .now) (c .before .before .d2 .given .0 .1 .1 .0))
+    (c .before .before .d2 .given .0 .0) (c .match2 .keys2)))

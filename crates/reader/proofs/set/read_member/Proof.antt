@@ -1,0 +1,22 @@
+-- `reader::set::read_member` meets its contract: a boolean, then an expression of any sort.
+-- Assumes nothing.
+use borrow.Author.Needs.{needs}
+use mathlib.Core.Path.{refl}
+use Rattle.layout.specs.Read.{consequentAt}
+use Rattle.reader.specs.declared.Walk.the-variants.{Next}
+use Rattle.reader.proofs.Walks.{onto, on, off}
+use Rattle.reader.proofs.set.read_member.Statement.{statement}
+use Rattle.reader.proofs.set.read_member.Tie as tie
+
+pub read-member-spec : {M : Type 1} → statement M
+read-member-spec =
+    tie.close
+    (tie.spec
+    (λ c κs. search needs)
+    (λ c. search needs)
+    (λ c κs. search needs)
+    (λ c. search needs)
+    (λ c. onto _ _ _ _ _ (on _ _ _ _ (c .before .before .antecedent .given .1) (c .read-consequent .ensures))
+    (onto _ _ _ _ (Next (c .before .before .before .before .before .before .args .at)) (c .before .before .before .before .read-boolean .ensures) refl))
+    (λ c. onto _ (consequentAt (c .before .before .before .before .args .w .now) (c .before .before .before .before .args .left)) _ _ _ (off _ _ _ _ (c .enum-told .given .1))
+    (onto _ _ _ _ (Next (c .before .before .before .before .args .at)) (c .before .before .read-boolean .ensures) refl)))

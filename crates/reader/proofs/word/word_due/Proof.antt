@@ -1,0 +1,27 @@
+-- `reader::word::word_due` meets its contract: the tests pick the case.
+-- Assumes nothing.
+use borrow.Author.Needs.{needs}
+use native.Mathlib.Omega.{arith}
+use mathlib.Core.Path.{sym, _∙_, ap}
+use Prim.Native.Nat.{_+_, _-_}
+use Rattle.words.specs.declared.Word.{Word}
+use Rattle.reader.specs.declared.Due.the-variants.{There}
+use Rattle.reader.proofs.Walks.{due-ends, due-deep, due-there}
+use Rattle.reader.proofs.word.word_due.Statement.{statement}
+use Rattle.reader.proofs.word.word_due.Tie as tie
+
+pub word-due-spec : {M : Type 1} → statement M
+word-due-spec =
+    tie.close
+    (tie.spec
+    (λ c. let a = c .before .before .args in sym (due-ends (a .w .now) (a .left) (a .at) (c .if1 .taken)))
+    (λ c. let a = c .before .before .before .args in
+    sym (due-deep (a .w .now) (a .left) (a .at) (c .before .if1 .left) (c .if2 .taken)))
+    (λ c. search needs)
+    (λ c. search needs)
+    (λ c κs. search needs)
+    (λ c. search needs)
+    (λ c. search needs)
+    (λ c. let a = c .before .before .before .before .before .args in
+    ap (λ (x : Word). There x (a .at + 1) (a .left - 1)) (c .decode .ensures)
+    ∙ sym (due-there (a .w .now) (a .left) (a .at) (c .before .before .before .if1 .left) (c .before .before .if2 .left))))

@@ -1,0 +1,7 @@
+-- What the readers answer.
+--     Walk     places: walks, and the word that is due
+--     Parts    the parts of evidence, by rule
+--     File     the places of a file's parts
+pub mod Walk
+pub mod Parts
+pub mod File

@@ -1,0 +1,59 @@
+// Commands. The levels left fall.
+use super::Due;
+use super::Sort;
+use super::Walk;
+use super::expression::read_operand;
+use super::word::word_due;
+use words::CommandWord;
+use words::Word;
+ghost use mathlib.Core.Path.{_≡_};
+ghost use Rattle.layout.specs.Read.{command};
+ghost use Rattle.reader.specs.Walk.{walkOf, onward};
+
+pub fn read_command(w: &[u32], at: usize, left: usize) -> Walk
+    ensures { λ r. ⌜ r ≡ walkOf (command (now (w .entry)) left at) ⌝ }
+{
+    let d = word_due(w, at, left);
+    match d {
+        Due::Stop(n, p) => Walk::Refused(n, p),
+        Due::There(word, next, below) => match word {
+            Word::Command(c) => match c {
+                CommandWord::Skip => Walk::Next(next),
+                CommandWord::Sequence => read_body(w, read_body(w, Walk::Next(next), below), below),
+                CommandWord::Assert => read_operand(Sort::Boolean, w, Walk::Next(next), below),
+                CommandWord::AssignScalar(_) => read_operand(
+                    Sort::Arithmetic,
+                    w,
+                    Walk::Next(next),
+                    below,
+                ),
+                CommandWord::AssignArray(_) => read_operand(
+                    Sort::Array,
+                    w,
+                    Walk::Next(next),
+                    below,
+                ),
+                CommandWord::If => {
+                    let test = read_operand(Sort::Boolean, w, Walk::Next(next), below);
+                    read_body(w, read_body(w, test, below), below)
+                }
+                CommandWord::While => {
+                    let test = read_operand(Sort::Boolean, w, Walk::Next(next), below);
+                    read_body(w, test, below)
+                }
+                CommandWord::For(_, _) => read_body(w, Walk::Next(next), below),
+            },
+            _ => Walk::Refused(5, at),
+        },
+    }
+}
+
+// A command that is a part, from where the walk so far goes on.
+fn read_body(w: &[u32], from: Walk, left: usize) -> Walk
+    ensures { λ r. ⌜ r ≡ onward from (λ p. walkOf (command (now (w .entry)) left p)) ⌝ }
+{
+    match from {
+        Walk::Next(at) => read_command(w, at, left),
+        Walk::Refused(_, _) => from,
+    }
+}

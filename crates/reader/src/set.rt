@@ -1,0 +1,100 @@
+// Members and sets.
+use super::Due;
+use super::Limits;
+use super::Sort;
+use super::Walk;
+use super::expression::read_boolean;
+use super::expression::read_operand;
+use super::word::word_due;
+use words::Word;
+ghost use mathlib.Core.Path.{_≡_};
+ghost use Rattle.layout.specs.Bytes.{kindAt};
+ghost use Rattle.layout.specs.Reading.{several};
+ghost use Rattle.layout.specs.Read.{sortOf, consequentAt, memberAt, set};
+ghost use Rattle.reader.specs.Walk.{walkOf, onward, limitsOf, sortMeant};
+
+// The sort that a kind is of; a kind of no expression counts as arithmetic, whose reader refuses it.
+fn sort_of(kind: u32) -> Sort
+    ensures { λ r. ⌜ sortMeant r ≡ sortOf kind ⌝ }
+{
+    if kind < 8 {
+        return Sort::Arithmetic;
+    }
+    if kind <= 12 {
+        return Sort::Boolean;
+    }
+    if kind < 16 {
+        return Sort::Arithmetic;
+    }
+    if kind <= 18 {
+        return Sort::Array;
+    }
+    Sort::Arithmetic
+}
+
+// The sort of an expression by its first word.
+fn sort_at(w: &[u32], at: usize) -> Sort
+    ensures { λ r. ⌜ sortMeant r ≡ sortOf (kindAt (now (w .entry)) at) ⌝ }
+{
+    if at < w.len() {
+        sort_of(words::decode::kind(w[at]))
+    } else {
+        sort_of(0)
+    }
+}
+
+// An expression of any sort.
+fn read_consequent(w: &[u32], at: usize, left: usize) -> Walk
+    ensures { λ r. ⌜ r ≡ walkOf (consequentAt (now (w .entry)) left at) ⌝ }
+{
+    read_operand(sort_at(w, at), w, Walk::Next(at), left)
+}
+
+fn read_member(w: &[u32], at: usize, left: usize) -> Walk
+    ensures { λ r. ⌜ r ≡ walkOf (memberAt (now (w .entry)) left at) ⌝ }
+{
+    let antecedent = read_boolean(w, at, left);
+    match antecedent {
+        Walk::Next(p) => read_consequent(w, p, left),
+        Walk::Refused(_, _) => antecedent,
+    }
+}
+
+fn read_members(w: &[u32], count: u32, at: usize, left: usize) -> Walk
+    ensures { λ r. ⌜ r ≡ walkOf (several count (memberAt (now (w .entry)) left) at) ⌝ }
+{
+    let mut p = at;
+    let mut i: u32 = 0;
+    while i < count {
+        let m = read_member(w, p, left);
+        match m {
+            Walk::Next(q) => {
+                p = q;
+            }
+            Walk::Refused(_, _) => return m,
+        }
+        i += 1;
+    }
+    Walk::Next(p)
+}
+
+pub fn read_set(w: &[u32], limits: Limits, at: usize, left: usize) -> Walk
+    ensures { λ r. ⌜ r ≡ walkOf (set (limitsOf limits) (now (w .entry)) left at) ⌝ }
+{
+    let d = word_due(w, at, left);
+    match d {
+        Due::Stop(n, p) => Walk::Refused(n, p),
+        Due::There(word, next, below) => match word {
+            Word::Set(count) => {
+                let k = count as usize;
+                let most = limits.members;
+                if k <= most {
+                    read_members(w, count, next, below)
+                } else {
+                    Walk::Refused(5, at)
+                }
+            }
+            _ => Walk::Refused(5, at),
+        },
+    }
+}

@@ -1,0 +1,191 @@
+-- The test of a place and the scan for the first, in a file that was read.
+-- Assumes nothing.
+--     tested-else, tested-same, tested-first, tested-second
+--                                            a word of another kind; q = m; by q and by m in what the body modifies
+--     Passed, passed-none, passed-more       no place before has such a `for`: at the first place, and after a turn
+--     found-here, found-none                 the answers of the scan
+use mathlib.Core.Path.{_≡_, refl, sym, ap, subst, _∙_}
+use mathlib.Core.Bool.{Bool, true, false, not, _&&_, _||_, Bool·not-not}
+use mathlib.Core.List.{List}
+use mathlib.Core.Option.{none, some}
+use Prim.Native.Nat.{ℕ, zero, suc, _+_, _*_, _-_, _/_, _%_, _<_, _≤_}
+use native.Mathlib.Omega.{arith}
+use native.Mathlib.Numerals.{add-one}
+use borrow.Author.Tests.{eq-eqb, ne-eqb}
+use lib.Dec.{eqb}
+use lib.ListN.{getD}
+use Rattle.language.specs.Syntax.{Command, for}
+use Rattle.language.specs.Modifies.{scalarOf, modifies}
+use Rattle.rules.specs.Words.{forWord, commandWords}
+use Rattle.rules.specs.Context.{Limits}
+use Rattle.rules.specs.Condition.{byForm}
+use Rattle.layout.specs.Bytes.{wordCount, kindAt, payloadAt}
+use Rattle.layout.specs.Reading.{read}
+use Rattle.layout.specs.Read.{command}
+use Rattle.layout.specs.Spelling.{FitsCommand}
+use Rattle.layout.specs.EvidenceWords.{commandPart}
+use Rattle.layout.specs.Standing.{PartStands}
+use Rattle.layout.specs.For.{steady, unsteady, unsteadyAt, firstUnsteady}
+use Rattle.layout.proofs.Back.{command-stands}
+use Rattle.ends.specs.Ends.{EndsOf}
+use Rattle.ends.proofs.Small.{content-at}
+use Rattle.ends.proofs.Ends.{rest, less-fit}
+use Rattle.scan.specs.Mask.{bit, ModifiedBy}
+use Rattle.scan.specs.Scan.{Modified}
+use Rattle.scan.specs.Steady.{WholeFile, steadinessOf, Tested, FirstFound}
+use Rattle.scan.specs.declared.steady.Steadiness.{Steadiness}
+use Rattle.scan.specs.declared.steady.Steadiness.the-variants.{Steady, At}
+use Rattle.scan.proofs.Places.{command-starts}
+use Rattle.scan.proofs.Deeper.{command-deeper}
+use Rattle.scan.proofs.Fors.{ForAt, file-fors}
+
+-- a `for` over q up to m with body c stands at the place
+record Over (file : List ℕ) (at q m : ℕ) (c : Command) : Type 0 where
+  levels : ℕ
+  past : ℕ
+  first-low : q ≤ 31
+  second-low : m ≤ 31
+  content : payloadAt file at ≡ q + 32 * m
+  stands : PartStands file (commandPart (for q m c)) (suc levels) at past
+
+for-steady : (q m : ℕ) (c : Command) (p : ℕ) → unsteady (read (for q m c) p) ≡ not (steady q m c)
+unfolding byForm
+for-steady q m c p = refl
+
+module _ (file : List ℕ) (at : ℕ) where
+  not-for : (limits : Limits) → (kindAt file at ≡ 31 → ⊥) → unsteadyAt limits file at ≡ false
+  unfolding unsteadyAt
+  not-for limits h = rw (ne-eqb (kindAt file at) 31 h, unsteadyAt) refl
+
+  is-for : (limits : Limits) → kindAt file at ≡ 31 →
+      unsteadyAt limits file at ≡ unsteady (command file (limits .depth) at)
+  unfolding unsteadyAt
+  is-for limits h = rw (eq-eqb (kindAt file at) 31 h, unsteadyAt) refl
+
+  pub tested-else : (kindAt file at ≡ 31 → ⊥) → Tested file at false
+  tested-else h = record { place = λ limits f. sym (not-for limits h) }
+
+  over : (n : ℕ) (x : ForAt file n at) → Over file at (x .q) (x .m) (x .body)
+  unfolding commandWords FitsCommand
+  over n x = record {
+    levels = x .levels;
+    past = x .past;
+    first-low = x .stands .fit .0 .0;
+    second-low = x .stands .fit .0 .1;
+    content = content-at file at (forWord (x .q) (x .m)) (x .stands .stand .1) (x .stands .fit .0);
+    stands = x .stands;
+  }
+
+  read-for : (n : ℕ) (x : ForAt file n at) → command file n at ≡ read (for (x .q) (x .m) (x .body)) (x .past)
+  read-for n x =
+      let c = for (x .q) (x .m) (x .body) in
+      command-stands file n c at (x .past)
+      (record { stand = x .stands .stand; fit = command-deeper (suc (x .levels)) n (x .within) c (x .stands .fit) })
+      .back
+
+  tested-for : at < wordCount file → kindAt file at ≡ 31 → (b : Bool) →
+      ((q m : ℕ) (c : Command) → Over file at q m c → b ≡ not (steady q m c)) → Tested file at b
+  tested-for l h b f = record {
+    place = λ limits k.
+        let x = file-fors limits file k .each at (omega arith) l h in
+        f (x .q) (x .m) (x .body) (over (limits .depth) x)
+        ∙ sym
+        (is-for limits h ∙ ap unsteady (read-for (limits .depth) x) ∙ for-steady (x .q) (x .m) (x .body) (x .past));
+  }
+
+  first-number : {q m : ℕ} {c : Command} → Over file at q m c → payloadAt file at % 32 ≡ q
+  first-number o = omega (arith, o .content, o .first-low)
+
+  second-number : {q m : ℕ} {c : Command} → Over file at q m c → payloadAt file at / 32 ≡ m
+  second-number o = omega (arith, o .content, o .first-low)
+
+  pub tested-same : at < wordCount file → kindAt file at ≡ 31 → payloadAt file at % 32 ≡ payloadAt file at / 32 →
+      Tested file at true
+  tested-same l h e = tested-for l h true λ q m c o.
+      rw (eq-eqb q m (sym (first-number o) ∙ e ∙ second-number o)) refl
+
+  module _ (ends : List ℕ) (e : EndsOf file ends) (end mask : ℕ)
+      (near : getD ends at 0 ≤ wordCount file → end ≡ getD ends at 0) (b : Modified file (at + 1) end mask) where
+    -- the mask is what the body modifies
+    body-mask : {q m : ℕ} {c : Command} → Over file at q m c → ModifiedBy c mask
+    unfolding commandWords FitsCommand
+    body-mask {q} {m} {c} o =
+        let s = o .stands in
+        let f = e .command-end (for q m c) (suc (o .levels)) at (o .past) s in
+        let i = command-starts file ends e (for q m c) (suc (o .levels)) at (o .past) s .past-inside in
+        b .command c (o .levels)
+        (subst (λ p. PartStands file (commandPart c) (o .levels) (at + 1) p) (sym (near i ∙ f)) (less-fit (rest s)))
+
+    module _ (l : at < wordCount file) (h : kindAt file at ≡ 31)
+        (u : payloadAt file at % 32 ≡ payloadAt file at / 32 → ⊥) where
+      two-scalars : {q m : ℕ} {c : Command} → Over file at q m c → eqb q m ≡ false
+      two-scalars {q} {m} o = ne-eqb q m (λ f. u (first-number o ∙ f ∙ sym (second-number o)))
+
+      pub tested-first : bit mask (payloadAt file at % 32) ≡ true → Tested file at true
+      tested-first y = tested-for l h true λ q m c o.
+          let x : modifies c (scalarOf q) ≡ true =
+          sym (body-mask o .marks (scalarOf q) (o .first-low)) ∙ ap (bit mask) (sym (first-number o)) ∙ y in
+          rw (two-scalars o) (rw x refl)
+
+      pub tested-second : bit mask (payloadAt file at % 32) ≡ false →
+          Tested file at (bit mask (payloadAt file at / 32 % 32))
+      tested-second y = tested-for l h (bit mask (payloadAt file at / 32 % 32)) λ q m c o.
+          let x : modifies c (scalarOf q) ≡ false =
+          sym (body-mask o .marks (scalarOf q) (o .first-low)) ∙ ap (bit mask) (sym (first-number o)) ∙ y in
+          let z : payloadAt file at / 32 % 32 ≡ m = omega (arith, second-number o, o .second-low) in
+          ap (bit mask) z ∙ body-mask o .marks (scalarOf m) (o .second-low)
+          ∙ rw (two-scalars o) (rw x (sym (Bool·not-not (modifies c (scalarOf m)))))
+
+-- the scan from a place on
+module _ (file : List ℕ) where
+  -- no place before `at` has such a `for`
+  pub record Passed (at : ℕ) : Type 0 where
+    pub rest-of : (limits : Limits) → WholeFile limits file →
+        firstUnsteady limits file (wordCount file - at) at ≡ firstUnsteady limits file (wordCount file) 0
+
+  pub passed-none : Passed 0
+  passed-none = record {
+    rest-of = λ limits f.
+        let e : wordCount file - 0 ≡ wordCount file = omega arith in
+        ap (λ n. firstUnsteady limits file n 0) e;
+  }
+
+  one-less : (at : ℕ) → at < wordCount file → wordCount file - at ≡ suc (wordCount file - (at + 1))
+  one-less at h = omega arith
+
+  found : (limits : Limits) (n at : ℕ) → unsteadyAt limits file at ≡ true →
+      firstUnsteady limits file (suc n) at ≡ some at
+  unfolding firstUnsteady
+  found limits n at e = rw (e, firstUnsteady) refl
+
+  skipped : (limits : Limits) (n at : ℕ) → unsteadyAt limits file at ≡ false →
+      firstUnsteady limits file (suc n) at ≡ firstUnsteady limits file n (at + 1)
+  unfolding firstUnsteady
+  skipped limits n at e = rw (add-one at) (rw (e, firstUnsteady) refl)
+
+  nothing : (limits : Limits) (at : ℕ) → firstUnsteady limits file 0 at ≡ none
+  unfolding firstUnsteady
+  nothing limits at = refl
+
+  pub passed-more : (at : ℕ) → at < wordCount file → Passed at → Tested file at false → Passed (at + 1)
+  passed-more at h p t = record {
+    rest-of = λ limits f.
+        sym (skipped limits (wordCount file - (at + 1)) at (sym (t .place limits f)))
+        ∙ ap (λ n. firstUnsteady limits file n at) (sym (one-less at h)) ∙ p .rest-of limits f;
+  }
+
+  pub found-here : (at : ℕ) → at < wordCount file → Passed at → Tested file at true → FirstFound file (At at)
+  found-here at h p t = record {
+    place = λ limits f.
+        ap steadinessOf
+        (sym (found limits (wordCount file - (at + 1)) at (sym (t .place limits f)))
+        ∙ ap (λ n. firstUnsteady limits file n at) (sym (one-less at h)) ∙ p .rest-of limits f);
+  }
+
+  pub found-none : (at : ℕ) → wordCount file ≤ at → Passed at → FirstFound file Steady
+  found-none at h p = record {
+    place = λ limits f.
+        let e : 0 ≡ wordCount file - at = omega arith in
+        ap steadinessOf
+        (sym (nothing limits at) ∙ ap (λ n. firstUnsteady limits file n at) e ∙ p .rest-of limits f);
+  }

@@ -1,0 +1,60 @@
+-- `scan::steady::unsteady_at` meets its contract: the word's payload has q and m, and the mask what the body modifies.
+-- Assumes nothing.
+use mathlib.Core.Path.{_≡_, sym, subst, _∙_}
+use native.Mathlib.Omega.{arith}
+use borrow.Author.Needs.{needs}
+use Rattle.scan.specs.Steady.{Tested}
+use Rattle.scan.proofs.Tests.{tested-else, tested-same, tested-first, tested-second}
+use Rattle.scan.proofs.steady.unsteady_at.Statement.{statement}
+use Rattle.scan.proofs.steady.unsteady_at.Tie as tie
+use Rattle.scan.proofs.steady.unsteady_at.Reads as reads
+use Rattle.scan.proofs.steady.unsteady_at.Lts as lts
+use Rattle.scan.proofs.steady.least.Reads as least-reads
+use Rattle.scan.proofs.range.modified.Reads as modified-reads
+use Rattle.scan.proofs.mask.has_bit.Reads as has-bit-reads
+
+returns : tie.Need-returns
+returns c = tested-else _ _ (c .if1 .taken)
+
+returns-2 : tie.Need-returns-2
+returns-2 c =
+    tested-same _ _ (c .before .before .before .before .before .pre .inside) (c .before .if1 .left) (c .if2 .taken)
+
+returns-3 : tie.Need-returns-3
+returns-3 c =
+    let least = c .before .before .before in
+    let if2 = least .before .before in
+    let args = if2 .before .before .before .before .before in
+    tested-first _ _ _ (args .pre .places) _ _ (least .least .ensures .1) (c .before .before .modified .ensures)
+    (args .pre .inside) (if2 .before .if1 .left) (if2 .if2 .left) (sym (c .before .has-bit .ensures) ∙ c .if3 .taken)
+
+returns-4 : tie.Need-returns-4
+returns-4 c =
+    let least = c .before .before .before .before in
+    let if2 = least .before .before in
+    let args = if2 .before .before .before .before .before in
+    subst (Tested _ _) (sym (c .has-bit2 .ensures))
+    (tested-second _ _ _ (args .pre .places) _ _ (least .least .ensures .1)
+    (c .before .before .before .modified .ensures) (args .pre .inside) (if2 .before .if1 .left) (if2 .if2 .left)
+    (sym (c .before .before .has-bit .ensures) ∙ c .before .if3 .left))
+
+pub unsteady-at-spec : {M : Type 1} → statement M
+unsteady-at-spec =
+    tie.close
+    (tie.spec
+    (λ c. search needs)
+    (λ c. omega (arith, c .before .before .before .pre .inside))
+    returns
+    returns-2
+    (λ c. search needs)
+    (λ c.
+    let args = c .before .before .before .before .before .before in
+    omega (arith, args .pre .inside, args .pre .places .long))
+    (λ c. omega (arith, c .shared-slice-known4 .given (c .before .before .before .before .before .before .args .at)))
+    (λ c κs. search needs)
+    (λ c. omega (arith, c .before .before .before .before .before .before .before .pre .inside))
+    (λ c κs. c .least .ensures .0)
+    (λ c κs. search needs)
+    returns-3
+    (λ c κs. search needs)
+    returns-4)

@@ -1,0 +1,57 @@
+// Refusal 7 (document 01, "Judging order"): a `for` has q = m or a body that modifies q or m.
+use super::mask::has_bit;
+use super::range::modified;
+ghost use mathlib.Core.Path.{_≡_};
+ghost use Prim.Native.Nat.{_≤_};
+ghost use Rattle.ends.specs.Ends.{EndsOf};
+ghost use Rattle.scan.specs.Steady.{CanTest, Tested, FirstFound};
+
+// Whether a file has no such `for`, or the place of the first.
+pub enum Steadiness {
+    Steady,
+    At(usize),
+}
+
+fn least(a: usize, b: usize) -> usize
+    ensures { λ r. ⌜ (r ≤ b) × (a ≤ b → r ≡ a) ⌝ }
+{
+    if a < b { a } else { b }
+}
+
+// Whether such a `for` stands at a place.
+fn unsteady_at(w: &[u32], ends: &[u32], at: usize) -> bool
+    requires { ⌜ CanTest (now w) (now ends) «at» ⌝ }
+    ensures { λ r. ⌜ Tested (now (w .entry)) «at» r ⌝ }
+{
+    let x = w[at];
+    if x / 67108864 != 31 {
+        return false;
+    }
+    let payload = x % 67108864;
+    let q = payload % 32;
+    let m = payload / 32;
+    if q == m {
+        return true;
+    }
+    let end = least(ends[at] as usize, w.len());
+    let body = modified(w, at + 1, end);
+    if has_bit(body, q) {
+        return true;
+    }
+    has_bit(body, m % 32)
+}
+
+// The first such `for`, of the program or of the evidence.
+pub fn first_unsteady(w: &[u32], ends: &[u32]) -> Steadiness
+    requires { ⌜ EndsOf (now w) (now ends) ⌝ }
+    ensures { λ r. ⌜ FirstFound (now (w .entry)) r ⌝ }
+{
+    let mut at = 0;
+    while at < w.len() {
+        if unsteady_at(w, ends, at) {
+            return Steadiness::At(at);
+        }
+        at += 1;
+    }
+    Steadiness::Steady
+}

@@ -1,0 +1,223 @@
+-- What the layout's tables give at a decoded word: how the parts that follow it are read, or nothing where the word is not
+-- allowed.
+-- Working: proofs/Tables.antt, a law for each table.
+--     operatorMeant, comparisonMeant                                          of the enums
+--     arithmeticMeaning, booleanMeaning, arrayMeaning, expressionMeaning      of expressions
+--     commandMeaning, setMeaning                                              of commands and sets
+--     preMeaning, implicationMeaning, flowMeaning                             of evidence
+use mathlib.Core.Option.{Option, none, some}
+use Prim.Native.Nat.{ℕ}
+use Rattle.language.specs.Syntax as syntax
+use Rattle.language.specs.Syntax.{Sort, Expr, constant, scalar, operation, select}
+use Rattle.language.specs.Syntax.{compare, truth, and, or, neg, array, zeros, update, toScalar, toArray}
+use Rattle.language.specs.Syntax.{skip, sequence, assert, assign, ifElse, while, for}
+use Rattle.rules.specs.Assertion.{Member, Members}
+use Rattle.rules.specs.Context.{Limits}
+use Rattle.rules.specs.Evidence.{PreEvidence, pre20, pre21, pre22, pre23, pre24, pre25, pre26, pre27, pre28, pre29, pre30}
+use Rattle.rules.specs.Evidence.{SetEvidence, set13, set14, set15, set16, set17, set18, set19}
+use Rattle.rules.specs.Evidence.{FlowEvidence, flow1, flow2, flow3, flow4, flow5, flow6, flow7, flow8, flow9}
+use Rattle.rules.specs.Evidence.{flow10, flow11, flow12, flow13, flow14}
+use Rattle.layout.specs.Reading.{Reader, leaf, _⊛_, several, upTo}
+use Rattle.words.specs.declared.Operator.{Operator}
+use Rattle.words.specs.declared.Operator.the-variants.{Plus, Minus, Times}
+use Rattle.words.specs.declared.Comparison.{Comparison}
+use Rattle.words.specs.declared.Comparison.the-variants.{Equal, Less, AtMost}
+use Rattle.words.specs.declared.ArithmeticWord.{ArithmeticWord}
+use Rattle.words.specs.declared.ArithmeticWord.the-variants.{Constant, Scalar, Operation, Select}
+use Rattle.words.specs.declared.BooleanWord.{BooleanWord}
+use Rattle.words.specs.declared.BooleanWord.the-variants.{Compare, Truth, And, Or, Not}
+use Rattle.words.specs.declared.ArrayWord.{ArrayWord}
+use Rattle.words.specs.declared.ArrayWord.the-variants.{Identifier, Zeros, Update}
+use Rattle.words.specs.declared.CommandWord.{CommandWord}
+use Rattle.words.specs.declared.CommandWord.the-variants.{Skip, Sequence, Assert, AssignScalar, AssignArray, If, While, For}
+use Rattle.words.specs.declared.FlowRule.{FlowRule}
+use Rattle.words.specs.declared.FlowRule.the-variants.{Flow1, Flow2, Flow3, Flow4, Flow5, Flow6, Flow7, Flow8, Flow9}
+use Rattle.words.specs.declared.FlowRule.the-variants.{Flow10, Flow11, Flow12, Flow13, Flow14}
+use Rattle.words.specs.declared.SetRule.{SetRule}
+use Rattle.words.specs.declared.SetRule.the-variants.{Set13, Set14, Set15, Set16, Set17, Set18, Set19}
+use Rattle.words.specs.declared.PreRule.{PreRule}
+use Rattle.words.specs.declared.PreRule.the-variants.{Pre20, Pre21, Pre22, Pre23, Pre24, Pre25, Pre26, Pre27, Pre28}
+use Rattle.words.specs.declared.PreRule.the-variants.{Pre29, Pre30}
+use Rattle.words.specs.declared.Word.{Word}
+use Rattle.words.specs.declared.Word.the-variants.{Arithmetic, Boolean, Array, Command, Set, Flow, Implication, Precondition, Other}
+
+abbrev pub operatorMeant : Operator → syntax.Operator
+operatorMeant Plus = syntax.plus
+operatorMeant Minus = syntax.minus
+operatorMeant Times = syntax.times
+
+abbrev pub comparisonMeant : Comparison → syntax.Comparison
+comparisonMeant Equal = syntax.equal
+comparisonMeant Less = syntax.less
+comparisonMeant AtMost = syntax.atMost
+
+-- `part j` reads an operand of sort j
+module _ (part : (j : Sort) → Reader (Expr j)) where
+  abbrev pub arithmeticParts : ArithmeticWord → Reader (Expr syntax.Arithmetic)
+  arithmeticParts (Constant z) = leaf (constant z)
+  arithmeticParts (Scalar x) = leaf (scalar x)
+  arithmeticParts (Operation o) = leaf (operation (operatorMeant o)) ⊛ part syntax.Arithmetic ⊛ part syntax.Arithmetic
+  arithmeticParts Select = leaf select ⊛ part syntax.Array ⊛ part syntax.Arithmetic
+
+  abbrev pub booleanParts : BooleanWord → Reader (Expr syntax.Boolean)
+  booleanParts (Compare r) = leaf (compare (comparisonMeant r)) ⊛ part syntax.Arithmetic ⊛ part syntax.Arithmetic
+  booleanParts (Truth t) = leaf (truth t)
+  booleanParts And = leaf and ⊛ part syntax.Boolean ⊛ part syntax.Boolean
+  booleanParts Or = leaf or ⊛ part syntax.Boolean ⊛ part syntax.Boolean
+  booleanParts Not = leaf neg ⊛ part syntax.Boolean
+
+  abbrev pub arrayParts : ArrayWord → Reader (Expr syntax.Array)
+  arrayParts (Identifier a) = leaf (array a)
+  arrayParts Zeros = leaf zeros
+  arrayParts Update = leaf update ⊛ part syntax.Array ⊛ part syntax.Arithmetic ⊛ part syntax.Arithmetic
+
+  abbrev pub arithmeticMeaning : Word → Option (Reader (Expr syntax.Arithmetic))
+  arithmeticMeaning (Arithmetic a) = some (arithmeticParts a)
+  arithmeticMeaning (Boolean b) = none
+  arithmeticMeaning (Array a) = none
+  arithmeticMeaning (Command c) = none
+  arithmeticMeaning (Set k) = none
+  arithmeticMeaning (Flow r) = none
+  arithmeticMeaning (Implication r) = none
+  arithmeticMeaning (Precondition r) = none
+  arithmeticMeaning Other = none
+
+  abbrev pub booleanMeaning : Word → Option (Reader (Expr syntax.Boolean))
+  booleanMeaning (Arithmetic a) = none
+  booleanMeaning (Boolean b) = some (booleanParts b)
+  booleanMeaning (Array a) = none
+  booleanMeaning (Command c) = none
+  booleanMeaning (Set k) = none
+  booleanMeaning (Flow r) = none
+  booleanMeaning (Implication r) = none
+  booleanMeaning (Precondition r) = none
+  booleanMeaning Other = none
+
+  abbrev pub arrayMeaning : Word → Option (Reader (Expr syntax.Array))
+  arrayMeaning (Arithmetic a) = none
+  arrayMeaning (Boolean b) = none
+  arrayMeaning (Array a) = some (arrayParts a)
+  arrayMeaning (Command c) = none
+  arrayMeaning (Set k) = none
+  arrayMeaning (Flow r) = none
+  arrayMeaning (Implication r) = none
+  arrayMeaning (Precondition r) = none
+  arrayMeaning Other = none
+
+  abbrev pub expressionMeaning : (j : Sort) → Word → Option (Reader (Expr j))
+  expressionMeaning syntax.Arithmetic w = arithmeticMeaning w
+  expressionMeaning syntax.Boolean w = booleanMeaning w
+  expressionMeaning syntax.Array w = arrayMeaning w
+
+-- `part j` reads an operand, `body` a command
+module _ (part : (j : Sort) → Reader (Expr j)) (body : Reader syntax.Command) where
+  abbrev pub commandParts : CommandWord → Reader syntax.Command
+  commandParts Skip = leaf skip
+  commandParts Sequence = leaf sequence ⊛ body ⊛ body
+  commandParts Assert = leaf assert ⊛ part syntax.Boolean
+  commandParts (AssignScalar x) = leaf (λ e. assign (toScalar x e)) ⊛ part syntax.Arithmetic
+  commandParts (AssignArray a) = leaf (λ e. assign (toArray a e)) ⊛ part syntax.Array
+  commandParts If = leaf ifElse ⊛ part syntax.Boolean ⊛ body ⊛ body
+  commandParts While = leaf while ⊛ part syntax.Boolean ⊛ body
+  commandParts (For q m) = leaf (for q m) ⊛ body
+
+  abbrev pub commandMeaning : Word → Option (Reader syntax.Command)
+  commandMeaning (Arithmetic a) = none
+  commandMeaning (Boolean b) = none
+  commandMeaning (Array a) = none
+  commandMeaning (Command c) = some (commandParts c)
+  commandMeaning (Set k) = none
+  commandMeaning (Flow r) = none
+  commandMeaning (Implication r) = none
+  commandMeaning (Precondition r) = none
+  commandMeaning Other = none
+
+-- a set of so many members at most, each read by `one`
+abbrev pub setMeaning : ℕ → Reader Member → Word → Option (Reader Members)
+setMeaning most one (Arithmetic a) = none
+setMeaning most one (Boolean b) = none
+setMeaning most one (Array a) = none
+setMeaning most one (Command c) = none
+setMeaning most one (Set k) = upTo most k (several k one)
+setMeaning most one (Flow r) = none
+setMeaning most one (Implication r) = none
+setMeaning most one (Precondition r) = none
+setMeaning most one Other = none
+
+-- b reads a boolean, c a command, m a set; n, s and f read evidence of kinds 35, 34 and 33; i is the word's place
+module _ (b : Reader (Expr syntax.Boolean)) (c : Reader syntax.Command) (n : Reader PreEvidence) (i : ℕ) where
+  abbrev pub preParts : PreRule → Reader PreEvidence
+  preParts Pre20 = leaf (pre20 i) ⊛ b ⊛ b ⊛ n ⊛ n
+  preParts Pre21 = leaf (pre21 i) ⊛ b ⊛ n
+  preParts Pre22 = leaf (pre22 i)
+  preParts Pre23 = leaf (pre23 i) ⊛ b ⊛ n ⊛ n
+  preParts Pre24 = leaf (pre24 i)
+  preParts Pre25 = leaf (pre25 i)
+  preParts Pre26 = leaf (pre26 i)
+  preParts Pre27 = leaf (pre27 i)
+  preParts Pre28 = leaf (pre28 i) ⊛ b ⊛ n
+  preParts Pre29 = leaf (pre29 i)
+  preParts Pre30 = leaf (pre30 i) ⊛ c ⊛ n
+
+  abbrev pub preMeaning : Word → Option (Reader PreEvidence)
+  preMeaning (Arithmetic a) = none
+  preMeaning (Boolean b) = none
+  preMeaning (Array a) = none
+  preMeaning (Command c) = none
+  preMeaning (Set k) = none
+  preMeaning (Flow r) = none
+  preMeaning (Implication r) = none
+  preMeaning (Precondition r) = some (preParts r)
+  preMeaning Other = none
+
+module _ (m : Reader Members) (s : Reader SetEvidence) (i : ℕ) where
+  abbrev pub implicationParts : SetRule → Reader SetEvidence
+  implicationParts Set13 = leaf (set13 i)
+  implicationParts Set14 = leaf (set14 i)
+  implicationParts Set15 = leaf (set15 i)
+  implicationParts Set16 = leaf (set16 i) ⊛ m ⊛ m ⊛ m ⊛ m ⊛ s ⊛ s
+  implicationParts Set17 = leaf (set17 i) ⊛ m ⊛ m ⊛ m ⊛ s ⊛ s
+  implicationParts Set18 = leaf (set18 i)
+  implicationParts Set19 = leaf (set19 i)
+
+  abbrev pub implicationMeaning : Word → Option (Reader SetEvidence)
+  implicationMeaning (Arithmetic a) = none
+  implicationMeaning (Boolean b) = none
+  implicationMeaning (Array a) = none
+  implicationMeaning (Command c) = none
+  implicationMeaning (Set k) = none
+  implicationMeaning (Flow r) = none
+  implicationMeaning (Implication r) = some (implicationParts r)
+  implicationMeaning (Precondition r) = none
+  implicationMeaning Other = none
+
+module _
+    (b : Reader (Expr syntax.Boolean)) (c : Reader syntax.Command) (m : Reader Members) (n : Reader PreEvidence)
+    (s : Reader SetEvidence) (f : Reader FlowEvidence) (i : ℕ)
+  where
+    abbrev pub flowParts : FlowRule → Reader FlowEvidence
+    flowParts Flow1 = leaf (flow1 i)
+    flowParts Flow2 = leaf (flow2 i) ⊛ m ⊛ f ⊛ f
+    flowParts Flow3 = leaf (flow3 i)
+    flowParts Flow4 = leaf (flow4 i)
+    flowParts Flow5 = leaf (flow5 i)
+    flowParts Flow6 = leaf (flow6 i) ⊛ m ⊛ m ⊛ b ⊛ f ⊛ f ⊛ n
+    flowParts Flow7 = leaf (flow7 i) ⊛ m ⊛ s ⊛ f
+    flowParts Flow8 = leaf (flow8 i) ⊛ m ⊛ f ⊛ s
+    flowParts Flow9 = leaf (flow9 i) ⊛ m ⊛ m ⊛ m ⊛ m ⊛ f ⊛ f
+    flowParts Flow10 = leaf (flow10 i)
+    flowParts Flow11 = leaf (flow11 i) ⊛ n
+    flowParts Flow12 = leaf (flow12 i) ⊛ m ⊛ m ⊛ b ⊛ b ⊛ f ⊛ n
+    flowParts Flow13 = leaf (flow13 i) ⊛ f
+    flowParts Flow14 = leaf (flow14 i) ⊛ c ⊛ f
+
+    abbrev pub flowMeaning : Word → Option (Reader FlowEvidence)
+    flowMeaning (Arithmetic a) = none
+    flowMeaning (Boolean b) = none
+    flowMeaning (Array a) = none
+    flowMeaning (Command c) = none
+    flowMeaning (Set k) = none
+    flowMeaning (Flow r) = some (flowParts r)
+    flowMeaning (Implication r) = none
+    flowMeaning (Precondition r) = none
+    flowMeaning Other = none

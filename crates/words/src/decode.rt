@@ -1,0 +1,232 @@
+// What a word stands for, by its kind and its payload.
+use super::ArithmeticWord;
+use super::ArrayWord;
+use super::BooleanWord;
+use super::CommandWord;
+use super::Comparison;
+use super::FlowRule;
+use super::Operator;
+use super::PreRule;
+use super::SetRule;
+use super::Word;
+ghost use mathlib.Core.Path.{_≡_};
+ghost use Prim.Native.Nat.{_/_, _%_};
+ghost use Rattle.layout.specs.Bytes.{signed as signedOf};
+ghost use Rattle.words.specs.Decode.{within, operatorWord, comparisonWord, truthWord, arithmeticOf, booleanOf, arrayOf, commandOf};
+ghost use Rattle.words.specs.Decode.{flowOf, setOf, preOf, evidenceOf, decodeOf};
+
+pub fn kind(word: u32) -> u32
+    ensures { λ r. ⌜ r ≡ word / 67108864 ⌝ }
+{
+    word / 67108864
+}
+
+pub fn payload(word: u32) -> u32
+    ensures { λ r. ⌜ r ≡ word % 67108864 ⌝ }
+{
+    word % 67108864
+}
+
+// A payload in two's complement.
+pub fn signed(payload: u32) -> i64
+    ensures { λ r. ⌜ r ≡ signedOf payload ⌝ }
+{
+    let p = payload as i64;
+    if payload < 33554432 { p } else { p - 67108864 }
+}
+
+fn operator_word(payload: u32) -> Word
+    ensures { λ r. ⌜ r ≡ operatorWord payload ⌝ }
+{
+    match payload {
+        0 => Word::Arithmetic(ArithmeticWord::Operation(Operator::Plus)),
+        1 => Word::Arithmetic(ArithmeticWord::Operation(Operator::Minus)),
+        2 => Word::Arithmetic(ArithmeticWord::Operation(Operator::Times)),
+        _ => Word::Other,
+    }
+}
+
+fn comparison_word(payload: u32) -> Word
+    ensures { λ r. ⌜ r ≡ comparisonWord payload ⌝ }
+{
+    match payload {
+        0 => Word::Boolean(BooleanWord::Compare(Comparison::Equal)),
+        1 => Word::Boolean(BooleanWord::Compare(Comparison::Less)),
+        2 => Word::Boolean(BooleanWord::Compare(Comparison::AtMost)),
+        _ => Word::Other,
+    }
+}
+
+fn truth_word(payload: u32) -> Word
+    ensures { λ r. ⌜ r ≡ truthWord payload ⌝ }
+{
+    match payload {
+        0 => Word::Boolean(BooleanWord::Truth(false)),
+        1 => Word::Boolean(BooleanWord::Truth(true)),
+        _ => Word::Other,
+    }
+}
+
+// A word whose payload is at most a bound.
+fn bounded(word: Word, payload: u32, most: u32) -> Word
+    ensures { λ r. ⌜ r ≡ within most payload word ⌝ }
+{
+    if payload <= most { word } else { Word::Other }
+}
+
+fn arithmetic_word(kind: u32, payload: u32) -> Word
+    ensures { λ r. ⌜ r ≡ arithmeticOf kind payload ⌝ }
+{
+    match kind {
+        1 => Word::Arithmetic(ArithmeticWord::Constant(signed(payload))),
+        2 => bounded(
+            Word::Arithmetic(ArithmeticWord::Scalar(payload)),
+            payload,
+            31,
+        ),
+        3 => operator_word(payload),
+        4 => bounded(Word::Arithmetic(ArithmeticWord::Select), payload, 0),
+        _ => Word::Other,
+    }
+}
+
+fn boolean_word(kind: u32, payload: u32) -> Word
+    ensures { λ r. ⌜ r ≡ booleanOf kind payload ⌝ }
+{
+    match kind {
+        8 => comparison_word(payload),
+        9 => truth_word(payload),
+        10 => bounded(Word::Boolean(BooleanWord::And), payload, 0),
+        11 => bounded(Word::Boolean(BooleanWord::Or), payload, 0),
+        12 => bounded(Word::Boolean(BooleanWord::Not), payload, 0),
+        _ => Word::Other,
+    }
+}
+
+fn array_word(kind: u32, payload: u32) -> Word
+    ensures { λ r. ⌜ r ≡ arrayOf kind payload ⌝ }
+{
+    match kind {
+        16 => bounded(Word::Array(ArrayWord::Identifier(payload)), payload, 31),
+        17 => bounded(Word::Array(ArrayWord::Zeros), payload, 0),
+        18 => bounded(Word::Array(ArrayWord::Update), payload, 0),
+        _ => Word::Other,
+    }
+}
+
+fn command_word(kind: u32, payload: u32) -> Word
+    ensures { λ r. ⌜ r ≡ commandOf kind payload ⌝ }
+{
+    match kind {
+        24 => bounded(Word::Command(CommandWord::Skip), payload, 0),
+        25 => bounded(Word::Command(CommandWord::Sequence), payload, 0),
+        26 => bounded(Word::Command(CommandWord::Assert), payload, 0),
+        27 => bounded(
+            Word::Command(CommandWord::AssignScalar(payload)),
+            payload,
+            31,
+        ),
+        28 => bounded(
+            Word::Command(CommandWord::AssignArray(payload)),
+            payload,
+            31,
+        ),
+        29 => bounded(Word::Command(CommandWord::If), payload, 0),
+        30 => bounded(Word::Command(CommandWord::While), payload, 0),
+        31 => bounded(
+            Word::Command(CommandWord::For(payload % 32, payload / 32)),
+            payload,
+            1023,
+        ),
+        _ => Word::Other,
+    }
+}
+
+fn flow_word(rule: u32) -> Word
+    ensures { λ r. ⌜ r ≡ flowOf rule ⌝ }
+{
+    match rule {
+        1 => Word::Flow(FlowRule::Flow1),
+        2 => Word::Flow(FlowRule::Flow2),
+        3 => Word::Flow(FlowRule::Flow3),
+        4 => Word::Flow(FlowRule::Flow4),
+        5 => Word::Flow(FlowRule::Flow5),
+        6 => Word::Flow(FlowRule::Flow6),
+        7 => Word::Flow(FlowRule::Flow7),
+        8 => Word::Flow(FlowRule::Flow8),
+        9 => Word::Flow(FlowRule::Flow9),
+        10 => Word::Flow(FlowRule::Flow10),
+        11 => Word::Flow(FlowRule::Flow11),
+        12 => Word::Flow(FlowRule::Flow12),
+        13 => Word::Flow(FlowRule::Flow13),
+        14 => Word::Flow(FlowRule::Flow14),
+        _ => Word::Other,
+    }
+}
+
+fn set_word(rule: u32) -> Word
+    ensures { λ r. ⌜ r ≡ setOf rule ⌝ }
+{
+    match rule {
+        13 => Word::Implication(SetRule::Set13),
+        14 => Word::Implication(SetRule::Set14),
+        15 => Word::Implication(SetRule::Set15),
+        16 => Word::Implication(SetRule::Set16),
+        17 => Word::Implication(SetRule::Set17),
+        18 => Word::Implication(SetRule::Set18),
+        19 => Word::Implication(SetRule::Set19),
+        _ => Word::Other,
+    }
+}
+
+fn pre_word(rule: u32) -> Word
+    ensures { λ r. ⌜ r ≡ preOf rule ⌝ }
+{
+    match rule {
+        20 => Word::Precondition(PreRule::Pre20),
+        21 => Word::Precondition(PreRule::Pre21),
+        22 => Word::Precondition(PreRule::Pre22),
+        23 => Word::Precondition(PreRule::Pre23),
+        24 => Word::Precondition(PreRule::Pre24),
+        25 => Word::Precondition(PreRule::Pre25),
+        26 => Word::Precondition(PreRule::Pre26),
+        27 => Word::Precondition(PreRule::Pre27),
+        28 => Word::Precondition(PreRule::Pre28),
+        29 => Word::Precondition(PreRule::Pre29),
+        30 => Word::Precondition(PreRule::Pre30),
+        _ => Word::Other,
+    }
+}
+
+fn evidence_word(kind: u32, payload: u32) -> Word
+    ensures { λ r. ⌜ r ≡ evidenceOf kind payload ⌝ }
+{
+    match kind {
+        32 => Word::Set(payload),
+        33 => flow_word(payload),
+        34 => set_word(payload),
+        35 => pre_word(payload),
+        _ => Word::Other,
+    }
+}
+
+// What a word stands for.
+pub fn decode(word: u32) -> Word
+    ensures { λ r. ⌜ r ≡ decodeOf word ⌝ }
+{
+    let k = kind(word);
+    let p = payload(word);
+    if k <= 4 {
+        return arithmetic_word(k, p);
+    }
+    if k <= 12 {
+        return boolean_word(k, p);
+    }
+    if k <= 18 {
+        return array_word(k, p);
+    }
+    if k <= 31 {
+        return command_word(k, p);
+    }
+    evidence_word(k, p)
+}
