@@ -7,6 +7,7 @@
 --     Implication    "Implies" as it is tried, and in a store
 --     Forms          commands and sets taken apart by their form
 --     Judged         the judge accepts exactly the derivations
+--     Verdicts       verdicts one after the other
 --     Replaced       substitution, in values
 --     Starts         what is known of commands and stores
 --     Agreement      agreement as sets demand
@@ -19,6 +20,7 @@ pub mod Table
 pub mod Implication
 pub mod Forms
 pub mod Judged
+pub mod Verdicts
 pub mod Replaced
 pub mod Starts
 pub mod Agreement
