@@ -89,7 +89,7 @@ pub record CanStep (file ends : List ℕ) (limit : ℕ) (goal : Goal) (at : ℕ)
   pub goal-stands : GoalStands limits file goal tree (suc levels) at end
 
 pub record StepOf (file : List ℕ) (limit : ℕ) (goal : Goal) (at : ℕ) (r : Step) : Type 0 where
-  pub comes : (limits : Limits) → limits .comparisons ≡ limit → (g : TreeGoal) (d end : ℕ) →
+  pub comes : (limits : Limits) → limits .comparisons ≡ limit → (g : TreeGoal) (d end : ℕ) → d ≤ 256 →
       GoalStands limits file goal g (suc d) at end → Comes limits file g d at end r
 
 abbrev pub judgedOf : Verdict → ℕ → Judged

@@ -1,0 +1,122 @@
+-- What stands at a place, by its end in the list of ends.
+-- Assumes nothing.
+--     expression-past, command-past, set-past    where it ends
+--     written, commanded, member-set             it stands up to its end in the list
+--     written-at, command-at, set-at             the same of what stands at a place of a goal
+--     at-written, at-command, at-set             and back
+--     written-any, written-inside                an expression of some sort; it has words, and ends in the file
+--     command-inside, set-inside                 the same of a command and of a set
+--     written-known, command-known, set-known    its place is in the list of ends
+use mathlib.Core.Path.{_≡_, refl, sym, subst}
+use mathlib.Core.List.{List, [], _∷_, _++_}
+use Prim.Native.Nat.{ℕ, zero, suc, _+_, _<_, _≤_}
+use native.Mathlib.Omega.{arith}
+use lib.IntN.{pos}
+use lib.ListN.{length}
+use Rattle.language.specs.Syntax.{Sort, Expr, toScalar, toArray}
+use Rattle.language.specs.Syntax.{Command, skip, sequence, assert, assign, ifElse, while, for}
+use Rattle.rules.specs.Assertion.{Members}
+use Rattle.rules.specs.Context.{Limits}
+use Rattle.rules.specs.Words.{Word, word, forWord, words, commandWords}
+use Rattle.layout.specs.Spelling.{membersWords}
+use Rattle.layout.specs.EvidenceWords.{expressionPart, commandPart, setPart}
+use Rattle.layout.specs.Standing.{StandsTo, PartStands}
+use Rattle.ends.specs.Ends.{EndsOf}
+use Rattle.compare.specs.Places.{endAt, AnyAt}
+use Rattle.compare.proofs.Operands.{Inside, expression-inside, stands-inside}
+use Rattle.goals.specs.Goals.{At}
+use Rattle.rule_laws.specs.Places.{WrittenAt, CommandAt, SetAt, PartKnown}
+
+module _ {file ends : List ℕ} (o : EndsOf file ends) where
+  pub expression-past : {k : Sort} (e : Expr k) (d at p : ℕ) → PartStands file (expressionPart e) d at p → p ≡ endAt ends at
+  expression-past e d at p s = sym (o .expression-end e d at p s)
+
+  pub command-past : (c : Command) (d at p : ℕ) → PartStands file (commandPart c) d at p → p ≡ endAt ends at
+  command-past c d at p s = sym (o .command-end c d at p s)
+
+  pub set-past : (limits : Limits) (m : Members) (d at p : ℕ) → PartStands file (setPart limits m) d at p → p ≡ endAt ends at
+  set-past limits m d at p s = sym (o .set-end limits m d at p s)
+
+  pub written : {k : Sort} (e : Expr k) (d at p : ℕ) → d ≤ 256 → PartStands file (expressionPart e) d at p →
+      WrittenAt file ends e at
+  written e d at p l s = record {
+    levels = d;
+    low = l;
+    stands = subst (λ q. PartStands file (expressionPart e) d at q) (expression-past e d at p s) s;
+  }
+
+  pub commanded : (c : Command) (d at p : ℕ) → d ≤ 256 → PartStands file (commandPart c) d at p → CommandAt file ends c at
+  commanded c d at p l s = record {
+    levels = d;
+    low = l;
+    stands = subst (λ q. PartStands file (commandPart c) d at q) (command-past c d at p s) s;
+  }
+
+  pub member-set : (limits : Limits) (m : Members) (d at p : ℕ) → d ≤ 256 → PartStands file (setPart limits m) d at p →
+      SetAt file ends limits m at
+  member-set limits m d at p l s = record {
+    levels = d;
+    low = l;
+    stands = subst (λ q. PartStands file (setPart limits m) d at q) (set-past limits m d at p s) s;
+  }
+
+  pub written-at : {k : Sort} (e : Expr k) {at : ℕ} → At file (expressionPart e) at → WrittenAt file ends e at
+  written-at e {at} a = written e (a .levels) at (a .end) (a .low) (a .stands)
+
+  pub command-at : (c : Command) {at : ℕ} → At file (commandPart c) at → CommandAt file ends c at
+  command-at c {at} a = commanded c (a .levels) at (a .end) (a .low) (a .stands)
+
+  pub set-at : (limits : Limits) (m : Members) {at : ℕ} → At file (setPart limits m) at → SetAt file ends limits m at
+  set-at limits m {at} a = member-set limits m (a .levels) at (a .end) (a .low) (a .stands)
+
+-- a command has a first word
+first-word : (c : Command) → (w : Word) × (l : List Word) × (commandWords c ≡ w ∷ l)
+unfolding commandWords
+first-word skip = (word 24 (pos 0), [], refl)
+first-word (sequence c d) = (word 25 (pos 0), commandWords c ++ commandWords d, refl)
+first-word (assert b) = (word 26 (pos 0), words b, refl)
+first-word (assign (toScalar x e)) = (word 27 (pos x), words e, refl)
+first-word (assign (toArray x e)) = (word 28 (pos x), words e, refl)
+first-word (ifElse b c d) = (word 29 (pos 0), words b ++ (commandWords c ++ commandWords d), refl)
+first-word (while b c) = (word 30 (pos 0), words b ++ commandWords c, refl)
+first-word (for q m c) = (forWord q m, commandWords c, refl)
+
+module _ {file ends : List ℕ} where
+  pub at-written : {k : Sort} {e : Expr k} {at : ℕ} → WrittenAt file ends e at → At file (expressionPart e) at
+  at-written {at = at} x = record { levels = x .levels; low = x .low; end = endAt ends at; stands = x .stands }
+
+  pub at-command : {c : Command} {at : ℕ} → CommandAt file ends c at → At file (commandPart c) at
+  at-command {at = at} x = record { levels = x .levels; low = x .low; end = endAt ends at; stands = x .stands }
+
+  pub at-set : {limits : Limits} {m : Members} {at : ℕ} → SetAt file ends limits m at → At file (setPart limits m) at
+  at-set {at = at} x = record { levels = x .levels; low = x .low; end = endAt ends at; stands = x .stands }
+
+  pub written-any : {k : Sort} {e : Expr k} {at : ℕ} → WrittenAt file ends e at → AnyAt file ends at
+  written-any {k} {e} x =
+      record { sort = k; expression = record { tree = e; levels = x .levels; stands = x .stands } }
+
+  pub written-inside : {k : Sort} {e : Expr k} {at : ℕ} → WrittenAt file ends e at → Inside file at (endAt ends at)
+  written-inside {e = e} x = expression-inside (record { tree = e; levels = x .levels; stands = x .stands })
+
+  pub command-inside : {c : Command} {at : ℕ} → CommandAt file ends c at → Inside file at (endAt ends at)
+  command-inside {c} {at} x =
+      let y = first-word c in
+      stands-inside file at (y .0) (y .1) (endAt ends at)
+      (subst (λ l. StandsTo file at l (endAt ends at)) (y .2) (x .stands .stand))
+
+  pub set-inside : {limits : Limits} {m : Members} {at : ℕ} → SetAt file ends limits m at → Inside file at (endAt ends at)
+  set-inside {limits} {m} {at} x =
+      stands-inside file at (word 32 (pos (length m))) (membersWords m) (endAt ends at) (x .stands .stand)
+
+  known : {at : ℕ} → EndsOf file ends → Inside file at (endAt ends at) → PartKnown file ends at
+  known o i = let s = i .start in let w = i .within in let l = o .long in record { listed = omega arith; inside = w }
+
+  pub written-known : {k : Sort} {e : Expr k} {at : ℕ} → EndsOf file ends → WrittenAt file ends e at → PartKnown file ends at
+  written-known o x = known o (written-inside x)
+
+  pub command-known : {c : Command} {at : ℕ} → EndsOf file ends → CommandAt file ends c at → PartKnown file ends at
+  command-known o x = known o (command-inside x)
+
+  pub set-known : {limits : Limits} {m : Members} {at : ℕ} → EndsOf file ends → SetAt file ends limits m at →
+      PartKnown file ends at
+  set-known o x = known o (set-inside x)

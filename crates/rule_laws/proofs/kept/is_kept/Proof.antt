@@ -1,0 +1,16 @@
+-- `rule_laws::kept::is_kept` meets its contract.
+-- Assumes nothing.
+use borrow.Author.Needs.{needs}
+use Rattle.rule_laws.proofs.Keeping.{kept-at}
+use Rattle.rule_laws.proofs.kept.is_kept.Statement.{statement}
+use Rattle.rule_laws.proofs.kept.is_kept.Tie as tie
+
+pub is-kept-spec : {M : Type 1} → statement M
+is-kept-spec =
+    tie.close
+    (tie.spec
+    (λ c κs. search needs)
+    (λ c κs. search needs)
+    (λ c κs. search needs)
+    (λ c κs. search needs)
+    (λ c. kept-at (c .before .before .before .end-at .ensures) (c .before .before .modified .ensures) (c .before .end-at2 .ensures) (c .unmarked .ensures)))

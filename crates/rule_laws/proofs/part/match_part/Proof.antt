@@ -1,0 +1,14 @@
+-- `rule_laws::part::match_part` meets its contract.
+-- Assumes nothing.
+use borrow.Author.Needs.{needs}
+use Rattle.rule_laws.proofs.Passing.{part-matched}
+use Rattle.rule_laws.proofs.part.match_part.Statement.{statement}
+use Rattle.rule_laws.proofs.part.match_part.Tie as tie
+
+pub match-part-spec : {M : Type 1} → statement M
+match-part-spec =
+    tie.close
+    (tie.spec
+    (λ c κs. search needs)
+    (λ c κs. search needs)
+    (λ c. let s = c .before .before .before .before in part-matched (s .args .w .now) (s .args .ends .now) _ _ (s .args .a) (c .before .end-at .ensures) (c .match-range .ensures)))

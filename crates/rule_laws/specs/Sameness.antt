@@ -1,0 +1,68 @@
+-- Sameness by words of what stands at two places; nothing of what stands at a place is modified.
+-- Working. Assumes nothing.
+--     came                    a cursor at which nothing was missing has come to a place
+--     CanSame, SameAt         two written expressions: what a test of them asks for and promises
+--     startNumbers, nextNumbers
+--                             the words before and after the body in the meaning of a `for`
+--     CanMean, MeaningAt      a written command and the meaning of a written `for` (document 01, rules 14 and 30)
+--     CanKeep, KeptAt         a command modifies no identifier of a written expression or set
+use mathlib.Core.Path.{_≡_}
+use mathlib.Core.Bool.{Bool, _&&_}
+use mathlib.Core.List.{List, [], _∷_}
+use Prim.Native.Nat.{ℕ, _+_, _<_, _≤_}
+use lib.Dec.{eqb}
+use lib.ListN.{length}
+use Rattle.language.specs.Syntax.{Sort, Expr, Command, for}
+use Rattle.language.specs.Runs.{meaning}
+use Rattle.language.specs.Modifies.{identifiers}
+use Rattle.rules.specs.Assertion.{Members}
+use Rattle.rules.specs.Context.{Limits}
+use Rattle.rules.specs.Sets.{setIdentifiers}
+use Rattle.rules.specs.Tests.{unmodified}
+use Rattle.rules.specs.Words.{words, commandWords, sameWords}
+use Rattle.ends.specs.Ends.{EndsOf}
+use Rattle.compare.specs.declared.cursor.Match.{Match}
+use Rattle.rule_laws.specs.Places.{WrittenAt, CommandAt, SetAt, PartKnown}
+
+unfoldable pub came : Match → ℕ → Bool
+came m to = m .same && eqb (m .at) to
+
+-- 25:0 27:q 1:1 30:0 8:2 2:q 2:m 25:0
+unfoldable pub startNumbers : ℕ → ℕ → List ℕ
+startNumbers q m =
+    1677721600 ∷ (1811939328 + q) ∷ 67108865 ∷ 2013265920 ∷ 536870914 ∷ (134217728 + q) ∷ (134217728 + m)
+    ∷ 1677721600 ∷ []
+
+-- 27:q 3:0 2:q 1:1
+unfoldable pub nextNumbers : ℕ → List ℕ
+nextNumbers q = (1811939328 + q) ∷ 201326592 ∷ (134217728 + q) ∷ 67108865 ∷ []
+
+module _ (file ends : List ℕ) where
+  pub record CanSame (f g : ℕ) : Type 0 where
+    pub first : PartKnown file ends f
+    pub second : PartKnown file ends g
+
+  pub record SameAt (f g : ℕ) (r : Bool) : Type 0 where
+    pub is : {j k : Sort} (d : Expr j) (e : Expr k) → WrittenAt file ends d f → WrittenAt file ends e g →
+        r ≡ sameWords (words d) (words e)
+
+  -- a `for` at c has its body after its word
+  pub record CanMean (d c : ℕ) : Type 0 where
+    pub ends-of : EndsOf file ends
+    pub command : PartKnown file ends d
+    pub head : c < length file
+    pub body : PartKnown file ends (c + 1)
+
+  pub record MeaningAt (d c : ℕ) (r : Bool) : Type 0 where
+    pub is : (e : Command) (q m : ℕ) (body : Command) → CommandAt file ends e d → CommandAt file ends (for q m body) c →
+        r ≡ sameWords (commandWords e) (commandWords (meaning q m body))
+
+  pub record CanKeep (e c : ℕ) : Type 0 where
+    pub part : PartKnown file ends e
+    pub command : PartKnown file ends c
+
+  pub record KeptAt (e c : ℕ) (r : Bool) : Type 0 where
+    pub expression : {k : Sort} (d : Expr k) (p : Command) → WrittenAt file ends d e → CommandAt file ends p c →
+        r ≡ unmodified (identifiers d) p
+    pub set : (limits : Limits) (q : Members) (p : Command) → SetAt file ends limits q e → CommandAt file ends p c →
+        r ≡ unmodified (setIdentifiers q) p

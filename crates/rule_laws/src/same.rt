@@ -1,0 +1,56 @@
+use super::part::came_to_end;
+use super::part::match_part;
+use compare::cursor::Match;
+use compare::cursor::match_word;
+ghost use mathlib.Core.Path.{_≡_};
+ghost use Prim.Native.Nat.{_≤_};
+ghost use Rattle.compare.specs.Matching.{matched};
+ghost use Rattle.rule_laws.specs.Sameness.{CanSame, SameAt, startNumbers, nextNumbers, CanMean, MeaningAt};
+
+// Whether the expressions at f and g are the same.
+pub fn is_same(w: &[u32], ends: &[u32], f: usize, g: usize) -> bool
+    requires { ⌜ CanSame (now w) (now ends) f g ⌝ }
+    ensures { λ r. ⌜ SameAt (now (w .entry)) (now (ends .entry)) f g r ⌝ }
+{
+    let m = match_part(w, ends, Match { same: true, at: f }, g);
+    came_to_end(ends, m, f)
+}
+
+// The words before the body: 25:0 27:q 1:1 30:0 8:2 2:q 2:m 25:0, that is q := 1; while q ≤ m do (..
+fn match_start(w: &[u32], m: Match, q: u32, bound: u32) -> Match
+    requires { ⌜ (q ≤ 67108863) × (bound ≤ 67108863) ⌝ }
+    ensures { λ r. ⌜ r ≡ matched (now (w .entry)) m (startNumbers q bound) ⌝ }
+{
+    let sequence = match_word(w, m, 1677721600);
+    let start = match_word(w, sequence, 1811939328 + q);
+    let one = match_word(w, start, 67108865);
+    let repeat = match_word(w, one, 2013265920);
+    let test = match_word(w, repeat, 536870914);
+    let left = match_word(w, test, 134217728 + q);
+    let right = match_word(w, left, 134217728 + bound);
+    match_word(w, right, 1677721600)
+}
+
+// The words after it: 27:q 3:0 2:q 1:1, that is q := q + 1.
+fn match_next(w: &[u32], m: Match, q: u32) -> Match
+    requires { ⌜ q ≤ 67108863 ⌝ }
+    ensures { λ r. ⌜ r ≡ matched (now (w .entry)) m (nextNumbers q) ⌝ }
+{
+    let next = match_word(w, m, 1811939328 + q);
+    let sum = match_word(w, next, 201326592);
+    let counter = match_word(w, sum, 134217728 + q);
+    match_word(w, counter, 67108865)
+}
+
+// Whether the command at d is what the `for` at c means: q := 1; while q ≤ m do (C; q := q + 1).
+pub fn is_meaning(w: &[u32], ends: &[u32], d: usize, c: usize) -> bool
+    requires { ⌜ CanMean (now w) (now ends) d c ⌝ }
+    ensures { λ r. ⌜ MeaningAt (now (w .entry)) (now (ends .entry)) d c r ⌝ }
+{
+    let p = w[c] % 67108864;
+    let q = p % 32;
+    let start = match_start(w, Match { same: true, at: d }, q, p / 32);
+    let body = match_part(w, ends, start, c + 1);
+    let next = match_next(w, body, q);
+    came_to_end(ends, next, d)
+}

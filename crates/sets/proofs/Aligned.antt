@@ -1,0 +1,200 @@
+-- Members in the same order.
+-- Assumes nothing.
+--     aligns-not                                       where the test fails nothing is said
+--     Aligning, aligning-start, -on, -end              the members of a seen set, one by one
+--     one-aligned, of-pile-empty .. of-pile-without    one member; by pile
+--     aligned-not, aligned-is                          three piles, one after the other
+--     sameAll-self, same-found, same-not, same-last    two lists with the same elements
+use mathlib.Core.Path.{_≡_, refl, sym, ap, ap₂, subst, _∙_}
+use mathlib.Core.Bool.{Bool, true, false, _&&_, _||_, false≢true}
+use mathlib.Core.List.{List, [], _∷_, _++_, append-assoc, append-nil}
+use Prim.Native.Nat.{ℕ, _+_, _-_, _<_, _≤_}
+use native.Mathlib.Omega.{arith}
+use lib.Dec.{eqb}
+use borrow.Author.Tests.{eqb-true}
+use Rattle.laws.proofs.Bools.{clash, and-both}
+use Rattle.laws.proofs.Decides.{Decides}
+use Rattle.compare.specs.Matching.{between}
+use Rattle.sets.specs.Items.{pastMember, seenAs, itemNumbers, sameNumbers}
+use Rattle.sets.specs.Lists.{seenAll, written, standsIn, withinAll, sameAll}
+use Rattle.sets.specs.Standing.{MemberAt, MembersAt}
+use Rattle.sets.specs.Piles.{countAt, writtenSet, pileNumbers, pilesNumbers}
+use Rattle.sets.specs.Aligned.{Parted, Aligns, Aligned}
+use Rattle.sets.specs.declared.item.View.{View}
+use Rattle.sets.specs.declared.item.View.the-variants.{Plain}
+use Rattle.sets.specs.declared.item.Item.{Item}
+use Rattle.sets.specs.declared.item.Item.the-variants.{Seen, Pair}
+use Rattle.sets.specs.declared.pile.Pile.{Pile}
+use Rattle.sets.specs.declared.pile.Pile.the-variants.{Empty, One, Set, Without}
+use Rattle.sets.specs.declared.pile.Piles.{Piles}
+use Rattle.sets.specs.declared.align.Rest.{Rest}
+use Rattle.sets.proofs.Equal.{sameNumbers-decides}
+use Rattle.sets.proofs.Loops.{members-first, members-rest, seenAll-none, seenAll-first}
+use Rattle.sets.proofs.Piles.{stands-append}
+
+positive : {n : ℕ} → (n ≡ 0 → ⊥) → 0 < n
+positive f = omega arith
+
+module _ {file ends : List ℕ} where
+  pub aligns-not : {n at : ℕ} {l : List (List ℕ)} {r : Rest} → r .same ≡ false → Aligns file ends n at l r
+  aligns-not h = record { does = λ k. clash k h }
+
+-- the n members at i and the j members at a are left, and what is said of them is said of all
+pub record Aligning (file ends : List ℕ) (view : View) (n₀ i₀ k from n i j a : ℕ) : Type 0 where
+  pub members : MembersAt file ends n i
+  pub part : MembersAt file ends j a
+  pub keeps : (z : List (List ℕ)) → written file ends n i ≡ seenAll file ends view j a ++ z →
+      written file ends n₀ i₀ ≡ seenAll file ends view k from ++ z
+
+-- the first member is the item
+first-same : (file ends : List ℕ) (n i next : ℕ) (y : List ℕ) {b : Bool} → 0 < n → next ≡ pastMember ends i →
+    b ≡ sameNumbers (between file i (pastMember ends i)) y → b ≡ true →
+    written file ends n i ≡ y ∷ written file ends (n - 1) next
+unfolding seenAs
+first-same file ends n i next y h e s t =
+    seenAll-first file ends Plain n i next h e
+    ∙ ap (λ x. x ∷ written file ends (n - 1) next)
+    (sameNumbers-decides (between file i (pastMember ends i)) y .sound (sym s ∙ t))
+
+module _ {file ends : List ℕ} where
+  pub first-member : {n i : ℕ} → MembersAt file ends n i → (n ≡ 0 → ⊥) → MemberAt file ends i
+  first-member {n} {i} m f = members-first file ends n i m (positive f)
+
+  module _ {view : View} {n₀ i₀ k from : ℕ} where
+    pub aligning-start : MembersAt file ends n₀ i₀ → MembersAt file ends k from →
+        Aligning file ends view n₀ i₀ k from n₀ i₀ k from
+    aligning-start m p = record { members = m; part = p; keeps = λ z h. h }
+
+    module _ {n i j a : ℕ} (l : Aligning file ends view n₀ i₀ k from n i j a) where
+      pub part-first : 0 < j → MemberAt file ends a
+      part-first h = members-first file ends j a (l .part) h
+
+      pub aligning-on : {b : Bool} {i′ a′ : ℕ} → 0 < j → (n ≡ 0 → ⊥) →
+          b ≡ sameNumbers (between file i (pastMember ends i)) (itemNumbers file ends (Seen a view)) → b ≡ true →
+          i′ ≡ pastMember ends i → a′ ≡ pastMember ends a →
+          Aligning file ends view n₀ i₀ k from (n - 1) i′ (j - 1) a′
+      unfolding itemNumbers
+      aligning-on {i′ = i′} {a′} h f s t e g = record {
+        members = members-rest file ends n i i′ (l .members) (positive f) e;
+        part = members-rest file ends j a a′ (l .part) h g;
+        keeps = λ z q.
+            l .keeps z
+            (first-same file ends n i i′ (seenAs file ends view a) (positive f) e s t
+            ∙ ap (λ y. seenAs file ends view a ∷ y) q
+            ∙ ap (λ y. y ++ z) (sym (seenAll-first file ends view j a a′ h g)));
+      }
+
+      pub aligning-end : {r : Rest} → j ≤ 0 → r .n ≡ n → r .at ≡ i → Aligns file ends n₀ i₀ (seenAll file ends view k from) r
+      aligning-end {r} h e g = record {
+        does = λ q.
+            subst (λ m. Parted file ends n₀ i₀ (seenAll file ends view k from) m (r .at)) (sym e)
+            (subst (λ y. Parted file ends n₀ i₀ (seenAll file ends view k from) n y) (sym g)
+            (record {
+              members = l .members;
+              split = l .keeps (written file ends n i) (ap (λ y. y ++ written file ends n i) (sym (seenAll-none file ends view j a h)));
+            }));
+      }
+
+  pub one-aligned : {n i next : ℕ} (item : Item) {b : Bool} {r : Rest} → MembersAt file ends n i → (n ≡ 0 → ⊥) →
+      b ≡ sameNumbers (between file i (pastMember ends i)) (itemNumbers file ends item) → b ≡ true →
+      next ≡ pastMember ends i → r .n ≡ n - 1 → r .at ≡ next → Aligns file ends n i (itemNumbers file ends item ∷ []) r
+  one-aligned {n} {i} {next} item {r = r} m f s t e g h = record {
+    does = λ q.
+        let e′ : r .at ≡ pastMember ends i = h ∙ e in
+        record {
+          members = subst (λ k. MembersAt file ends k (r .at)) (sym g) (members-rest file ends n i (r .at) m (positive f) e′);
+          split =
+              first-same file ends n i (r .at) (itemNumbers file ends item) (positive f) e′ s t
+              ∙ ap (λ k. itemNumbers file ends item ∷ written file ends k (r .at)) (sym g);
+        };
+  }
+
+  -- by pile
+  module _ {n i : ℕ} {r : Rest} (pile : Pile) where
+    pub of-pile-empty : pile ≡ Empty → MembersAt file ends n i → r .n ≡ n → r .at ≡ i →
+        Aligns file ends n i (pileNumbers file ends pile) r
+    unfolding pileNumbers
+    of-pile-empty e m g h =
+        rw e
+        (record {
+          does = λ q.
+              record {
+                members = subst (λ k. MembersAt file ends k (r .at)) (sym g) (subst (MembersAt file ends n) (sym h) m);
+                split = ap₂ (written file ends) (sym g) (sym h);
+              };
+        })
+
+    pub of-pile-one : (f b : ℕ) → pile ≡ One f b → Aligns file ends n i (itemNumbers file ends (Pair f b) ∷ []) r →
+        Aligns file ends n i (pileNumbers file ends pile) r
+    unfolding pileNumbers
+    of-pile-one f b e x = rw e x
+
+    pub of-pile-set : (q k : ℕ) (view : View) → pile ≡ Set q view → k ≡ countAt file q →
+        Aligns file ends n i (seenAll file ends view k (q + 1)) r → Aligns file ends n i (pileNumbers file ends pile) r
+    unfolding pileNumbers
+    of-pile-set q k view e c x =
+        rw e (subst (λ m. Aligns file ends n i (seenAll file ends view m (q + 1)) r) c x)
+
+  -- three piles, one after the other
+  pub aligned-not : {k at : ℕ} {piles : Piles} → Aligned file ends k at piles false
+  aligned-not = record { does = λ h. absurd (false≢true h) }
+
+  module _ {k at : ℕ} {piles : Piles} {x y z : Rest}
+      (a : Aligns file ends k at (pileNumbers file ends (piles .first)) x) (h : x .same ≡ true)
+      (b : Aligns file ends (x .n) (x .at) (pileNumbers file ends (piles .second)) y) (g : y .same ≡ true)
+      (c : Aligns file ends (y .n) (y .at) (pileNumbers file ends (piles .third)) z) (f : z .same ≡ true) where
+    pub aligned-is : Aligned file ends k at piles (eqb (z .n) 0)
+    unfolding pilesNumbers
+    aligned-is = record {
+      does = λ q.
+          let e = eqb-true (z .n) 0 q in
+          let first = a .does h .split in
+          let second = b .does g .split in
+          let third =
+          c .does f .split
+          ∙ ap (λ l. pileNumbers file ends (piles .third) ++ l) (seenAll-none file ends Plain (z .n) (z .at) (omega arith))
+          ∙ append-nil (pileNumbers file ends (piles .third)) in
+          first
+          ∙ ap (λ l. pileNumbers file ends (piles .first) ++ l)
+          (second ∙ ap (λ l. pileNumbers file ends (piles .second) ++ l) third);
+    }
+
+-- a list and itself
+stands-self : (x : List ℕ) (k l : List (List ℕ)) → standsIn x (k ++ (x ∷ l)) ≡ true
+unfolding standsIn
+stands-self x [] l = rw (sameNumbers-decides x x .complete refl)
+stands-self x (y ∷ k) l = rw (stands-self x k l) (or-true (sameNumbers x y))
+  where
+    or-true : (b : Bool) → (b || true) ≡ true
+    or-true true = refl
+    or-true false = refl
+
+within-tail : (l k : List (List ℕ)) → withinAll l (k ++ l) ≡ true
+unfolding withinAll
+within-tail [] k = refl
+within-tail (x ∷ l) k =
+    and-both (stands-self x k l)
+    (ap (withinAll l) (sym (append-assoc k (x ∷ []) l)) ∙ within-tail l (k ++ (x ∷ [])))
+
+pub sameAll-self : (k l : List (List ℕ)) → k ≡ l → true ≡ sameAll k l
+sameAll-self k l e = rw e (sym (and-both (within-tail l []) (within-tail l [])))
+
+-- a written set by the code's count of its members
+module _ (file ends : List ℕ) (p : ℕ) (piles : Piles) {k at : ℕ} (e : k ≡ countAt file p) (f : at ≡ p + 1) where
+  abbrev all : List (List ℕ)
+  all = pilesNumbers file ends piles
+
+  set-is : written file ends k at ≡ writtenSet file ends p
+  set-is = ap₂ (written file ends) e f
+
+  pub same-found : {b : Bool} → Aligned file ends k at piles b → b ≡ true → true ≡ sameAll (writtenSet file ends p) all
+  same-found a h = sameAll-self (writtenSet file ends p) all (sym set-is ∙ a .does h)
+
+  module _ {b : Bool} (s : b ≡ withinAll (written file ends k at) all) where
+    pub same-not : b ≡ false → false ≡ sameAll (writtenSet file ends p) all
+    same-not h = rw (ap (λ l. withinAll l all) (sym set-is) ∙ sym s, h)
+
+    pub same-last : {r : Bool} → b ≡ true → r ≡ withinAll all (written file ends k at) →
+        r ≡ sameAll (writtenSet file ends p) all
+    same-last h g =
+        rw (ap (λ l. withinAll l all) (sym set-is) ∙ sym s, h) (g ∙ ap (withinAll all) set-is)

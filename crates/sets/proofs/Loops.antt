@@ -1,0 +1,204 @@
+-- Members passed one by one: a test of a list of members, from the first on.
+-- Assumes nothing.
+--     members-first, members-rest                      of members that stand one after the other
+--     seenAll-none, seenAll-first                      of the list of their numbers
+--     Left, left-start, left-stop, left-on, left-end   a test of all is the test of those that are left
+--     stands-found, stands-skip                        an element is looked for
+--     within-stop, within-skip                         each is looked for in a list
+--     rest-stop, rest-skip                             each that is not in another
+use mathlib.Core.Path.{_≡_, refl, sym, ap, subst, _∙_}
+use mathlib.Core.Bool.{Bool, true, false, _&&_, _||_, cond}
+use mathlib.Core.List.{List, [], _∷_}
+use Prim.Native.Nat.{ℕ, zero, suc, _+_, _-_, _<_, _≤_}
+use native.Mathlib.Omega.{arith}
+use Rattle.laws.proofs.Bools.{clash}
+use Rattle.laws.proofs.Decides.{decides-map}
+use Rattle.compare.specs.Matching.{between}
+use Rattle.compare.specs.Places.{AnyAt}
+use Rattle.sets.specs.Items.{pastMember, seenAs, itemNumbers, sameNumbers}
+use Rattle.sets.specs.Lists.{seenAll, standsIn, withinAll, withoutAll}
+use Rattle.sets.specs.Standing.{MemberAt, MembersAt, ViewAt, ItemAt}
+use Rattle.sets.specs.declared.item.View.{View}
+use Rattle.sets.specs.declared.item.View.the-variants.{Plain}
+use Rattle.sets.specs.declared.item.Item.the-variants.{Seen, Pair}
+use Rattle.sets.proofs.Equal.{decides-same, sameNumbers-decides}
+
+pub sameNumbers-sym : (x y : List ℕ) → sameNumbers x y ≡ sameNumbers y x
+sameNumbers-sym x y =
+    decides-same (sameNumbers x y) (sameNumbers y x) (sameNumbers-decides x y)
+    (decides-map (λ h. sym h) (λ h. sym h) (sameNumbers-decides y x))
+
+module _ (file ends : List ℕ) where
+  -- a member as it stands, and an item of a written set
+  pub plain-is : (a : ℕ) → seenAs file ends Plain a ≡ between file a (pastMember ends a)
+  unfolding seenAs
+  plain-is a = refl
+
+  pub seen-is : (a : ℕ) (view : View) → itemNumbers file ends (Seen a view) ≡ seenAs file ends view a
+  unfolding itemNumbers
+  seen-is a view = refl
+
+  pub members-first : (n i : ℕ) → MembersAt file ends n i → 0 < n → MemberAt file ends i
+  unfolding MembersAt
+  members-first zero i m h = absurd (omega arith)
+  members-first (suc n) i m h = m .0
+
+  pub members-rest : (n i j : ℕ) → MembersAt file ends n i → 0 < n → j ≡ pastMember ends i → MembersAt file ends (n - 1) j
+  unfolding MembersAt
+  members-rest zero i j m h e = absurd (omega arith)
+  members-rest (suc n) i j m h e =
+      let k : suc n - 1 ≡ n = omega arith in
+      subst (λ z. MembersAt file ends z j) (sym k) (subst (MembersAt file ends n) (sym e) (m .1))
+
+  module _ (view : View) where
+    pub seenAll-none : (n i : ℕ) → n ≤ 0 → seenAll file ends view n i ≡ []
+    unfolding seenAll
+    seenAll-none zero i h = refl
+    seenAll-none (suc n) i h = absurd (omega arith)
+
+    pub seenAll-first : (n i j : ℕ) → 0 < n → j ≡ pastMember ends i →
+        seenAll file ends view n i ≡ seenAs file ends view i ∷ seenAll file ends view (n - 1) j
+    unfolding seenAll
+    seenAll-first zero i j h e = absurd (omega arith)
+    seenAll-first (suc n) i j h e =
+        let k : suc n - 1 ≡ n = omega arith in
+        rw (k, e)
+
+  -- of the k members at `at` the n members at i are left, and the test of all is the test of those
+  pub record Left (view : View) (test : List (List ℕ) → Bool) (k at n i : ℕ) : Type 0 where
+    pub members : MembersAt file ends n i
+    pub same : test (seenAll file ends view n i) ≡ test (seenAll file ends view k at)
+
+module _ {file ends : List ℕ} {view : View} {test : List (List ℕ) → Bool} {k at : ℕ} where
+  pub left-start : MembersAt file ends k at → Left file ends view test k at k at
+  left-start m = record { members = m; same = refl }
+
+  module _ {n i : ℕ} (l : Left file ends view test k at n i) where
+    pub left-first : 0 < n → MemberAt file ends i
+    left-first h = members-first file ends n i (l .members) h
+
+    pub left-stop : {b : Bool} → 0 < n → ((z : List (List ℕ)) → b ≡ test (seenAs file ends view i ∷ z)) →
+        b ≡ test (seenAll file ends view k at)
+    left-stop h f =
+        f (seenAll file ends view (n - 1) (pastMember ends i))
+        ∙ ap test (sym (seenAll-first file ends view n i (pastMember ends i) h refl))
+        ∙ l .same
+
+    pub left-on : {j : ℕ} → 0 < n → j ≡ pastMember ends i →
+        ((z : List (List ℕ)) → test (seenAs file ends view i ∷ z) ≡ test z) →
+        Left file ends view test k at (n - 1) j
+    left-on {j} h e f = record {
+      members = members-rest file ends n i j (l .members) h e;
+      same =
+          sym (f (seenAll file ends view (n - 1) j))
+          ∙ ap test (sym (seenAll-first file ends view n i j h e))
+          ∙ l .same;
+    }
+
+    pub left-end : {b : Bool} → n ≤ 0 → b ≡ test [] → b ≡ test (seenAll file ends view k at)
+    left-end h e = e ∙ ap test (sym (seenAll-none file ends view n i h)) ∙ l .same
+
+-- an element is looked for
+module _ (x y : List ℕ) (b : Bool) (e : b ≡ sameNumbers x y) where
+  pub stands-found : b ≡ true → (z : List (List ℕ)) → true ≡ standsIn x (y ∷ z)
+  unfolding standsIn
+  stands-found h z = rw (← e, h)
+
+  pub stands-skip : b ≡ false → (z : List (List ℕ)) → standsIn x (y ∷ z) ≡ standsIn x z
+  unfolding standsIn
+  stands-skip h z = rw (← e, h)
+
+-- each is looked for in p
+module _ (p : List (List ℕ)) (x : List ℕ) (b : Bool) (e : b ≡ standsIn x p) where
+  pub within-stop : b ≡ false → (z : List (List ℕ)) → false ≡ withinAll (x ∷ z) p
+  unfolding withinAll
+  within-stop h z = rw (← e, h)
+
+  pub within-skip : b ≡ true → (z : List (List ℕ)) → withinAll (x ∷ z) p ≡ withinAll z p
+  unfolding withinAll
+  within-skip h z = rw (← e, h)
+
+-- each that is not in q
+module _ (p q : List (List ℕ)) (x : List ℕ) (b : Bool) (e : b ≡ (standsIn x p || standsIn x q)) where
+  rest : (z : List (List ℕ)) →
+      withinAll (withoutAll (x ∷ z) q) p ≡ ((standsIn x p || standsIn x q) && withinAll (withoutAll z q) p)
+  unfolding withinAll withoutAll
+  rest z = go (standsIn x q) (standsIn x p) refl
+    where
+      go : (c d : Bool) → standsIn x p ≡ d →
+          withinAll (cond c (withoutAll z q) (x ∷ withoutAll z q)) p ≡ ((d || c) && withinAll (withoutAll z q) p)
+      go true true h = refl
+      go true false h = refl
+      go false true h = rw h
+      go false false h = rw h
+
+  pub rest-stop : b ≡ false → (z : List (List ℕ)) → false ≡ withinAll (withoutAll (x ∷ z) q) p
+  rest-stop h z = rw (rest z, ← e, h)
+
+  pub rest-skip : b ≡ true → (z : List (List ℕ)) → withinAll (withoutAll (x ∷ z) q) p ≡ withinAll (withoutAll z q) p
+  rest-skip h z = rw (rest z, ← e, h)
+
+-- what the functions that compare items ask for and say, in the terms of the loops
+module _ {file ends : List ℕ} where
+  pub seen-at : {a : ℕ} (view : View) → MemberAt file ends a → ViewAt file ends view → ItemAt file ends (Seen a view)
+  unfolding ItemAt
+  seen-at view m v = (m, v)
+
+  pub pair-at : {f b : ℕ} → AnyAt file ends f → AnyAt file ends b → ItemAt file ends (Pair f b)
+  unfolding ItemAt
+  pair-at x y = (x, y)
+
+  pub plain-at : {a : ℕ} → MemberAt file ends a → ItemAt file ends (Seen a Plain)
+  unfolding ItemAt ViewAt
+  plain-at m = (m, tt)
+
+module _ (file ends : List ℕ) (i : ℕ) where
+  pub item-sym : (y : List ℕ) {b : Bool} → b ≡ sameNumbers (between file i (pastMember ends i)) y →
+      b ≡ sameNumbers y (seenAs file ends Plain i)
+  unfolding seenAs
+  item-sym y e = e ∙ sameNumbers-sym (between file i (pastMember ends i)) y
+
+  pub same-seen : (view : View) (x : List ℕ) {b : Bool} → b ≡ sameNumbers x (itemNumbers file ends (Seen i view)) →
+      b ≡ sameNumbers x (seenAs file ends view i)
+  unfolding itemNumbers
+  same-seen view x e = e
+
+  pub has-seen : (view : View) (p : List (List ℕ)) {b : Bool} → b ≡ standsIn (itemNumbers file ends (Seen i view)) p →
+      b ≡ standsIn (seenAs file ends view i) p
+  unfolding itemNumbers
+  has-seen view p e = e
+
+  pub stands-plain : (p : List (List ℕ)) {b : Bool} → b ≡ standsIn (between file i (pastMember ends i)) p →
+      b ≡ standsIn (seenAs file ends Plain i) p
+  unfolding seenAs
+  stands-plain p e = e
+
+  abbrev here : List ℕ
+  here = between file i (pastMember ends i)
+
+  pub has-plain : (p q : List (List ℕ)) {b : Bool} → b ≡ (standsIn here p || standsIn here q) →
+      b ≡ (standsIn (seenAs file ends Plain i) p || standsIn (seenAs file ends Plain i) q)
+  unfolding seenAs
+  has-plain p q e = e
+
+  module _ (p q : List (List ℕ)) {b : Bool} (e : b ≡ standsIn (itemNumbers file ends (Seen i Plain)) p) where
+    pub either-first : b ≡ true → true ≡ (standsIn here p || standsIn here q)
+    unfolding itemNumbers seenAs
+    either-first h = rw (← e, h)
+
+    pub either-second : {c : Bool} → b ≡ false → c ≡ standsIn (itemNumbers file ends (Seen i Plain)) q →
+        c ≡ (standsIn here p || standsIn here q)
+    unfolding itemNumbers seenAs
+    either-second h g = rw (← e, h) g
+
+pub end-stands : (x : List ℕ) → false ≡ standsIn x []
+unfolding standsIn
+end-stands x = refl
+
+pub end-within : (p : List (List ℕ)) → true ≡ withinAll [] p
+unfolding withinAll
+end-within p = refl
+
+pub end-rest : (p q : List (List ℕ)) → true ≡ withinAll (withoutAll [] q) p
+unfolding withinAll withoutAll
+end-rest p q = refl

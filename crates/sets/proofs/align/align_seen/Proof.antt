@@ -1,0 +1,35 @@
+-- `sets::align::align_seen` meets its contract. The invariant: what is said of the members that are left on both sides is said of all.
+-- Assumes nothing.
+use mathlib.Core.Path.{refl}
+use borrow.Author.Needs.{needs}
+use native.Mathlib.Omega.{arith}
+use borrow.Author.Tests.{not-true, not-false}
+use Rattle.sets.proofs.Members.{member-pass}
+use Rattle.sets.proofs.Loops.{seen-at}
+use Rattle.sets.proofs.Aligned.{Aligning, aligning-start, aligning-on, aligning-end, aligns-not, first-member, part-first}
+use Rattle.sets.proofs.align.align_seen.Statement.{statement}
+use Rattle.sets.proofs.align.align_seen.Tie as tie
+
+abbrev Inv-loop : tie.InvT-loop
+Inv-loop w ends n at k from view left₀ i₀ j₀ a₀ left i j a = Aligning w ends view left₀ i₀ j₀ a₀ left i j a
+
+abbrev μ-loop : tie.MeasureT-loop
+μ-loop w ends n at k from view left₀ i₀ j₀ a₀ left i j a = j
+
+pub align-seen-spec : {M : Type 1} → statement M
+align-seen-spec =
+    tie.close
+    (tie.spec
+    Inv-loop
+    μ-loop
+    (λ c. let s = c .before .before in let p = s .pre in aligning-start (p .members) (p .part))
+    (λ c. aligns-not refl)
+    (λ c κs. let l = c .before .before .loop in let s = c .before .before .before .before .before in let p = s .pre in record { ends-of = p .ends-of; member = first-member (l .inv .members) (c .if1 .left); item-at = seen-at _ (part-first (l .inv) (c .before .loop-test .taken)) (p .view-at) })
+    (λ c. aligns-not refl)
+    (λ c κs. let l = c .before .before .before .before .loop in let s = c .before .before .before .before .before .before .before in let p = s .pre in member-pass (p .ends-of) (first-member (l .inv .members) (c .before .before .if1 .left)))
+    (λ c κs. let l = c .before .before .before .before .before .loop in let s = c .before .before .before .before .before .before .before .before in let p = s .pre in member-pass (p .ends-of) (part-first (l .inv) (c .before .before .before .before .loop-test .taken)))
+    (λ c. let h = c .before .before .before .before .if1 .left in omega arith)
+    (λ c. search needs)
+    (λ c. search needs)
+    (λ c. let l = c .before .before .before .before .before .before .loop in aligning-on (l .inv) (c .before .before .before .before .before .loop-test .taken) (c .before .before .before .before .if1 .left) (c .before .before .before .same-item .ensures) (not-false _ (c .before .before .if2 .left)) (c .before .past-member .ensures) (c .past-member2 .ensures))
+    (λ c. let l = c .before .loop in aligning-end (l .inv) (c .loop-test .left) refl refl))

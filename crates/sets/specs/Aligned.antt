@@ -1,0 +1,47 @@
+-- A written set matched with piles member by member, in order: the quick way to know that they are the same.
+-- Working: `same_set` looks everywhere where this fails. Assumes nothing.
+--     Parted, Aligns             the first members are those of a list, and the others are left; where the test says so
+--     Aligned                    all of a written set's members are those of three piles in order, where the test says so
+--     CanAlign .. CanAlignPile   what the functions ask for
+use mathlib.Core.Path.{_≡_}
+use mathlib.Core.Bool.{Bool, true}
+use mathlib.Core.List.{List, _++_}
+use Prim.Native.Nat.{ℕ}
+use Rattle.ends.specs.Ends.{EndsOf}
+use Rattle.compare.specs.Places.{AnyAt}
+use Rattle.sets.specs.Lists.{written}
+use Rattle.sets.specs.Standing.{MembersAt, ViewAt}
+use Rattle.sets.specs.Piles.{pilesNumbers, PileAt}
+use Rattle.sets.specs.declared.item.View.{View}
+use Rattle.sets.specs.declared.pile.Pile.{Pile}
+use Rattle.sets.specs.declared.pile.Piles.{Piles}
+use Rattle.sets.specs.declared.align.Rest.{Rest}
+
+module _ (file ends : List ℕ) where
+  -- of the n members at `at`, the first are those of the list, and the m members at i are left
+  pub record Parted (n at : ℕ) (l : List (List ℕ)) (m i : ℕ) : Type 0 where
+    pub members : MembersAt file ends m i
+    pub split : written file ends n at ≡ l ++ written file ends m i
+
+  pub record Aligns (n at : ℕ) (l : List (List ℕ)) (r : Rest) : Type 0 where
+    pub does : r .same ≡ true → Parted n at l (r .n) (r .at)
+
+  pub record Aligned (k at : ℕ) (piles : Piles) (r : Bool) : Type 0 where
+    pub does : r ≡ true → written file ends k at ≡ pilesNumbers file ends piles
+
+  pub record CanAlign (n at k from : ℕ) (view : View) : Type 0 where
+    pub ends-of : EndsOf file ends
+    pub members : MembersAt file ends n at
+    pub part : MembersAt file ends k from
+    pub view-at : ViewAt file ends view
+
+  pub record CanAlignOne (n at f b : ℕ) : Type 0 where
+    pub ends-of : EndsOf file ends
+    pub members : MembersAt file ends n at
+    pub antecedent : AnyAt file ends f
+    pub consequent : AnyAt file ends b
+
+  pub record CanAlignPile (n at : ℕ) (pile : Pile) : Type 0 where
+    pub ends-of : EndsOf file ends
+    pub members : MembersAt file ends n at
+    pub pile-at : PileAt file ends pile

@@ -1,0 +1,13 @@
+-- Written sets compared by the numbers of their members.
+--     Items       the numbers of members as the rules make them, and their comparison
+--     Lists       sets as lists of the numbers of their members
+--     Standing    members, views and items stand in a file
+--     Piles       the sets that the rules make of written ones
+--     Aligned     a written set matched with piles in order
+--     Trees       the trees that stand where sets are compared
+pub mod Items
+pub mod Lists
+pub mod Standing
+pub mod Piles
+pub mod Aligned
+pub mod Trees

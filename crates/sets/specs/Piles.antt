@@ -1,0 +1,81 @@
+-- Piles: the sets that the rules make of written ones, as lists of the numbers of their members.
+-- Working: laws in proofs/Trees say that these are the sets that the rules name. Assumes nothing.
+--     countAt, writtenSet            how many members a written set has; the numbers of its members
+--     pileNumbers, pilesNumbers      by pile; of three piles together
+--     SetAt, PileAt, PilesAt         what a pile names stands in the file
+--     CanSearch .. CanSame           what the functions on piles ask for
+use mathlib.Core.Path.{_≡_}
+use mathlib.Core.Bool.{Bool, true}
+use mathlib.Core.List.{List, [], _∷_, _++_}
+use Prim.Native.Nat.{ℕ, _+_, _<_}
+use lib.ListN.{length}
+use Rattle.layout.specs.Bytes.{payloadAt}
+use Rattle.ends.specs.Ends.{EndsOf}
+use Rattle.compare.specs.Places.{AnyAt}
+use Rattle.sets.specs.Items.{itemNumbers}
+use Rattle.sets.specs.Lists.{seenAll, written, withoutAll}
+use Rattle.sets.specs.Standing.{MemberAt, MembersAt, ViewAt}
+use Rattle.sets.specs.declared.item.View.{View}
+use Rattle.sets.specs.declared.item.Item.the-variants.{Pair}
+use Rattle.sets.specs.declared.pile.Pile.{Pile}
+use Rattle.sets.specs.declared.pile.Pile.the-variants.{Empty, One, Set, Without}
+use Rattle.sets.specs.declared.pile.Piles.{Piles}
+
+abbrev pub countAt : List ℕ → ℕ → ℕ
+countAt file q = payloadAt file q
+
+module _ (file ends : List ℕ) where
+  abbrev pub writtenSet : ℕ → List (List ℕ)
+  writtenSet q = written file ends (countAt file q) (q + 1)
+
+  unfoldable pub pileNumbers : Pile → List (List ℕ)
+  pileNumbers Empty = []
+  pileNumbers (One f b) = itemNumbers file ends (Pair f b) ∷ []
+  pileNumbers (Set q view) = seenAll file ends view (countAt file q) (q + 1)
+  pileNumbers (Without t s) = withoutAll (writtenSet t) (writtenSet s)
+
+  unfoldable pub pilesNumbers : Piles → List (List ℕ)
+  pilesNumbers piles = pileNumbers (piles .first) ++ (pileNumbers (piles .second) ++ pileNumbers (piles .third))
+
+  -- a written set stands there
+  pub record SetAt (q : ℕ) : Type 0 where
+    pub inside : q < length file
+    pub members : MembersAt file ends (countAt file q) (q + 1)
+
+  unfoldable pub PileAt : Pile → Type 0
+  PileAt Empty = Unit {0}
+  PileAt (One f b) = AnyAt file ends f × AnyAt file ends b
+  PileAt (Set q view) = SetAt q × ViewAt file ends view
+  PileAt (Without t s) = SetAt t × SetAt s
+
+  pub record PilesAt (piles : Piles) : Type 0 where
+    pub first-at : PileAt (piles .first)
+    pub second-at : PileAt (piles .second)
+    pub third-at : PileAt (piles .third)
+
+  -- a member is looked for in a pile, in three
+  pub record CanSearch (x : ℕ) (pile : Pile) : Type 0 where
+    pub ends-of : EndsOf file ends
+    pub member : MemberAt file ends x
+    pub pile-at : PileAt pile
+
+  pub record CanSearchAll (x : ℕ) (piles : Piles) : Type 0 where
+    pub ends-of : EndsOf file ends
+    pub member : MemberAt file ends x
+    pub piles-at : PilesAt piles
+
+  -- a pile's members among the k members at `at`; three piles'
+  pub record CanKeep (pile : Pile) (k at : ℕ) : Type 0 where
+    pub ends-of : EndsOf file ends
+    pub members : MembersAt file ends k at
+    pub pile-at : PileAt pile
+
+  pub record CanKeepAll (piles : Piles) (k at : ℕ) : Type 0 where
+    pub ends-of : EndsOf file ends
+    pub members : MembersAt file ends k at
+    pub piles-at : PilesAt piles
+
+  pub record CanSame (p : ℕ) (piles : Piles) : Type 0 where
+    pub ends-of : EndsOf file ends
+    pub set : SetAt p
+    pub piles-at : PilesAt piles

@@ -1,0 +1,106 @@
+-- Members, views and items stand in a file: what the functions that compare them ask for.
+-- Working. Assumes nothing.
+--     CanPass                         a member's two places are in the list of ends
+--     MemberAt                        a boolean and an expression of any sort stand there
+--     CanGuard, CanReplace            a member under a test; with words put for a word
+--     ViewAt, CanSee                  what a view names stands there
+--     ItemAt, CanItem, CanCompare     what an item names
+--     MembersAt                       so many members, one after the other
+--     CanFind, CanLook                an item among members; a member among members that are seen
+--     CanHold, CanRest                each of some members among others; without those that are listed
+use mathlib.Core.List.{List}
+use Prim.Native.Nat.{ℕ, zero, suc, _<_, _≤_}
+use lib.ListN.{length}
+use Rattle.language.specs.Syntax.{Boolean}
+use Rattle.ends.specs.Ends.{EndsOf}
+use Rattle.compare.specs.Places.{endAt, ExpressionAt, AnyAt}
+use Rattle.compare.specs.declared.cursor.Put.{Put}
+use Rattle.sets.specs.Items.{pastMember}
+use Rattle.sets.specs.declared.item.View.{View}
+use Rattle.sets.specs.declared.item.View.the-variants.{Plain, Under, Unless, Replaced}
+use Rattle.sets.specs.declared.item.Item.{Item}
+use Rattle.sets.specs.declared.item.Item.the-variants.{Seen, Pair, Certain}
+
+-- a member's two places are in the list of ends
+pub record CanPass (ends : List ℕ) (at : ℕ) : Type 0 where
+  pub first : at < length ends
+  pub second : endAt ends at < length ends
+
+module _ (file ends : List ℕ) where
+  pub record MemberAt (at : ℕ) : Type 0 where
+    pub antecedent : ExpressionAt file ends Boolean at
+    pub consequent : AnyAt file ends (endAt ends at)
+
+  pub record CanGuard (a b : ℕ) : Type 0 where
+    pub ends-of : EndsOf file ends
+    pub member : MemberAt a
+    pub test : AnyAt file ends b
+
+  pub record CanReplace (a : ℕ) (put : Put) : Type 0 where
+    pub ends-of : EndsOf file ends
+    pub member : MemberAt a
+    pub inside : put .to ≤ length file
+
+  unfoldable pub ViewAt : View → Type 0
+  ViewAt Plain = Unit {0}
+  ViewAt (Under b) = AnyAt file ends b
+  ViewAt (Unless b) = AnyAt file ends b
+  ViewAt (Replaced put) = put .to ≤ length file
+
+  pub record CanSee (a : ℕ) (view : View) : Type 0 where
+    pub ends-of : EndsOf file ends
+    pub member : MemberAt a
+    pub view-at : ViewAt view
+
+  unfoldable pub ItemAt : Item → Type 0
+  ItemAt (Seen a view) = MemberAt a × ViewAt view
+  ItemAt (Pair f b) = AnyAt file ends f × AnyAt file ends b
+  ItemAt (Certain b) = AnyAt file ends b
+
+  pub record CanItem (item : Item) : Type 0 where
+    pub ends-of : EndsOf file ends
+    pub item-at : ItemAt item
+
+  pub record CanCompare (at : ℕ) (item : Item) : Type 0 where
+    pub ends-of : EndsOf file ends
+    pub member : MemberAt at
+    pub item-at : ItemAt item
+
+  -- so many members stand one after the other
+  unfoldable pub MembersAt : ℕ → ℕ → Type 0
+  MembersAt zero at = Unit {0}
+  MembersAt (suc n) at = MemberAt at × MembersAt n (pastMember ends at)
+
+  -- an item is looked for among the k members at `at`
+  pub record CanFind (k at : ℕ) (item : Item) : Type 0 where
+    pub ends-of : EndsOf file ends
+    pub members : MembersAt k at
+    pub item-at : ItemAt item
+
+  -- a member among the k members at `at`, seen as a view says
+  pub record CanLook (x k at : ℕ) (view : View) : Type 0 where
+    pub ends-of : EndsOf file ends
+    pub member : MemberAt x
+    pub members : MembersAt k at
+    pub view-at : ViewAt view
+
+  -- the j members at `from`, seen as a view says, among the k members at `at`
+  pub record CanHold (j from : ℕ) (view : View) (k at : ℕ) : Type 0 where
+    pub ends-of : EndsOf file ends
+    pub part : MembersAt j from
+    pub view-at : ViewAt view
+    pub members : MembersAt k at
+
+  -- a member among the k members at `at`, or among the l members at `leave`
+  pub record CanEither (x l leave k at : ℕ) : Type 0 where
+    pub ends-of : EndsOf file ends
+    pub member : MemberAt x
+    pub listed : MembersAt l leave
+    pub members : MembersAt k at
+
+  -- the same, without those that are listed among the l members at `leave`
+  pub record CanRest (j from l leave k at : ℕ) : Type 0 where
+    pub ends-of : EndsOf file ends
+    pub part : MembersAt j from
+    pub listed : MembersAt l leave
+    pub members : MembersAt k at

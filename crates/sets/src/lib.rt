@@ -1,0 +1,6 @@
+// Written sets compared by words, as the rules need them.
+pub mod item; // a member as the rules make it, compared with a written one
+pub mod member; // members looked for among written ones
+pub mod pile; // members looked for in the sets that the rules make
+pub mod align; // members in the same order
+pub mod set; // a written set compared with the sets that a rule makes

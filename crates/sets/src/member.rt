@@ -1,0 +1,136 @@
+use crate::item::Item;
+use crate::item::View;
+use crate::item::past_member;
+use crate::item::same_item;
+ghost use mathlib.Core.Path.{_≡_};
+ghost use mathlib.Core.Bool.{_||_};
+ghost use Rattle.compare.specs.Matching.{between};
+ghost use Rattle.sets.specs.Items.{pastMember, itemNumbers};
+ghost use Rattle.sets.specs.Lists.{seenAll, written, standsIn, withinAll, withoutAll};
+ghost use Rattle.sets.specs.Standing.{CanFind, CanLook, CanHold, CanEither, CanRest};
+
+// Whether the item is one of the k written members at `at`.
+pub fn has_item(w: &[u32], ends: &[u32], k: usize, at: usize, item: Item) -> bool
+    requires { ⌜ CanFind (now w) (now ends) k «at» item ⌝ }
+    ensures { λ r. ⌜ r ≡ standsIn (itemNumbers (now (w .entry)) (now (ends .entry)) item) (written (now (w .entry)) (now (ends .entry)) k «at») ⌝ }
+{
+    let mut n = k;
+    let mut i = at;
+    while 0 < n {
+        if same_item(w, ends, i, item) {
+            return true;
+        }
+        i = past_member(ends, i);
+        n -= 1;
+    }
+    false
+}
+
+// Whether the written member at x is one of the k members at `at` seen as the view says.
+pub fn in_seen(w: &[u32], ends: &[u32], x: usize, k: usize, at: usize, view: View) -> bool
+    requires { ⌜ CanLook (now w) (now ends) x k «at» view ⌝ }
+    ensures { λ r. ⌜ r ≡ standsIn (between (now (w .entry)) x (pastMember (now (ends .entry)) x)) (seenAll (now (w .entry)) (now (ends .entry)) view k «at») ⌝ }
+{
+    let mut n = k;
+    let mut i = at;
+    while 0 < n {
+        if same_item(w, ends, x, Item::Seen(i, view)) {
+            return true;
+        }
+        i = past_member(ends, i);
+        n -= 1;
+    }
+    false
+}
+
+// Whether each of the j members at `from`, seen as the view says, is one of the k written members at `at`.
+pub fn seen_in(
+    w: &[u32],
+    ends: &[u32],
+    j: usize,
+    from: usize,
+    view: View,
+    k: usize,
+    at: usize,
+) -> bool
+    requires { ⌜ CanHold (now w) (now ends) j from view k «at» ⌝ }
+    ensures { λ r. ⌜ r ≡ withinAll (seenAll (now (w .entry)) (now (ends .entry)) view j from) (written (now (w .entry)) (now (ends .entry)) k «at») ⌝ }
+{
+    let mut n = j;
+    let mut i = from;
+    while 0 < n {
+        if !has_item(w, ends, k, at, Item::Seen(i, view)) {
+            return false;
+        }
+        i = past_member(ends, i);
+        n -= 1;
+    }
+    true
+}
+
+// Whether the written member at x stands among the k members at `at`, or among the l members at `leave`.
+fn has_either(
+    w: &[u32],
+    ends: &[u32],
+    x: usize,
+    l: usize,
+    leave: usize,
+    k: usize,
+    at: usize,
+) -> bool
+    requires { ⌜ CanEither (now w) (now ends) x l leave k «at» ⌝ }
+    ensures { λ r. ⌜ r ≡ (standsIn (between (now (w .entry)) x (pastMember (now (ends .entry)) x)) (written (now (w .entry)) (now (ends .entry)) k «at») || standsIn (between (now (w .entry)) x (pastMember (now (ends .entry)) x)) (written (now (w .entry)) (now (ends .entry)) l leave)) ⌝ }
+{
+    if has_item(w, ends, k, at, Item::Seen(x, View::Plain)) {
+        return true;
+    }
+    has_item(w, ends, l, leave, Item::Seen(x, View::Plain))
+}
+
+// The same for the j members at `from` without those that stand among the l members at `leave`.
+pub fn rest_in(
+    w: &[u32],
+    ends: &[u32],
+    j: usize,
+    from: usize,
+    l: usize,
+    leave: usize,
+    k: usize,
+    at: usize,
+) -> bool
+    requires { ⌜ CanRest (now w) (now ends) j from l leave k «at» ⌝ }
+    ensures { λ r. ⌜ r ≡ withinAll (withoutAll (written (now (w .entry)) (now (ends .entry)) j from) (written (now (w .entry)) (now (ends .entry)) l leave)) (written (now (w .entry)) (now (ends .entry)) k «at») ⌝ }
+{
+    let mut n = j;
+    let mut i = from;
+    while 0 < n {
+        if !has_either(w, ends, i, l, leave, k, at) {
+            return false;
+        }
+        i = past_member(ends, i);
+        n -= 1;
+    }
+    true
+}
+
+// Whether the written member at x stands among the k members at `at` without those that stand among the l members at `leave`.
+pub fn in_rest(
+    w: &[u32],
+    ends: &[u32],
+    x: usize,
+    l: usize,
+    leave: usize,
+    k: usize,
+    at: usize,
+) -> bool
+    requires { ⌜ CanEither (now w) (now ends) x l leave k «at» ⌝ }
+    ensures { λ r. ⌜ r ≡ standsIn (between (now (w .entry)) x (pastMember (now (ends .entry)) x)) (withoutAll (written (now (w .entry)) (now (ends .entry)) k «at») (written (now (w .entry)) (now (ends .entry)) l leave)) ⌝ }
+{
+    if !has_item(w, ends, k, at, Item::Seen(x, View::Plain)) {
+        return false;
+    }
+    if has_item(w, ends, l, leave, Item::Seen(x, View::Plain)) {
+        return false;
+    }
+    true
+}

@@ -1,0 +1,24 @@
+use crate::align::aligned;
+use crate::pile::Piles;
+use crate::pile::count;
+use crate::pile::piles_in;
+use crate::pile::set_in;
+ghost use mathlib.Core.Path.{_≡_};
+ghost use Rattle.sets.specs.Lists.{sameAll};
+ghost use Rattle.sets.specs.Piles.{writtenSet, pilesNumbers, CanSame};
+
+// Whether the written set at p is the same as the piles together. Members in the same order are found at once.
+pub fn same_set(w: &[u32], ends: &[u32], p: usize, piles: Piles) -> bool
+    requires { ⌜ CanSame (now w) (now ends) p piles ⌝ }
+    ensures { λ r. ⌜ r ≡ sameAll (writtenSet (now (w .entry)) (now (ends .entry)) p) (pilesNumbers (now (w .entry)) (now (ends .entry)) piles) ⌝ }
+{
+    let k = count(w, p);
+    let at = p + 1;
+    if aligned(w, ends, k, at, piles) {
+        return true;
+    }
+    if !set_in(w, ends, k, at, piles) {
+        return false;
+    }
+    piles_in(w, ends, piles, k, at)
+}
