@@ -1,34 +1,35 @@
 -- What the two compiled sides and the table say of the implication.
 -- Assumes nothing.
---     side-ranges, side-fits, side-room      the ranges of a side that stands are within the file; so many bytes
+--     side-room                              as many bytes as a side may take
+--     left-small, right-small                the ranges of the sides are within 8,192 words
 --     known-none, ranges-none                no comparison is known
 --     first-can, second-can                  the sides can be compiled
 --     left-full, right-full                  too many comparisons
 --     is-formula, answered                   the formula of both; what its table says
-use mathlib.Core.Path.{_≡_, refl, sym, ap, subst, _∙_}
+--     begun, begun-start, begun-room         the first two bytes
+use mathlib.Core.Path.{_≡_, refl, sym, ap, _∙_}
 use mathlib.Core.Bool.{Bool, true, false}
-use mathlib.Core.List.{List, [], _∷_, _++_, append-assoc}
-use Prim.Native.Nat.{ℕ, zero, suc, _+_, _*_, _-_, _^_, _<_, _≤_, max}
+use mathlib.Core.List.{List, [], _∷_, _++_}
+use Prim.Native.Nat.{ℕ, _+_, _*_, _-_, _^_, _<_, _≤_}
 use native.Mathlib.Omega.{arith}
-use lib.ListN.{length, getD, take, set, length-set}
+use lib.ListN.{length, take, set, length-set}
 use Rattle.language.specs.Syntax.{Boolean, Expr, compare, truth, and, or, neg}
 use Rattle.rules.specs.Words.{Word, words}
-use Rattle.rules.specs.Context.{Limits, Context}
 use Rattle.rules.specs.Implies.{comparisons, distinct}
-use Rattle.rules.specs.Condition.{Result, passes, fails, tooLarge, test, implication}
-use Rattle.layout.specs.Spelling.{FitsExpression}
+use Rattle.rules.specs.Condition.{test}
 use Rattle.layout.specs.EvidenceWords.{expressionPart}
 use Rattle.layout.specs.Standing.{StandsTo, PartStands}
 use Rattle.layout.proofs.Stands.{stands-end}
-use Rattle.table.specs.Formula.{Formula, disj, negated, spell, depth, Small, Spelled, IsFormula, Every}
+use Rattle.table.specs.Formula.{spell, depth, Small, Spelled, IsFormula, Every}
 use Rattle.implication.specs.declared.Compiled.{Compiled}
 use Rattle.implication.specs.declared.Condition.{Condition}
-use Rattle.implication.specs.declared.Condition.the-variants.{Passes, Fails, TooLarge}
+use Rattle.implication.specs.declared.Condition.the-variants.{TooLarge}
 use Rattle.implication.specs.declared.Side.{Side}
 use Rattle.implication.specs.declared.Side.the-variants.{One, Both, BothNot, False}
-use Rattle.implication.specs.Sides.{resultOf, PairStands, SideStands, RangeFits, SideFits, sideRoom, CanImply, Implied}
+use Rattle.implication.specs.Sides.{resultOf, SideStands, RangeFits, SideFits, sideRoom}
+use Rattle.implication.specs.Sides.{CanImply, Implied}
 use Rattle.implication.specs.Scanning.{Ranges}
-use Rattle.implication.specs.Compiling.{Extends, formula, Known, SideWritten, CanCompile, Fits, Compiles}
+use Rattle.implication.specs.Compiling.{formula, Known, SideWritten, CanCompile, Fits, Compiles}
 use Rattle.implication.proofs.Encodings.{stands-within}
 use Rattle.implication.proofs.Numbers.{extends-self, extends-comparisons, grown, small, depth-formula}
 use Rattle.implication.proofs.Pairs.{spell-append}
@@ -43,19 +44,33 @@ starts-inside w (and b c) a p s = s .0
 starts-inside w (or b c) a p s = s .0
 starts-inside w (neg b) a p s = s .0
 
-range-fits : (w : List ℕ) (φ : Expr Boolean) (d a p : ℕ) → PartStands w (expressionPart φ) d a p → RangeFits (length w) a p
+range-fits : (w : List ℕ) (φ : Expr Boolean) (d a p : ℕ) → PartStands w (expressionPart φ) d a p →
+    RangeFits (length w) a p
 range-fits w φ d a p s =
     let h = starts-inside w φ a p (s .stand) in
     let e = stands-end w a (words φ) p (s .stand) in
     (omega arith, stands-within w a (words φ) p (s .stand) (omega arith))
 
-pub side-fits : (w : List ℕ) (d : ℕ) (s : Side) (χ : Expr Boolean) → SideStands w d s χ → SideFits (length w) s
+side-fits : (w : List ℕ) (d : ℕ) (s : Side) (χ : Expr Boolean) → SideStands w d s χ → SideFits (length w) s
 side-fits w d (One a p) χ s = range-fits w χ d a p s
 side-fits w d (Both a p b q) χ s =
     (range-fits w (s .first) d a p (s .left), range-fits w (s .second) d b q (s .right))
 side-fits w d (BothNot a p b q) χ s =
     (range-fits w (s .first) d a p (s .left), range-fits w (s .second) d b q (s .right))
 side-fits w d False χ s = tt
+
+-- the bytes a side may take
+pub side-room : (s : Side) → SideFits 8192 s → sideRoom s ≤ 16386
+side-room (One a p) h = omega arith
+side-room (Both a p b q) h = omega arith
+side-room (BothNot a p b q) h = omega arith
+side-room False h = omega arith
+
+side-within : (n m : ℕ) (s : Side) → n ≤ m → SideFits n s → SideFits m s
+side-within n m (One a p) l h = (h .0, omega arith)
+side-within n m (Both a p b q) l h = ((h .0 .0, omega arith), (h .1 .0, omega arith))
+side-within n m (BothNot a p b q) l h = ((h .0 .0, omega arith), (h .1 .0, omega arith))
+side-within n m False l h = tt
 
 -- a side is at most two levels deeper than what it is made of
 side-depth : (w : List ℕ) (d : ℕ) (s : Side) (χ : Expr Boolean) (m : List (List Word)) → SideStands w d s χ →
@@ -83,11 +98,17 @@ ranges-none h k = record { few = omega arith; sizes = (h, k); each = λ i l. abs
 
 -- ---- the sides
 module _ {w : List ℕ} {left right : Side} {limit : ℕ} (can : CanImply w left right limit) where
-  pub left-fits : SideFits (length w) left
+  left-fits : SideFits (length w) left
   left-fits = side-fits w (can .levels) left (can .φ) (can .leftStands)
 
-  pub right-fits : SideFits (length w) right
+  right-fits : SideFits (length w) right
   right-fits = side-fits w (can .levels) right (can .ψ) (can .rightStands)
+
+  pub left-small : SideFits 8192 left
+  left-small = side-within (length w) 8192 left (can .size) left-fits
+
+  pub right-small : SideFits 8192 right
+  right-small = side-within (length w) 8192 right (can .size) right-fits
 
   pub first-can : {starts ends prog : List ℕ} → length starts ≡ 16 → length ends ≡ 16 →
       2 + sideRoom left + sideRoom right ≤ length prog →
@@ -119,8 +140,8 @@ module _ {w : List ℕ} {left right : Side} {limit : ℕ} (can : CanImply w left
     )
 
     module _ {starts₂ ends₂ prog₃ : List ℕ} {z : Compiled} (y : x .fits ≡ true)
-        (B : Compiles w (SideWritten w right) limit (x .known) (x .len) (sideRoom right) starts₁ ends₁ prog₂ starts₂ ends₂
-        prog₃ z) where
+        (B : Compiles w (SideWritten w right) limit (x .known) (x .len) (sideRoom right) starts₁ ends₁ prog₂
+        starts₂ ends₂ prog₃ z) where
       module _ (φ ψ : Expr Boolean) (d e : ℕ) (s : SideStands w d left φ) (t : SideStands w e right ψ) where
         first : Fits w φ [] 2 prog₁ starts₁ ends₁ prog₂ x
         first = A .fitting y φ [] (record { levels = d; stands = s }) known-none
@@ -158,7 +179,7 @@ module _ {w : List ℕ} {left right : Side} {limit : ℕ} (can : CanImply w left
                 small = (small φ [] m left-later h, small ψ (comparisons φ []) m (extends-self m) h);
               }
 
-        pub is-formula : IsFormula prog₃ (z .len)
+        pub is-formula : IsFormula prog₃ (z .len) 260
         unfolding depth
         is-formula =
             let φ = can .φ in
@@ -184,13 +205,6 @@ module _ {w : List ℕ} {left right : Side} {limit : ℕ} (can : CanImply w left
               sym (few-enough Γ φ ψ r (omega arith)
               (table-settled φ ψ b (rw k h) r (E .every (implies φ ψ (distinct φ ψ)) (spelled φ ψ d e s t))));
         }
-
--- ---- the bytes a side may take
-pub side-room : (n : ℕ) (s : Side) → SideFits n s → n ≤ 8192 → sideRoom s ≤ 16386
-side-room n (One a p) h l = omega arith
-side-room n (Both a p b q) h l = omega arith
-side-room n (BothNot a p b q) h l = omega arith
-side-room n False h l = omega arith
 
 -- ---- the first two bytes: not the left, or the right
 abbrev pub begun : List ℕ → List ℕ

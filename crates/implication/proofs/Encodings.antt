@@ -6,9 +6,8 @@
 use mathlib.Core.Path.{_≡_, refl, sym, ap, ap₂, subst, _∙_}
 use mathlib.Core.Bool.{Bool, true, false}
 use mathlib.Core.List.{List, [], _∷_, _++_}
-use Prim.Native.Nat.{ℕ, zero, suc, _+_, _*_, _-_, _<_, _≤_}
+use Prim.Native.Nat.{ℕ, zero, suc, _+_, _-_, _<_, _≤_}
 use native.Mathlib.Omega.{arith}
-use lib.IntN.{ℤ, pos, negsuc}
 use lib.ListN.{length, getD}
 use Rattle.language.specs.Syntax.{Operator, plus, minus, times, Comparison, equal, less, atMost}
 use Rattle.language.specs.Syntax.{Sort, Expr, constant, scalar, operation, select, compare, truth, and, or, neg}
@@ -19,7 +18,7 @@ use Rattle.layout.specs.Standing.{StandsTo}
 use Rattle.layout.proofs.Words.{quotient, remainder, payload-small, signed-payload}
 use Rattle.layout.specs.Bytes.{signed}
 use Rattle.layout.proofs.Stands.{stands-end}
-use Rattle.implication.specs.Scanning.{SameRange, SameFor}
+use Rattle.implication.specs.Scanning.{SameRange}
 use Rattle.implication.specs.Compiling.{FitsWord, FitsWords, Compared}
 
 -- ---- payloads in range

@@ -1,5 +1,5 @@
--- The table of two compiled booleans decides what the definition's table decides: every assignment to the comparisons has
--- a number, and the comparisons of a boolean have what their leaves have.
+-- The table of two compiled booleans decides what the definition's table decides: every assignment to the comparisons
+-- has a number, and the comparisons of a boolean have what their leaves have.
 -- Assumes nothing.
 --     assignment-number     the number of an assignment to n leaves
 --     truth-formula         a boolean's value is its formula's
@@ -12,7 +12,7 @@ use mathlib.Core.List.{List, []}
 use Prim.Native.Nat.{ℕ, zero, suc, _+_, _*_, _/_, _%_, _^_, _<_, _≤_}
 use native.Mathlib.Omega.{arith}
 use borrow.Author.Tests.{le-leb, lt-leb}
-use lib.Dec.{eqb, leb}
+use lib.Dec.{eqb}
 use lib.ListN.{length}
 use Rattle.laws.proofs.Bools.{clash}
 use Rattle.laws.proofs.Decides.{decides-implies}
@@ -21,12 +21,12 @@ use Rattle.rules.specs.Words.{Word, words}
 use Rattle.rules.specs.Context.{Context}
 use Rattle.rules.specs.Implies.{truthUnder, amongWords, comparisons, distinct}
 use Rattle.rules.specs.Tests.{table}
-use Rattle.rules.specs.Condition.{Result, tooLarge, test, implication}
+use Rattle.rules.specs.Condition.{tooLarge, test, implication}
 use Rattle.rules.proofs.Table.{table-decides}
 use Rattle.table.specs.Formula.{Formula, disj, negated, value, bit, numbered, Settles}
 use Rattle.implication.specs.Compiling.{number, entry, Extends, formula}
-use Rattle.implication.proofs.Numbers.{number-low, entry-number, extends-self, extends-trans, extends-comparisons, listed}
-use Rattle.implication.proofs.Numbers.{by-test}
+use Rattle.implication.proofs.Numbers.{by-test, number-low, entry-number, listed}
+use Rattle.implication.proofs.Numbers.{extends-self, extends-trans, extends-comparisons}
 
 -- ---- every assignment has a number
 digit : Bool → ℕ

@@ -1,20 +1,20 @@
 -- Comparisons by number: a listed comparison keeps its number as others are put before it.
 -- Assumes nothing.
+--     include, by-test                          a comparison put in; a test in both ways
 --     number-low, number-new, entry-number      the number of what is listed, of what is new; the one with that number
 --     number-found, number-missed               the first entry that is a comparison has its number; none is
 --     extends-self, extends-trans               numbers stay
 --     extends-include, extends-comparisons      as comparisons are listed
 --     listed, grown                             a comparison that is put in is listed; the list does not shrink
 --     small, depth-formula                      a formula's leaves and depth
-use mathlib.Core.Path.{_≡_, refl, sym, ap, ap₂, _∙_}
+use mathlib.Core.Path.{_≡_, refl, sym, ap, _∙_}
 use mathlib.Core.Bool.{Bool, true, false, cond}
 use mathlib.Core.List.{List, [], _∷_}
-use mathlib.Core.Logic.{_⊎_, inl, inr, ⊎-elim}
-use Prim.Native.Nat.{ℕ, zero, suc, _+_, _<_, _≤_, max}
+use mathlib.Core.Logic.{_⊎_, ⊎-elim}
+use Prim.Native.Nat.{ℕ, zero, suc, _<_, _≤_}
 use native.Mathlib.Nat.{eq-or-lt-of-le}
 use native.Mathlib.Omega.{arith}
-use borrow.Author.Tests.{eqb-true, eqb-false, eq-eqb, ne-eqb}
-use lib.Dec.{eqb}
+use borrow.Author.Tests.{eq-eqb, ne-eqb}
 use lib.ListN.{length}
 use Rattle.laws.proofs.Bools.{or-cases, or-first, or-second, clash}
 use Rattle.language.specs.Syntax.{Boolean, Expr, compare, truth, and, or, neg}
@@ -22,7 +22,7 @@ use Rattle.rules.specs.Words.{Word, words, sameWords}
 use Rattle.rules.specs.Implies.{amongWords, comparisons}
 use Rattle.rules.proofs.Decides.{sameWords-decides}
 use Rattle.layout.specs.Spelling.{FitsExpression}
-use Rattle.table.specs.Formula.{Formula, depth, Small}
+use Rattle.table.specs.Formula.{depth, Small}
 use Rattle.implication.specs.Compiling.{number, entry, Extends, formula}
 
 abbrev Listed : Type 0

@@ -1,14 +1,15 @@
 -- Two booleans compiled one after the other, with bytes in front of each; and the boolean that a side is.
 -- Assumes nothing.
 --     Adds, adds-none, adds-one                       bytes put after the first ones
+--     spell-append                                    the bytes of a formula before others
 --     Joint, joint-and, joint-and-not                 a boolean made of two, by its bytes and its comparisons
 --     can-first, can-second, pair-full, pair-done     the two calls
 --     compiles-as, compiles-false                     what stands, said in another way; false
 --     side-can, side-done                             the same of a side that is known by its case
 use mathlib.Core.Path.{_≡_, refl, sym, ap, subst, _∙_}
-use mathlib.Core.Bool.{Bool, true, false, true≢false}
-use mathlib.Core.List.{List, [], _∷_, _++_, append-assoc}
-use Prim.Native.Nat.{ℕ, suc, _+_, _-_, _<_, _≤_}
+use mathlib.Core.Bool.{true, false, true≢false}
+use mathlib.Core.List.{List, [], _∷_, _++_, append-assoc, append-nil}
+use Prim.Native.Nat.{ℕ, _+_, _-_, _<_, _≤_}
 use native.Mathlib.Numerals.{add-one}
 use native.Mathlib.Omega.{arith}
 use lib.ListN.{length, take, set, length-set}
@@ -16,7 +17,7 @@ use lib.Seq.{take-suc-set}
 use Rattle.language.specs.Syntax.{Boolean, Expr, truth, and, neg}
 use Rattle.rules.specs.Words.{Word}
 use Rattle.rules.specs.Implies.{comparisons}
-use Rattle.table.specs.Formula.{Formula, leaf, fixed, conj, disj, negated, fixedByte, spell}
+use Rattle.table.specs.Formula.{Formula, leaf, fixed, conj, disj, negated, spell}
 use Rattle.implication.specs.declared.Compiled.{Compiled}
 use Rattle.implication.specs.declared.Side.{Side}
 use Rattle.implication.specs.Sides.{SideFits, sideRoom}
@@ -33,12 +34,8 @@ pub record Adds (prog : List ℕ) (len : ℕ) (u prog′ : List ℕ) (len′ : �
   pub long : len′ ≡ len + length u
   pub room : length prog′ ≡ length prog
 
-nil-end : (l : List ℕ) → l ++ [] ≡ l
-nil-end [] = refl
-nil-end (x ∷ l) = ap (λ (r : List ℕ). x ∷ r) (nil-end l)
-
 pub adds-none : (prog : List ℕ) (len : ℕ) → Adds prog len [] prog len
-adds-none prog len = record { bytes = sym (nil-end (take len prog)); long = omega arith; room = refl }
+adds-none prog len = record { bytes = sym (append-nil (take len prog)); long = omega arith; room = refl }
 
 pub adds-one : (prog : List ℕ) (len v : ℕ) → len < length prog → Adds prog len (v ∷ []) (set prog len v) (len + 1)
 adds-one prog len v l = record {
@@ -162,7 +159,8 @@ module _ {w : List ℕ} {make : Make} {limit known len most len₁ a p b q : ℕ
             c ++ g ≡ k ++ (u ++ (f ++ (v ++ g)))
         laid k f g h i j = rw (h, i, j) (simp append-assoc)
 
-    pub pair-done : Compiles w (PairWritten w a p b q make) limit known len most starts₀ ends₀ prog₀ starts₂ ends₂ prog₄ r
+    pub pair-done :
+        Compiles w (PairWritten w a p b q make) limit known len most starts₀ ends₀ prog₀ starts₂ ends₂ prog₄ r
     pair-done = record {
       ranges = B .ranges;
       within = B .within;
@@ -206,16 +204,17 @@ pub compiles-false : {w : List ℕ} {Q : Expr Boolean → Type 0} {limit known l
     Compiles w Q limit known len most starts ends prog starts ends (set prog len 16)
     (record { fits = true; known = known; len = len + 1 })
 unfolding comparisons formula spell
-compiles-false {w} {Q} {limit} {known} {len} {most} {starts} {ends} {prog} f C h = record {
+compiles-false {w} {known = known} {len = len} {starts = starts} {ends = ends} {prog = prog} f C h = record {
   ranges = C .ranges;
   within = C .within;
   least = omega arith;
   short = omega arith;
   room = length-set prog len 16;
   fitting = λ _ χ l s K.
-      subst (λ (k : Expr Boolean). Fits w k l len prog starts ends (set prog len 16) (record { fits = true; known = known; len = len + 1 }))
-      (sym (f χ s))
-      (record { known = K; coded = λ m X. adds-one prog len 16 (let r = C .room in omega arith) .bytes });
+      rw (f χ s) (record {
+        known = K;
+        coded = λ m X. adds-one prog len 16 (let r = C .room in omega arith) .bytes;
+      });
   full = λ y. absurd (true≢false y);
 }
 

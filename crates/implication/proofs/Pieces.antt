@@ -1,9 +1,10 @@
--- The words of a boolean, one after the other: connectives and truths, and the ranges of its comparisons. Comparisons do
--- not nest, and the words after a comparison's first are no boolean's.
+-- The words of a boolean, one after the other: connectives and truths, and the ranges of its comparisons. Comparisons
+-- do not nest, and the words after a comparison's first are no boolean's.
 -- Assumes nothing.
 --     Piece, pieces                        a boolean's connectives, truths and comparisons, in order
 --     collected, code                      the comparisons and the bytes of pieces
 --     collected-pieces, code-pieces        those of a boolean's pieces
+--     extends-collected, grown-collected   numbers stay, and the list does not shrink
 --     Scan, scan-boolean                   words that have these pieces; those of a boolean
 --     is-mark, is-test, is-end             the first piece, by the first word
 use mathlib.Core.Path.{_≡_, refl, sym, ap, subst, _∙_}
@@ -15,14 +16,15 @@ use native.Mathlib.Omega.{arith}
 use lib.IntN.{ℤ, pos}
 use lib.ListN.{length, getD}
 use Rattle.language.specs.Syntax.{Sort, Arithmetic, Boolean, Array}
-use Rattle.language.specs.Syntax.{Expr, constant, scalar, operation, select, compare, truth, and, or, neg, array, zeros, update}
+use Rattle.language.specs.Syntax.{Expr, constant, scalar, operation, select, compare, truth, and, or, neg}
+use Rattle.language.specs.Syntax.{array, zeros, update}
 use Rattle.rules.specs.Words.{Word, word, words, operatorPayload, comparisonPayload, truthPayload}
 use Rattle.rules.specs.Implies.{comparisons}
 use Rattle.layout.specs.Spelling.{encode, FitsConstant, FitsExpression}
 use Rattle.layout.specs.Standing.{StandsTo, Stands}
 use Rattle.layout.proofs.Stands.{stands-end, parted}
 use Rattle.table.specs.Formula.{fixedByte, spell}
-use Rattle.implication.specs.Scanning.{byteBy, byteOf, byteAt, Skipped}
+use Rattle.implication.specs.Scanning.{byteOf, byteAt, Skipped}
 use Rattle.implication.specs.Compiling.{Extends, formula, number, Compared}
 use Rattle.implication.proofs.WordBytes.{by-low, by-high, by-compare, by-false, by-true, by-other, byte-word}
 use Rattle.implication.proofs.Spans.{below, Bare, bare-none, bare-one, bare-join}

@@ -1,5 +1,6 @@
 -- Ranges of words: compared word by word, searched for, and skipped.
 -- Assumes nothing.
+--     below                                           the order of two numbers
 --     same-none, same-more                            the words so far are the same
 --     compares-all, compares-not, compares-length     two ranges have the same words, or differ
 --     Bare, bare-none, bare-more, bare-join           words of no boolean
@@ -12,8 +13,8 @@ use Prim.Native.Nat.{ℕ, _+_, _-_, _<_, _≤_}
 use native.Mathlib.Omega.{arith}
 use borrow.Author.Tests.{ltb-true, ltb-false}
 use lib.Dec.{ltb}
-use lib.ListN.{length, getD}
-use Rattle.implication.specs.Scanning.{byteAt, SameFor, SameRange, Compares, CanFind, Finds}
+use lib.ListN.{getD}
+use Rattle.implication.specs.Scanning.{byteAt, SameFor, SameRange, Compares, Finds}
 
 pub below : (j k : ℕ) → (j < k) ⊎ (k ≤ j)
 below j k = go (ltb j k) refl
@@ -100,7 +101,8 @@ module _ {w : List ℕ} {k q : ℕ} {starts ends : List ℕ} where
         missed = λ j l.
             ⊎-elim
             (λ (h : j < i). m .missed j h)
-            (λ (h : i ≤ j) s. c .complete e (subst (λ (z : ℕ). SameRange w (getD starts z 0) (getD ends z 0) k q) (at j l h) s))
+            (λ (h : i ≤ j) s.
+            c .complete e (subst (λ (z : ℕ). SameRange w (getD starts z 0) (getD ends z 0) k q) (at j l h) s))
             (below j i);
       }
         where

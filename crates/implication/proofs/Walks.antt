@@ -1,14 +1,14 @@
 -- The walk that compiles a boolean: what holds when the place k is reached, and each step.
 -- Assumes nothing.
 --     known-found, known-missed, known-new       a comparison among those known
---     Mid, Walk                                  the pieces from k on are still to come; for every boolean that stands there
+--     Mid, Walk                                  the pieces from k on are still to come; for every boolean there
 --     walk-start, walk-end, walk-full            the walk's start and its ends
 --     walk-mark, walk-old, walk-new              one piece
 use mathlib.Core.Path.{_≡_, refl, sym, ap, subst, _∙_}
-use mathlib.Core.Bool.{Bool, true, false, false≢true, true≢false}
-use mathlib.Core.List.{List, [], _∷_, _++_, append-assoc}
+use mathlib.Core.Bool.{true, false, false≢true, true≢false}
+use mathlib.Core.List.{List, [], _∷_, _++_, append-assoc, append-nil}
 use mathlib.Core.Logic.{⊎-elim}
-use Prim.Native.Nat.{ℕ, suc, _+_, _-_, _<_, _≤_}
+use Prim.Native.Nat.{ℕ, _+_, _-_, _<_, _≤_}
 use native.Mathlib.Nat.{eq-or-lt-of-le}
 use native.Mathlib.Numerals.{add-one}
 use native.Mathlib.Omega.{arith}
@@ -26,7 +26,7 @@ use Rattle.implication.specs.Compiling.{CanCompile, Fits, Compiles}
 use Rattle.implication.proofs.Encodings.{same-comparison, comparison-same}
 use Rattle.implication.proofs.Numbers.{include, entry-last, entry-old, number-new, number-found, number-missed}
 use Rattle.implication.proofs.Numbers.{extends-trans, listed}
-use Rattle.implication.proofs.Pieces.{Piece, mark, test, pieces, collected, code, collected-pieces, code-pieces}
+use Rattle.implication.proofs.Pieces.{Piece, pieces, collected, code, collected-pieces, code-pieces}
 use Rattle.implication.proofs.Pieces.{extends-collected, grown-collected, Scan, scan-end, scan-boolean}
 use Rattle.implication.proofs.Pieces.{is-mark, is-test, is-end}
 
@@ -78,8 +78,8 @@ ranges-new {w} {starts} {ends} {n} {k} {q} R h l m = record {
   each = λ i b.
       ⊎-elim
       (λ (e : i ≡ n).
-      range (ap (λ (z : ℕ). getD (set starts n k) z 0) e ∙ getD-set-same starts n k 0 (let s = R .sizes .0 in omega arith))
-      (ap (λ (z : ℕ). getD (set ends n q) z 0) e ∙ getD-set-same ends n q 0 (let s = R .sizes .1 in omega arith))
+      range (ap (λ (z : ℕ). getD (set starts n k) z 0) e ∙ getD-set-same starts n k 0 (rw (R .sizes .0) h))
+      (ap (λ (z : ℕ). getD (set ends n q) z 0) e ∙ getD-set-same ends n q 0 (rw (R .sizes .1) h))
       (l, m))
       (λ (e : i < n).
       range (getD-set-other starts n i k 0 (λ z. omega arith)) (getD-set-other ends n i q 0 (λ z. omega arith))
@@ -115,10 +115,6 @@ more-bytes prog len v r l =
     ap (λ (z : List ℕ). z ++ r) (ap (λ (j : ℕ). take j (set prog len v)) (add-one len) ∙ take-suc-set prog len v l) ∙
     append-assoc (take len prog) (v ∷ []) r
 
-nil-end : (l : List ℕ) → l ++ [] ≡ l
-nil-end [] = refl
-nil-end (x ∷ l) = ap (λ (r : List ℕ). x ∷ r) (nil-end l)
-
 module _ {w : List ℕ} {end len₀ : ℕ} {prog₀ : List ℕ} {φ : Expr Boolean} {l₀ : Listed} {n len k : ℕ}
     {starts ends prog : List ℕ} (M : Mid w end len₀ prog₀ φ l₀ n len k starts ends prog) where
   mid-end : {r : Compiled} → end ≤ k → r .known ≡ n → r .len ≡ len → Fits w φ l₀ len₀ prog₀ starts ends prog r
@@ -128,7 +124,7 @@ module _ {w : List ℕ} {end len₀ : ℕ} {prog₀ : List ℕ} {φ : Expr Boole
       let c : M .l ≡ comparisons φ l₀ = ap (λ (z : List Piece). collected z (M .l)) (sym e) ∙ M .gathered in record {
         known = rw (en, ← c) (M .known);
         coded = λ m x.
-            ap (λ (z : ℕ). take z prog) el ∙ sym (nil-end (take len prog)) ∙
+            ap (λ (z : ℕ). take z prog) el ∙ sym (append-nil (take len prog)) ∙
             ap (λ (z : List Piece). take len prog ++ code m z) (sym e) ∙ M .coded m (rw (M .gathered) x);
       }
 
@@ -282,60 +278,60 @@ module _ {w : List ℕ} {a end limit known₀ len₀ : ℕ} {starts₀ ends₀ p
           (mid-mark (W .mid φ l s K) walk-space h (omega arith));
     }
 
-    module _ {v q j : ℕ} (e : v ≡ byteAt w k) (b : 21 ≤ v) (S : Skipped w (k + 1) end q) (F : Finds w k q starts ends n j)
-      where
-        high : 21 ≤ byteAt w k
-        high = omega arith
+    module _ {v q j : ℕ} (e : v ≡ byteAt w k) (b : 21 ≤ v) (S : Skipped w (k + 1) end q)
+        (F : Finds w k q starts ends n j) where
+      high : 21 ≤ byteAt w k
+      high = omega arith
 
-        pub walk-old : j < n →
-            Walk w a end limit known₀ len₀ starts₀ ends₀ prog₀ starts ends (set prog len j) n (len + 1) q
-        walk-old i = record {
-          ranges = W .ranges;
-          within = W .within;
-          few = W .few;
-          inside = W .inside;
-          upto = S .upto;
-          least = let g = W .least in omega arith;
-          short = let s = W .short in let f = S .from in let u = S .upto in omega arith;
-          space = rw (length-set prog len j) (W .space);
-          room = length-set prog len j ∙ W .room;
-          mid = λ φ l s K. mid-old (W .mid φ l s K) walk-space h high S F i;
-        }
+      pub walk-old : j < n →
+          Walk w a end limit known₀ len₀ starts₀ ends₀ prog₀ starts ends (set prog len j) n (len + 1) q
+      walk-old i = record {
+        ranges = W .ranges;
+        within = W .within;
+        few = W .few;
+        inside = W .inside;
+        upto = S .upto;
+        least = let g = W .least in omega arith;
+        short = let s = W .short in let f = S .from in let u = S .upto in omega arith;
+        space = rw (length-set prog len j) (W .space);
+        room = length-set prog len j ∙ W .room;
+        mid = λ φ l s K. mid-old (W .mid φ l s K) walk-space h high S F i;
+      }
 
-        pub walk-full : n ≤ j → n ≡ limit →
-            Compiles w (WrittenAt w a end) limit known₀ len₀ (end - a) starts₀ ends₀ prog₀ starts ends prog
-            (record { fits = false; known = n; len = len })
-        walk-full i g = record {
-          ranges = W .ranges;
-          within = W .within;
-          least = W .least;
-          short = let s = W .short in omega arith;
-          room = W .room;
-          fitting = λ z. absurd (false≢true z);
-          full = λ _ φ l s K. let x = mid-full (W .mid φ l s K) walk-space h high S F i in omega arith;
-        }
+      pub walk-full : n ≤ j → n ≡ limit →
+          Compiles w (WrittenAt w a end) limit known₀ len₀ (end - a) starts₀ ends₀ prog₀ starts ends prog
+          (record { fits = false; known = n; len = len })
+      walk-full i g = record {
+        ranges = W .ranges;
+        within = W .within;
+        least = W .least;
+        short = let s = W .short in omega arith;
+        room = W .room;
+        fitting = λ z. absurd (false≢true z);
+        full = λ _ φ l s K. let x = mid-full (W .mid φ l s K) walk-space h high S F i in omega arith;
+      }
 
-        pub walk-new : n ≤ j → (n ≡ limit → ⊥) →
-            Walk w a end limit known₀ len₀ starts₀ ends₀ prog₀ (set starts n k) (set ends n q) (set prog len n) (n + 1)
-            (len + 1) q
-        walk-new i g = let p = W .within in let r = W .few in record {
-          ranges =
-              ranges-new (W .ranges) (fresh g p r) (let f = S .from in omega arith) (let u = S .upto in let t = W .inside in omega arith);
-          within = less g p;
-          few = W .few;
-          inside = W .inside;
-          upto = S .upto;
-          least = let t = W .least in omega arith;
-          short = let s = W .short in let f = S .from in let u = S .upto in omega arith;
-          space = rw (length-set prog len n) (W .space);
-          room = length-set prog len n ∙ W .room;
-          mid = λ φ l s K.
-              mid-new (W .mid φ l s K) walk-space h high S F i
-              (rw (W .ranges .sizes .0) (fresh g p r)) (rw (W .ranges .sizes .1) (fresh g p r));
-        }
-          where
-            less : (n ≡ limit → ⊥) → n ≤ limit → n + 1 ≤ limit
-            less f p = omega arith
+      pub walk-new : n ≤ j → (n ≡ limit → ⊥) →
+          Walk w a end limit known₀ len₀ starts₀ ends₀ prog₀ (set starts n k) (set ends n q) (set prog len n) (n + 1)
+          (len + 1) q
+      walk-new i g = let p = W .within in let r = W .few in record {
+        ranges =
+            ranges-new (W .ranges) (fresh g p r) (omega (arith, S .from)) (omega (arith, S .upto, W .inside));
+        within = less g p;
+        few = W .few;
+        inside = W .inside;
+        upto = S .upto;
+        least = let t = W .least in omega arith;
+        short = let s = W .short in let f = S .from in let u = S .upto in omega arith;
+        space = rw (length-set prog len n) (W .space);
+        room = length-set prog len n ∙ W .room;
+        mid = λ φ l s K.
+            mid-new (W .mid φ l s K) walk-space h high S F i
+            (rw (W .ranges .sizes .0) (fresh g p r)) (rw (W .ranges .sizes .1) (fresh g p r));
+      }
+        where
+          less : (n ≡ limit → ⊥) → n ≤ limit → n + 1 ≤ limit
+          less f p = omega arith
 
-            fresh : (n ≡ limit → ⊥) → n ≤ limit → limit ≤ 16 → n < 16
-            fresh f p r = omega arith
+          fresh : (n ≡ limit → ⊥) → n ≤ limit → limit ≤ 16 → n < 16
+          fresh f p r = omega arith

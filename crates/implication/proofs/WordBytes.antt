@@ -3,10 +3,10 @@
 --     by-low, by-high                           a word of no boolean
 --     by-compare, by-false, by-true, by-other   a comparison; a truth; and, or, not
 --     byte-word                                 of an encoded word
-use mathlib.Core.Path.{_≡_, refl, ap, ap₂, _∙_}
-use Prim.Native.Nat.{ℕ, _+_, _*_, _/_, _%_, _<_, _≤_}
+use mathlib.Core.Path.{_≡_, refl, ap₂}
+use Prim.Native.Nat.{ℕ, _+_, _<_, _≤_}
 use native.Mathlib.Omega.{arith}
-use borrow.Author.Tests.{lt-ltb, le-ltb, eq-eqb, ne-eqb}
+use borrow.Author.Tests.{lt-ltb, le-ltb, ne-eqb}
 use lib.IntN.{ℤ}
 use Rattle.rules.specs.Words.{word}
 use Rattle.layout.specs.Spelling.{payloadOf, encode, FitsConstant}

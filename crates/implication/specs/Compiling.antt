@@ -1,5 +1,5 @@
--- Comparisons by number, formulas over them, and what compiling a boolean gives: the ranges of its distinct comparisons and
--- the bytes of its formula.
+-- Comparisons by number, formulas over them, and what compiling a boolean gives: the ranges of its distinct comparisons
+-- and the bytes of its formula.
 -- Working: a law in proofs/ says that the table of the formulas decides what `implication` does. Assumes nothing.
 --     number, entry, Extends           the number of a listed comparison; the one with a number; numbers stay
 --     formula                          the formula of a boolean
@@ -9,11 +9,10 @@
 --     SideWritten                      the boolean that a side is
 --     CanCompile, Fits, Compiles       the contract of compiling what stands somewhere
 use mathlib.Core.Path.{_≡_}
-use mathlib.Core.Bool.{Bool, true, false, cond}
+use mathlib.Core.Bool.{true, false, cond}
 use mathlib.Core.List.{List, [], _∷_, _++_}
-use Prim.Native.Nat.{ℕ, _+_, _-_, _<_, _≤_}
+use Prim.Native.Nat.{ℕ, _+_, _<_, _≤_}
 use lib.Dec.{eqb}
-use lib.IntN.{ℤ}
 use lib.ListN.{length, getD, take}
 use Rattle.language.specs.Syntax.{Boolean, Expr, compare, truth, and, or, neg}
 use Rattle.rules.specs.Words.{Word, word, forWord, words}

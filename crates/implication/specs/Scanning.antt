@@ -1,6 +1,6 @@
 -- The words of a boolean by what matters of each, and ranges of words.
 -- Working: laws in proofs/ tie them to the words of trees. Assumes nothing.
---     byteOf, byteAt                the byte of a word in a formula
+--     byteBy, byteOf, byteAt        the byte of a word in a formula
 --     Skipped                       the first place with a word of a boolean
 --     SameFor, SameRange, Compares  two ranges have the same words
 --     Ranges, CanFind, Finds        a range of words is found among others

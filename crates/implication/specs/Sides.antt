@@ -2,16 +2,16 @@
 -- Working: it says of written booleans what `implication` of rules/specs/Condition says of trees. Assumes nothing.
 --     resultOf                  the result of a condition
 --     PairStands, SideStands    the boolean that a side is
---     rangeFits, SideFits       the ranges of a side are within a file
+--     RangeFits, SideFits       the ranges of a side are within a file
 --     sideRoom                  as many bytes as its formula may take
 --     CanImply, Implied         the contract
 use mathlib.Core.Path.{_≡_}
-use mathlib.Core.Bool.{Bool, true, false}
+use mathlib.Core.Bool.{false}
 use mathlib.Core.List.{List}
 use Prim.Native.Nat.{ℕ, _+_, _-_, _≤_}
 use lib.ListN.{length}
 use Rattle.language.specs.Syntax.{Boolean, Expr, truth, and, neg}
-use Rattle.rules.specs.Context.{Limits, Context}
+use Rattle.rules.specs.Context.{Context}
 use Rattle.rules.specs.Condition.{Result, passes, fails, tooLarge, implication}
 use Rattle.layout.specs.EvidenceWords.{expressionPart}
 use Rattle.layout.specs.Standing.{PartStands}

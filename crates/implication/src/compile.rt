@@ -4,8 +4,7 @@ use super::Side;
 use super::scan::byte;
 use super::scan::find;
 use super::scan::skip;
-ghost use mathlib.Core.Path.{_≡_};
-ghost use Prim.Native.Nat.{ℕ, _+_, _-_, _<_, _≤_};
+ghost use Prim.Native.Nat.{_+_, _-_, _<_};
 ghost use lib.ListN.{length};
 ghost use Rattle.language.specs.Syntax.{and, neg};
 ghost use Rattle.implication.specs.Sides.{RangeFits, SideFits, sideRoom};
@@ -23,8 +22,11 @@ pub fn compile(
     ends: &mut [usize; 16],
     prog: &mut [u8],
 ) -> Compiled
-    requires { ⌜ RangeFits (length (now w)) a end × CanCompile (now w) limit known len (end - a) (now starts) (now ends) (now prog) ⌝ }
-    ensures { λ r. ⌜ Compiles (now (w .entry)) (WrittenAt (now (w .entry)) a end) limit known len (end - a) (now (starts .entry)) (now (ends .entry)) (now (prog .entry)) (now (starts .exit)) (now (ends .exit)) (now (prog .exit)) r ⌝ }
+    requires { ⌜ RangeFits (length (now w)) a end ×
+        CanCompile (now w) limit known len (end - a) (now starts) (now ends) (now prog) ⌝ }
+    ensures { λ r. ⌜ Compiles (now (w .entry)) (WrittenAt (now (w .entry)) a end) limit known len (end - a)
+        (now (starts .entry)) (now (ends .entry)) (now (prog .entry))
+        (now (starts .exit)) (now (ends .exit)) (now (prog .exit)) r ⌝ }
 {
     let mut n = known;
     let mut at = len;
@@ -80,8 +82,12 @@ fn compile_both(
     ends: &mut [usize; 16],
     prog: &mut [u8],
 ) -> Compiled
-    requires { ⌜ RangeFits (length (now w)) a p × RangeFits (length (now w)) b q × CanCompile (now w) limit known len (1 + (p - a) + (q - b)) (now starts) (now ends) (now prog) ⌝ }
-    ensures { λ r. ⌜ Compiles (now (w .entry)) (PairWritten (now (w .entry)) a p b q (λ φ ψ. and φ ψ)) limit known len (1 + (p - a) + (q - b)) (now (starts .entry)) (now (ends .entry)) (now (prog .entry)) (now (starts .exit)) (now (ends .exit)) (now (prog .exit)) r ⌝ }
+    requires { ⌜ RangeFits (length (now w)) a p × RangeFits (length (now w)) b q ×
+        CanCompile (now w) limit known len (1 + (p - a) + (q - b)) (now starts) (now ends) (now prog) ⌝ }
+    ensures { λ r. ⌜ Compiles (now (w .entry)) (PairWritten (now (w .entry)) a p b q (λ φ ψ. and φ ψ))
+        limit known len (1 + (p - a) + (q - b))
+        (now (starts .entry)) (now (ends .entry)) (now (prog .entry))
+        (now (starts .exit)) (now (ends .exit)) (now (prog .exit)) r ⌝ }
 {
     prog[len] = 18;
     let x = compile(w, a, p, limit, known, len + 1, starts, ends, prog);
@@ -108,8 +114,12 @@ fn compile_both_not(
     ends: &mut [usize; 16],
     prog: &mut [u8],
 ) -> Compiled
-    requires { ⌜ RangeFits (length (now w)) a p × RangeFits (length (now w)) b q × CanCompile (now w) limit known len (2 + (p - a) + (q - b)) (now starts) (now ends) (now prog) ⌝ }
-    ensures { λ r. ⌜ Compiles (now (w .entry)) (PairWritten (now (w .entry)) a p b q (λ φ ψ. and φ (neg ψ))) limit known len (2 + (p - a) + (q - b)) (now (starts .entry)) (now (ends .entry)) (now (prog .entry)) (now (starts .exit)) (now (ends .exit)) (now (prog .exit)) r ⌝ }
+    requires { ⌜ RangeFits (length (now w)) a p × RangeFits (length (now w)) b q ×
+        CanCompile (now w) limit known len (2 + (p - a) + (q - b)) (now starts) (now ends) (now prog) ⌝ }
+    ensures { λ r. ⌜ Compiles (now (w .entry)) (PairWritten (now (w .entry)) a p b q (λ φ ψ. and φ (neg ψ)))
+        limit known len (2 + (p - a) + (q - b))
+        (now (starts .entry)) (now (ends .entry)) (now (prog .entry))
+        (now (starts .exit)) (now (ends .exit)) (now (prog .exit)) r ⌝ }
 {
     prog[len] = 18;
     let x = compile(w, a, p, limit, known, len + 1, starts, ends, prog);
@@ -134,8 +144,11 @@ pub fn compile_side(
     ends: &mut [usize; 16],
     prog: &mut [u8],
 ) -> Compiled
-    requires { ⌜ SideFits (length (now w)) s × CanCompile (now w) limit known len (sideRoom s) (now starts) (now ends) (now prog) ⌝ }
-    ensures { λ r. ⌜ Compiles (now (w .entry)) (SideWritten (now (w .entry)) s) limit known len (sideRoom s) (now (starts .entry)) (now (ends .entry)) (now (prog .entry)) (now (starts .exit)) (now (ends .exit)) (now (prog .exit)) r ⌝ }
+    requires { ⌜ SideFits (length (now w)) s ×
+        CanCompile (now w) limit known len (sideRoom s) (now starts) (now ends) (now prog) ⌝ }
+    ensures { λ r. ⌜ Compiles (now (w .entry)) (SideWritten (now (w .entry)) s) limit known len (sideRoom s)
+        (now (starts .entry)) (now (ends .entry)) (now (prog .entry))
+        (now (starts .exit)) (now (ends .exit)) (now (prog .exit)) r ⌝ }
 {
     match s {
         Side::One(a, p) => compile(w, a, p, limit, known, len, starts, ends, prog),

@@ -5,7 +5,7 @@ mod scan;
 
 use compile::compile_side;
 ghost use mathlib.Core.Path.{_≡_};
-ghost use Prim.Native.Nat.{ℕ, _+_, _*_, _^_, _≤_};
+ghost use Prim.Native.Nat.{_+_, _*_, _^_, _≤_};
 ghost use lib.ListN.{length};
 ghost use Rattle.implication.specs.Sides.{SideFits, sideRoom, CanImply, Implied};
 
@@ -48,8 +48,8 @@ fn blocks(n: usize) -> usize
 }
 
 // As many bytes as the formula of a side may take.
-fn room(s: Side, n: usize) -> usize
-    requires { ⌜ SideFits n s × (n ≤ 8192) ⌝ }
+fn room(s: Side) -> usize
+    requires { ⌜ SideFits 8192 s ⌝ }
     ensures { λ r. ⌜ (r ≡ sideRoom s) × (r ≤ 16386) ⌝ }
 {
     match s {
@@ -95,7 +95,7 @@ pub fn implies(w: &[u32], left: Side, right: Side, limit: usize) -> Condition
     requires { ⌜ CanImply (now w) left right limit ⌝ }
     ensures { λ r. ⌜ Implied (now (w .entry)) left right limit r ⌝ }
 {
-    let most = 2 + room(left, w.len()) + room(right, w.len());
+    let most = 2 + room(left) + room(right);
     // Most formulas are short, and few bytes are to be cleared for them.
     if most <= 256 {
         let mut prog = [0u8; 256];

@@ -1,6 +1,6 @@
 // The words of a boolean, one after the other.
 ghost use mathlib.Core.Path.{_≡_};
-ghost use Prim.Native.Nat.{ℕ, _+_, _<_, _≤_};
+ghost use Prim.Native.Nat.{_+_, _<_};
 ghost use lib.ListN.{length};
 ghost use Rattle.implication.specs.Sides.{RangeFits};
 ghost use Rattle.implication.specs.Scanning.{byteOf, Skipped, Compares, CanFind, Finds};

@@ -1,4 +1,4 @@
--- The last arm of a match on a decoded word: a word with none of the tags that the arms above name has no meaning there.
+-- The last arm of a match on a decoded word: a word with none of the tags that the arms above name has no meaning.
 -- Assumes nothing.
 --     not-arithmetic, not-boolean, not-array, not-command, not-set, not-flow, not-implication, not-pre
 use mathlib.Core.Path.{_≡_, refl}
@@ -19,9 +19,34 @@ use Rattle.words.specs.declared.Word.{Word}
 use Rattle.words.specs.declared.Word.the-variants.{Arithmetic, Boolean, Array, Command, Set, Flow, Implication}
 use Rattle.words.specs.declared.Word.the-variants.{Precondition, Other}
 
+-- the tags of words, but one
+abbrev but0 : List ℕ
+but0 = 1 ∷ 2 ∷ 3 ∷ 4 ∷ 5 ∷ 6 ∷ 7 ∷ 8 ∷ []
+
+abbrev but1 : List ℕ
+but1 = 0 ∷ 2 ∷ 3 ∷ 4 ∷ 5 ∷ 6 ∷ 7 ∷ 8 ∷ []
+
+abbrev but2 : List ℕ
+but2 = 0 ∷ 1 ∷ 3 ∷ 4 ∷ 5 ∷ 6 ∷ 7 ∷ 8 ∷ []
+
+abbrev but3 : List ℕ
+but3 = 0 ∷ 1 ∷ 2 ∷ 4 ∷ 5 ∷ 6 ∷ 7 ∷ 8 ∷ []
+
+abbrev but4 : List ℕ
+but4 = 0 ∷ 1 ∷ 2 ∷ 3 ∷ 5 ∷ 6 ∷ 7 ∷ 8 ∷ []
+
+abbrev but5 : List ℕ
+but5 = 0 ∷ 1 ∷ 2 ∷ 3 ∷ 4 ∷ 6 ∷ 7 ∷ 8 ∷ []
+
+abbrev but6 : List ℕ
+but6 = 0 ∷ 1 ∷ 2 ∷ 3 ∷ 4 ∷ 5 ∷ 7 ∷ 8 ∷ []
+
+abbrev but7 : List ℕ
+but7 = 0 ∷ 1 ∷ 2 ∷ 3 ∷ 4 ∷ 5 ∷ 6 ∷ 8 ∷ []
+
 module _ (part : (j : Sort) → Reader (Expr j)) where
-  pub not-arithmetic : (w : Word) → OneOf (1 ∷ 2 ∷ 3 ∷ 4 ∷ 5 ∷ 6 ∷ 7 ∷ 8 ∷ []) (tagOf the-type w) → arithmeticMeaning part w ≡ none
-  not-arithmetic (Arithmetic x) h = absurd (miss (1 ∷ 2 ∷ 3 ∷ 4 ∷ 5 ∷ 6 ∷ 7 ∷ 8 ∷ []) 0 tt h)
+  pub not-arithmetic : (w : Word) → OneOf but0 (tagOf the-type w) → arithmeticMeaning part w ≡ none
+  not-arithmetic (Arithmetic x) h = absurd (miss but0 0 tt h)
   not-arithmetic (Boolean x) h = refl
   not-arithmetic (Array x) h = refl
   not-arithmetic (Command x) h = refl
@@ -32,9 +57,9 @@ module _ (part : (j : Sort) → Reader (Expr j)) where
   not-arithmetic Other h = refl
 
 module _ (part : (j : Sort) → Reader (Expr j)) where
-  pub not-boolean : (w : Word) → OneOf (0 ∷ 2 ∷ 3 ∷ 4 ∷ 5 ∷ 6 ∷ 7 ∷ 8 ∷ []) (tagOf the-type w) → booleanMeaning part w ≡ none
+  pub not-boolean : (w : Word) → OneOf but1 (tagOf the-type w) → booleanMeaning part w ≡ none
   not-boolean (Arithmetic x) h = refl
-  not-boolean (Boolean x) h = absurd (miss (0 ∷ 2 ∷ 3 ∷ 4 ∷ 5 ∷ 6 ∷ 7 ∷ 8 ∷ []) 1 tt h)
+  not-boolean (Boolean x) h = absurd (miss but1 1 tt h)
   not-boolean (Array x) h = refl
   not-boolean (Command x) h = refl
   not-boolean (Set x) h = refl
@@ -44,10 +69,10 @@ module _ (part : (j : Sort) → Reader (Expr j)) where
   not-boolean Other h = refl
 
 module _ (part : (j : Sort) → Reader (Expr j)) where
-  pub not-array : (w : Word) → OneOf (0 ∷ 1 ∷ 3 ∷ 4 ∷ 5 ∷ 6 ∷ 7 ∷ 8 ∷ []) (tagOf the-type w) → arrayMeaning part w ≡ none
+  pub not-array : (w : Word) → OneOf but2 (tagOf the-type w) → arrayMeaning part w ≡ none
   not-array (Arithmetic x) h = refl
   not-array (Boolean x) h = refl
-  not-array (Array x) h = absurd (miss (0 ∷ 1 ∷ 3 ∷ 4 ∷ 5 ∷ 6 ∷ 7 ∷ 8 ∷ []) 2 tt h)
+  not-array (Array x) h = absurd (miss but2 2 tt h)
   not-array (Command x) h = refl
   not-array (Set x) h = refl
   not-array (Flow x) h = refl
@@ -56,11 +81,11 @@ module _ (part : (j : Sort) → Reader (Expr j)) where
   not-array Other h = refl
 
 module _ (part : (j : Sort) → Reader (Expr j)) (body : Reader syntax.Command) where
-  pub not-command : (w : Word) → OneOf (0 ∷ 1 ∷ 2 ∷ 4 ∷ 5 ∷ 6 ∷ 7 ∷ 8 ∷ []) (tagOf the-type w) → commandMeaning part body w ≡ none
+  pub not-command : (w : Word) → OneOf but3 (tagOf the-type w) → commandMeaning part body w ≡ none
   not-command (Arithmetic x) h = refl
   not-command (Boolean x) h = refl
   not-command (Array x) h = refl
-  not-command (Command x) h = absurd (miss (0 ∷ 1 ∷ 2 ∷ 4 ∷ 5 ∷ 6 ∷ 7 ∷ 8 ∷ []) 3 tt h)
+  not-command (Command x) h = absurd (miss but3 3 tt h)
   not-command (Set x) h = refl
   not-command (Flow x) h = refl
   not-command (Implication x) h = refl
@@ -68,12 +93,12 @@ module _ (part : (j : Sort) → Reader (Expr j)) (body : Reader syntax.Command) 
   not-command Other h = refl
 
 module _ (most : ℕ) (one : Reader Member) where
-  pub not-set : (w : Word) → OneOf (0 ∷ 1 ∷ 2 ∷ 3 ∷ 5 ∷ 6 ∷ 7 ∷ 8 ∷ []) (tagOf the-type w) → setMeaning most one w ≡ none
+  pub not-set : (w : Word) → OneOf but4 (tagOf the-type w) → setMeaning most one w ≡ none
   not-set (Arithmetic x) h = refl
   not-set (Boolean x) h = refl
   not-set (Array x) h = refl
   not-set (Command x) h = refl
-  not-set (Set x) h = absurd (miss (0 ∷ 1 ∷ 2 ∷ 3 ∷ 5 ∷ 6 ∷ 7 ∷ 8 ∷ []) 4 tt h)
+  not-set (Set x) h = absurd (miss but4 4 tt h)
   not-set (Flow x) h = refl
   not-set (Implication x) h = refl
   not-set (Precondition x) h = refl
@@ -81,31 +106,31 @@ module _ (most : ℕ) (one : Reader Member) where
 
 module _ (b : Reader (Expr syntax.Boolean)) (c : Reader syntax.Command) (m : Reader Members) (n : Reader PreEvidence)
     (s : Reader SetEvidence) (f : Reader FlowEvidence) (i : ℕ) where
-  pub not-flow : (w : Word) → OneOf (0 ∷ 1 ∷ 2 ∷ 3 ∷ 4 ∷ 6 ∷ 7 ∷ 8 ∷ []) (tagOf the-type w) → flowMeaning b c m n s f i w ≡ none
+  pub not-flow : (w : Word) → OneOf but5 (tagOf the-type w) → flowMeaning b c m n s f i w ≡ none
   not-flow (Arithmetic x) h = refl
   not-flow (Boolean x) h = refl
   not-flow (Array x) h = refl
   not-flow (Command x) h = refl
   not-flow (Set x) h = refl
-  not-flow (Flow x) h = absurd (miss (0 ∷ 1 ∷ 2 ∷ 3 ∷ 4 ∷ 6 ∷ 7 ∷ 8 ∷ []) 5 tt h)
+  not-flow (Flow x) h = absurd (miss but5 5 tt h)
   not-flow (Implication x) h = refl
   not-flow (Precondition x) h = refl
   not-flow Other h = refl
 
 module _ (m : Reader Members) (s : Reader SetEvidence) (i : ℕ) where
-  pub not-implication : (w : Word) → OneOf (0 ∷ 1 ∷ 2 ∷ 3 ∷ 4 ∷ 5 ∷ 7 ∷ 8 ∷ []) (tagOf the-type w) → implicationMeaning m s i w ≡ none
+  pub not-implication : (w : Word) → OneOf but6 (tagOf the-type w) → implicationMeaning m s i w ≡ none
   not-implication (Arithmetic x) h = refl
   not-implication (Boolean x) h = refl
   not-implication (Array x) h = refl
   not-implication (Command x) h = refl
   not-implication (Set x) h = refl
   not-implication (Flow x) h = refl
-  not-implication (Implication x) h = absurd (miss (0 ∷ 1 ∷ 2 ∷ 3 ∷ 4 ∷ 5 ∷ 7 ∷ 8 ∷ []) 6 tt h)
+  not-implication (Implication x) h = absurd (miss but6 6 tt h)
   not-implication (Precondition x) h = refl
   not-implication Other h = refl
 
 module _ (b : Reader (Expr syntax.Boolean)) (c : Reader syntax.Command) (n : Reader PreEvidence) (i : ℕ) where
-  pub not-pre : (w : Word) → OneOf (0 ∷ 1 ∷ 2 ∷ 3 ∷ 4 ∷ 5 ∷ 6 ∷ 8 ∷ []) (tagOf the-type w) → preMeaning b c n i w ≡ none
+  pub not-pre : (w : Word) → OneOf but7 (tagOf the-type w) → preMeaning b c n i w ≡ none
   not-pre (Arithmetic x) h = refl
   not-pre (Boolean x) h = refl
   not-pre (Array x) h = refl
@@ -113,5 +138,5 @@ module _ (b : Reader (Expr syntax.Boolean)) (c : Reader syntax.Command) (n : Rea
   not-pre (Set x) h = refl
   not-pre (Flow x) h = refl
   not-pre (Implication x) h = refl
-  not-pre (Precondition x) h = absurd (miss (0 ∷ 1 ∷ 2 ∷ 3 ∷ 4 ∷ 5 ∷ 6 ∷ 8 ∷ []) 7 tt h)
+  not-pre (Precondition x) h = absurd (miss but7 7 tt h)
   not-pre Other h = refl

@@ -1,8 +1,9 @@
 -- Sorts by kind, and members one after the other.
 -- Assumes nothing.
---     no-kind                                     past the end the kind is 0
---     several-walk                                the walk of a number of parts
---     members-all, members-next, members-stop, members-done    as the loop has them
+--     no-kind        past the end the kind is 0
+--     several-walk   the walk of a number of parts
+--     members-all, members-next, members-stop, members-done
+--                    as the loop has them
 use mathlib.Core.Path.{_≡_, refl, sym, _∙_, ap}
 use mathlib.Core.List.{List, _∷_}
 use Prim.Native.Nat.{ℕ, zero, suc, _+_, _-_, _/_, _<_, _≤_}
@@ -39,15 +40,17 @@ module _ {A : Type 0} (x : Reader A) where
   pub members-all : (n p : ℕ) → walkOf (several n x p) ≡ walkOf (several (n - 0) x p)
   members-all n p = let e : n - 0 ≡ n = omega arith in rw e
 
-  pub members-next : (n i p q : ℕ) (r : Walk) → i < n → r ≡ walkOf (x p) → r ≡ Next q →
+  pub members-next : (n i p : ℕ) {q : ℕ} {r : Walk} → i < n → r ≡ walkOf (x p) → r ≡ Next q →
       walkOf (several (n - i) x p) ≡ walkOf (several (n - (i + 1)) x q)
-  members-next n i p q r h e f =
-      rw (left n i h) (several-walk (n - (i + 1)) p ∙ sym (on q (walkOf (x p)) _ (λ y. walkOf (several (n - (i + 1)) x y)) (sym e ∙ f) refl))
+  members-next n i p h e f =
+      let k : ℕ → Walk = λ y. walkOf (several (n - (i + 1)) x y) in
+      rw (left n i h) (several-walk (n - (i + 1)) p ∙ sym (on k (sym e ∙ f) refl))
 
-  pub members-stop : (n i p k q : ℕ) (r : Walk) → i < n → r ≡ walkOf (x p) → r ≡ Refused k q →
+  pub members-stop : (n i p : ℕ) {k q : ℕ} {r : Walk} → i < n → r ≡ walkOf (x p) → r ≡ Refused k q →
       r ≡ walkOf (several (n - i) x p)
-  members-stop n i p k q r h e f =
-      rw (left n i h) (e ∙ off k q (walkOf (x p)) (λ y. walkOf (several (n - (i + 1)) x y)) (sym e ∙ f) ∙ sym (several-walk (n - (i + 1)) p))
+  members-stop n i p h e f =
+      let k : ℕ → Walk = λ y. walkOf (several (n - (i + 1)) x y) in
+      rw (left n i h) (e ∙ off k (sym e ∙ f) ∙ sym (several-walk (n - (i + 1)) p))
 
   pub members-done : (n i p : ℕ) → n ≤ i → walkOf (several (n - i) x p) ≡ Next p
   unfolding several

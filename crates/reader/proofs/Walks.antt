@@ -5,7 +5,8 @@
 --     onto, on, off, more, idle        a part after another, as a reader and as a walk; no part
 --     level-walk, due-walk             walks of `noLevel` and `wordDue`
 --     GoesBy                           a walk goes by the word that is due
---     expression-goes, command-goes, set-goes, pre-goes, implication-goes, flow-goes    so do those of the readers
+--     expression-goes, command-goes, set-goes, pre-goes, implication-goes, flow-goes
+--                                      so do those of the readers
 --     stop, arm, none-arm              as the code has them: a refusal, a word that is allowed, a word that is not
 use mathlib.Core.Path.{_≡_, refl, sym, _∙_, ap}
 use mathlib.Core.Bool.{Bool, true, false, cond}
@@ -16,18 +17,20 @@ use native.Mathlib.Omega.{arith}
 use native.Mathlib.Numerals.{sub-one}
 use borrow.Author.Tests.{ltb-true, lt-ltb, le-ltb}
 use lib.Dec.{ltb}
-use Rattle.language.specs.Syntax.{Sort, Boolean, Expr, Command}
+use Rattle.language.specs.Syntax.{Sort, Arithmetic, Boolean, Array, Expr, Command}
 use Rattle.rules.specs.Assertion.{Members}
 use Rattle.rules.specs.Context.{Limits}
 use Rattle.rules.specs.Evidence.{PreEvidence, SetEvidence, FlowEvidence}
-use Rattle.layout.specs.Bytes.{wordCount, numberAt, kindAt, payloadAt}
-use Rattle.layout.specs.Reading.{Reading, read, fault, Reader, onRead, leaf, _⊛_, noLevel, allowed, wordDue}
-use Rattle.layout.specs.Read.{expression, command, memberAt, set}
+use Rattle.layout.specs.Bytes.{wordCount, kindAt, payloadAt}
+use Rattle.layout.specs.Reading.{Reading, read, fault, Reader, onRead, _⊛_, noLevel, allowed, wordDue}
+use Rattle.layout.specs.Read.{expressionWord, expression, command, memberAt, set}
 use Rattle.layout.specs.ReadEvidence.{preEvidence, setEvidence, flowEvidence}
-use Rattle.words.specs.Decode.{decodeOf}
-use Rattle.words.specs.Meaning.{expressionMeaning, commandMeaning, setMeaning, preMeaning, implicationMeaning, flowMeaning}
+use Rattle.words.specs.Decode.{arithmeticOf, booleanOf, arrayOf, commandOf, evidenceOf}
+use Rattle.words.specs.Meaning.{expressionMeaning, commandMeaning, setMeaning, preMeaning, implicationMeaning}
+use Rattle.words.specs.Meaning.{flowMeaning}
 use Rattle.words.specs.declared.Word.{Word}
-use Rattle.words.proofs.Tables.{expression-word, command-word, set-word, pre-word, implication-word, flow-word}
+use Rattle.words.proofs.Tables.{arithmetic-of, boolean-of, array-of, command-of, set-of, pre-of, implication-of}
+use Rattle.words.proofs.Tables.{flow-of}
 use Rattle.reader.specs.Walk.{walkOf, onward, dueOf, onDue, after}
 use Rattle.reader.specs.declared.Walk.{Walk}
 use Rattle.reader.specs.declared.Walk.the-variants.{Next, Refused}
@@ -46,31 +49,31 @@ module _ (file : List ℕ) where
   due-deep d at h e = rw e (simp (lt-ltb at (wordCount file) h))
 
   pub due-there : (d at : ℕ) → at < wordCount file → (d ≡ 0 → ⊥) →
-      dueOf file d at ≡ There (decodeOf (numberAt file at)) (at + 1) (d - 1)
+      dueOf file d at ≡ There (kindAt file at) (payloadAt file at) (at + 1) (d - 1)
   unfolding dueOf
   due-there zero at h f = absurd (f refl)
   due-there (suc d) at h f = simp (lt-ltb at (wordCount file) h, sub-one)
 
-  due-room : (d at : ℕ) (w : Word) (q b : ℕ) → dueOf file d at ≡ There w q b →
+  due-room : (d at k p q b : ℕ) → dueOf file d at ≡ There k p q b →
       (at < wordCount file) × (q ≡ at + 1) × (d ≡ suc b)
   unfolding dueOf
-  due-room zero at w q b e = go (ltb at (wordCount file)) e
+  due-room zero at k p q b e = go (ltb at (wordCount file)) e
     where
-      go : (t : Bool) → cond t (Stop 4 at) (Stop 3 (wordCount file)) ≡ There w q b →
+      go : (t : Bool) → cond t (Stop 4 at) (Stop 3 (wordCount file)) ≡ There k p q b →
           (at < wordCount file) × (q ≡ at + 1) × (0 ≡ suc b)
       go true e = let z : _≡_ {A = ℕ} 0 1 = cc in absurd (omega arith)
       go false e = let z : _≡_ {A = ℕ} 0 1 = cc in absurd (omega arith)
-  due-room (suc d) at w q b e = go (ltb at (wordCount file)) refl e
+  due-room (suc d) at k p q b e = go (ltb at (wordCount file)) refl e
     where
       go : (t : Bool) → ltb at (wordCount file) ≡ t →
-          cond t (There (decodeOf (numberAt file at)) (at + 1) d) (Stop 3 (wordCount file)) ≡ There w q b →
+          cond t (There (kindAt file at) (payloadAt file at) (at + 1) d) (Stop 3 (wordCount file)) ≡ There k p q b →
           (at < wordCount file) × (q ≡ at + 1) × (suc d ≡ suc b)
       go true t e = (ltb-true _ _ t, (cc), (cc))
       go false t e = let z : _≡_ {A = ℕ} 0 1 = cc in absurd (omega arith)
 
-pub room : (file : List ℕ) (d at : ℕ) (r : Due) (w : Word) (q b : ℕ) → r ≡ dueOf file d at → r ≡ There w q b →
+pub room : (file : List ℕ) (d at : ℕ) {r : Due} {k p q b : ℕ} → r ≡ dueOf file d at → r ≡ There k p q b →
     (at < wordCount file) × (q ≡ at + 1) × (d ≡ suc b)
-room file d at r w q b e f = due-room file d at w q b (sym e ∙ f)
+room file d at {k} {p} {q} {b} e f = due-room file d at k p q b (sym e ∙ f)
 
 -- ---- parts one after the other
 then-walk : {A B : Type 0} (x : Reading (A → B)) (y : Reader A) →
@@ -82,19 +85,19 @@ then-walk {A} (read f p) y = go (y p)
     go (fault n q) = refl
 then-walk (fault n p) y = refl
 
-pub onto : {A B : Type 0} (x : Reader (A → B)) (y : Reader A) (q : ℕ) (r s : Walk) →
+pub onto : {A B : Type 0} (x : Reader (A → B)) (y : Reader A) (q : ℕ) {r s : Walk} →
     r ≡ onward s (λ p. walkOf (y p)) → s ≡ walkOf (x q) → r ≡ walkOf ((x ⊛ y) q)
 unfolding _⊛_
-onto x y q r s e h = e ∙ ap (λ (z : Walk). onward z (λ p. walkOf (y p))) h ∙ sym (then-walk (x q) y)
+onto x y q e h = e ∙ ap (λ (z : Walk). onward z (λ p. walkOf (y p))) h ∙ sym (then-walk (x q) y)
 
-pub on : (p : ℕ) (r x : Walk) (k : ℕ → Walk) → r ≡ Next p → x ≡ k p → x ≡ onward r k
-on p r x k e h = h ∙ ap (λ (z : Walk). onward z k) (sym e)
+pub on : {p : ℕ} {r x : Walk} (k : ℕ → Walk) → r ≡ Next p → x ≡ k p → x ≡ onward r k
+on k e h = h ∙ ap (λ (z : Walk). onward z k) (sym e)
 
-pub off : (n p : ℕ) (r : Walk) (k : ℕ → Walk) → r ≡ Refused n p → r ≡ onward r k
-off n p r k e = e ∙ ap (λ (z : Walk). onward z k) (sym e)
+pub off : {n p : ℕ} {r : Walk} (k : ℕ → Walk) → r ≡ Refused n p → r ≡ onward r k
+off k e = e ∙ ap (λ (z : Walk). onward z k) (sym e)
 
-pub more : (r s t : Walk) (k : ℕ → Walk) → r ≡ onward s k → s ≡ t → r ≡ onward t k
-more r s t k e h = e ∙ ap (λ (z : Walk). onward z k) h
+pub more : {r s t : Walk} (k : ℕ → Walk) → r ≡ onward s k → s ≡ t → r ≡ onward t k
+more k e h = e ∙ ap (λ (z : Walk). onward z k) h
 
 pub idle : (w : Walk) → onward w (λ p. Next p) ≡ w
 idle (Next p) = refl
@@ -105,121 +108,145 @@ allowed-after : {A : Type 0} (o : Option (Reader A)) (at : ℕ) → allowed o at
 allowed-after none at = refl
 allowed-after (some r) at = refl
 
-pub level-walk : (A : Type 0) (file : List ℕ) (at : ℕ) (f : Word → ℕ → ℕ → Walk) →
+pub level-walk : (A : Type 0) (file : List ℕ) (at : ℕ) (f : ℕ → ℕ → ℕ → ℕ → Walk) →
     walkOf (noLevel {A = A} file at) ≡ onDue (dueOf file zero at) f
 unfolding dueOf
 level-walk A file at f = go (ltb at (wordCount file))
   where
-    go : (t : Bool) → walkOf {A = A} (cond t (fault 4 at) (fault 3 (wordCount file)))
+    go : (t : Bool) →
+        walkOf {A = A} (cond t (fault 4 at) (fault 3 (wordCount file)))
         ≡ onDue (cond t (Stop 4 at) (Stop 3 (wordCount file))) f
     go true = refl
     go false = refl
 
 pub due-walk :
-    {A : Type 0} (file : List ℕ) (d at : ℕ) (step : ℕ → ℕ → ℕ → Option (Reader A)) (meaning : ℕ → Word → Option (Reader A)) →
-    step at (kindAt file at) (payloadAt file at) ≡ meaning d (decodeOf (numberAt file at)) →
-    walkOf (wordDue file step at) ≡ onDue (dueOf file (suc d) at) (λ w q b. walkOf (after (meaning b w) at q))
+    {A : Type 0} (file : List ℕ) (d at : ℕ) (step : ℕ → ℕ → ℕ → Option (Reader A)) (of : ℕ → ℕ → Word)
+    (meaning : ℕ → Word → Option (Reader A)) →
+    step at (kindAt file at) (payloadAt file at) ≡ meaning d (of (kindAt file at) (payloadAt file at)) →
+    walkOf (wordDue file step at)
+    ≡ onDue (dueOf file (suc d) at) (λ k p q b. walkOf (after (meaning b (of k p)) at q))
 unfolding wordDue dueOf
-due-walk {A} file d at step meaning e = go (ltb at (wordCount file))
+due-walk {A} file d at step of meaning e = go (ltb at (wordCount file))
   where
     go : (t : Bool) →
         walkOf {A = A} (elim t [
           | true ↦ allowed (step at (kindAt file at) (payloadAt file at)) at
           | false ↦ fault 3 (wordCount file)
         ])
-        ≡ onDue (cond t (There (decodeOf (numberAt file at)) (at + 1) d) (Stop 3 (wordCount file)))
-        (λ w q b. walkOf (after (meaning b w) at q))
+        ≡ onDue (cond t (There (kindAt file at) (payloadAt file at) (at + 1) d) (Stop 3 (wordCount file)))
+        (λ k p q b. walkOf (after (meaning b (of k p)) at q))
     go true =
         ap walkOf (allowed-after (step at (kindAt file at) (payloadAt file at)) at)
         ∙ ap (λ (o : Option (Reader A)). walkOf (after o at (at + 1))) e
     go false = refl
 
--- `walk` goes by the word that is due: a table gives the parts that follow it
-pub record GoesBy {A : Type 0} (walk : Walk) (file : List ℕ) (d at : ℕ) (meaning : ℕ → Word → Option (Reader A)) : Type 0 where
-  pub goes : walk ≡ onDue (dueOf file d at) (λ w q b. walkOf (after (meaning b w) at q))
+-- `walk` goes by the word that is due: what it decodes to gives the parts that follow it
+pub record GoesBy
+    {A : Type 0} (walk : Walk) (file : List ℕ) (d at : ℕ) (of : ℕ → ℕ → Word) (meaning : ℕ → Word → Option (Reader A))
+    : Type 0 where
+  pub goes : walk ≡ onDue (dueOf file d at) (λ k p q b. walkOf (after (meaning b (of k p)) at q))
 
-pub expression-goes : (file : List ℕ) (d : ℕ) (j : Sort) (at : ℕ) →
-    GoesBy (walkOf (expression file d j at)) file d at (λ b w. expressionMeaning (expression file b) j w)
-unfolding expression
-expression-goes file zero j at = record { goes = level-walk (Expr j) file at _ }
-expression-goes file (suc d) j at = record {
-  goes =
-      due-walk file d at _ (λ b w. expressionMeaning (expression file b) j w)
-      (expression-word (numberAt file at) (expression file d) j);
-}
+-- the group of words of a sort
+abbrev pub expressionOf : Sort → ℕ → ℕ → Word
+expressionOf Arithmetic k p = arithmeticOf k p
+expressionOf Boolean k p = booleanOf k p
+expressionOf Array k p = arrayOf k p
 
-pub command-goes : (file : List ℕ) (d at : ℕ) →
-    GoesBy (walkOf (command file d at)) file d at (λ b w. commandMeaning (expression file b) (command file b) w)
-unfolding command
-command-goes file zero at = record { goes = level-walk Command file at _ }
-command-goes file (suc d) at = record {
-  goes =
-      due-walk file d at _ (λ b w. commandMeaning (expression file b) (command file b) w)
-      (command-word (numberAt file at) (expression file d) (command file d));
-}
+expression-of : (part : (j : Sort) → Reader (Expr j)) (j : Sort) (k p : ℕ) →
+    expressionWord part j k p ≡ expressionMeaning part j (expressionOf j k p)
+expression-of part Arithmetic k p = arithmetic-of part k p
+expression-of part Boolean k p = boolean-of part k p
+expression-of part Array k p = array-of part k p
 
-pub set-goes : (limits : Limits) (file : List ℕ) (d at : ℕ) →
-    GoesBy (walkOf (set limits file d at)) file d at (λ b w. setMeaning (limits .members) (memberAt file b) w)
-unfolding set
-set-goes limits file zero at = record { goes = level-walk Members file at _ }
-set-goes limits file (suc d) at = record {
-  goes =
-      due-walk file d at _ (λ b w. setMeaning (limits .members) (memberAt file b) w)
-      (set-word (numberAt file at) (limits .members) (memberAt file d));
-}
+module _ (file : List ℕ) where
+  pub expression-goes : (d : ℕ) (j : Sort) (at : ℕ) →
+      GoesBy (walkOf (expression file d j at)) file d at (expressionOf j)
+      (λ b w. expressionMeaning (expression file b) j w)
+  unfolding expression
+  expression-goes zero j at = record { goes = level-walk (Expr j) file at _ }
+  expression-goes (suc d) j at = record {
+    goes =
+        due-walk file d at _ (expressionOf j) (λ b w. expressionMeaning (expression file b) j w)
+        (expression-of (expression file d) j (kindAt file at) (payloadAt file at));
+  }
 
-pub pre-goes : (file : List ℕ) (d at : ℕ) →
-    GoesBy (walkOf (preEvidence file d at)) file d at
-    (λ b w. preMeaning (expression file b Boolean) (command file b) (preEvidence file b) at w)
-unfolding preEvidence
-pre-goes file zero at = record { goes = level-walk PreEvidence file at _ }
-pre-goes file (suc d) at = record {
-  goes =
-      due-walk file d at _
+  pub command-goes : (d at : ℕ) →
+      GoesBy (walkOf (command file d at)) file d at commandOf
+      (λ b w. commandMeaning (expression file b) (command file b) w)
+  unfolding command
+  command-goes zero at = record { goes = level-walk Command file at _ }
+  command-goes (suc d) at = record {
+    goes =
+        due-walk file d at _ commandOf (λ b w. commandMeaning (expression file b) (command file b) w)
+        (command-of (expression file d) (kindAt file at) (payloadAt file at) (command file d));
+  }
+
+  pub pre-goes : (d at : ℕ) →
+      GoesBy (walkOf (preEvidence file d at)) file d at evidenceOf
       (λ b w. preMeaning (expression file b Boolean) (command file b) (preEvidence file b) at w)
-      (pre-word (numberAt file at) (expression file d Boolean) (command file d) (preEvidence file d) at);
-}
+  unfolding preEvidence
+  pre-goes zero at = record { goes = level-walk PreEvidence file at _ }
+  pre-goes (suc d) at = record {
+    goes =
+        due-walk file d at _ evidenceOf
+        (λ b w. preMeaning (expression file b Boolean) (command file b) (preEvidence file b) at w)
+        (pre-of (expression file d Boolean) (command file d) (preEvidence file d) at (kindAt file at)
+        (payloadAt file at));
+  }
 
-pub implication-goes : (limits : Limits) (file : List ℕ) (d at : ℕ) →
-    GoesBy (walkOf (setEvidence limits file d at)) file d at
-    (λ b w. implicationMeaning (set limits file b) (setEvidence limits file b) at w)
-unfolding setEvidence
-implication-goes limits file zero at = record { goes = level-walk SetEvidence file at _ }
-implication-goes limits file (suc d) at = record {
-  goes =
-      due-walk file d at _ (λ b w. implicationMeaning (set limits file b) (setEvidence limits file b) at w)
-      (implication-word (numberAt file at) (set limits file d) (setEvidence limits file d) at);
-}
+  module _ (limits : Limits) where
+    pub set-goes : (d at : ℕ) →
+        GoesBy (walkOf (set limits file d at)) file d at evidenceOf
+        (λ b w. setMeaning (limits .members) (memberAt file b) w)
+    unfolding set
+    set-goes zero at = record { goes = level-walk Members file at _ }
+    set-goes (suc d) at = record {
+      goes =
+          due-walk file d at _ evidenceOf (λ b w. setMeaning (limits .members) (memberAt file b) w)
+          (set-of (limits .members) (memberAt file d) (kindAt file at) (payloadAt file at));
+    }
 
-pub flow-goes : (limits : Limits) (file : List ℕ) (d at : ℕ) →
-    GoesBy (walkOf (flowEvidence limits file d at)) file d at
-    (λ b w. flowMeaning (expression file b Boolean) (command file b) (set limits file b) (preEvidence file b)
-    (setEvidence limits file b) (flowEvidence limits file b) at w)
-unfolding flowEvidence
-flow-goes limits file zero at = record { goes = level-walk FlowEvidence file at _ }
-flow-goes limits file (suc d) at = record {
-  goes =
-      due-walk file d at _
-      (λ b w. flowMeaning (expression file b Boolean) (command file b) (set limits file b) (preEvidence file b)
-      (setEvidence limits file b) (flowEvidence limits file b) at w)
-      (flow-word (numberAt file at) (expression file d Boolean) (command file d) (set limits file d) (preEvidence file d)
-      (setEvidence limits file d) (flowEvidence limits file d) at);
-}
+    pub implication-goes : (d at : ℕ) →
+        GoesBy (walkOf (setEvidence limits file d at)) file d at evidenceOf
+        (λ b w. implicationMeaning (set limits file b) (setEvidence limits file b) at w)
+    unfolding setEvidence
+    implication-goes zero at = record { goes = level-walk SetEvidence file at _ }
+    implication-goes (suc d) at = record {
+      goes =
+          due-walk file d at _ evidenceOf
+          (λ b w. implicationMeaning (set limits file b) (setEvidence limits file b) at w)
+          (implication-of (set limits file d) (setEvidence limits file d) at (kindAt file at) (payloadAt file at));
+    }
 
--- ---- as the code has them: r is what `word_due` returned
+    pub flow-goes : (d at : ℕ) →
+        GoesBy (walkOf (flowEvidence limits file d at)) file d at evidenceOf
+        (λ b w. flowMeaning (expression file b Boolean) (command file b) (set limits file b) (preEvidence file b)
+        (setEvidence limits file b) (flowEvidence limits file b) at w)
+    unfolding flowEvidence
+    flow-goes zero at = record { goes = level-walk FlowEvidence file at _ }
+    flow-goes (suc d) at = record {
+      goes =
+          due-walk file d at _ evidenceOf
+          (λ b w. flowMeaning (expression file b Boolean) (command file b) (set limits file b) (preEvidence file b)
+          (setEvidence limits file b) (flowEvidence limits file b) at w)
+          (flow-of (expression file d Boolean) (command file d) (set limits file d) (preEvidence file d)
+          (setEvidence limits file d) (flowEvidence limits file d) at (kindAt file at) (payloadAt file at));
+    }
+
+-- ---- as the code has them: r is what `word_due` returned, v the decoded word
 module _
-    {A : Type 0} {walk : Walk} {file : List ℕ} {d at : ℕ} {meaning : ℕ → Word → Option (Reader A)}
-    (law : GoesBy walk file d at meaning) (r : Due) (due : r ≡ dueOf file d at)
+    {A : Type 0} {walk : Walk} {file : List ℕ} {d at : ℕ} {of : ℕ → ℕ → Word} {meaning : ℕ → Word → Option (Reader A)}
+    (law : GoesBy walk file d at of meaning) {r : Due} (due : r ≡ dueOf file d at)
   where
-    pub stop : (n p : ℕ) → r ≡ Stop n p → Refused n p ≡ walk
-    stop n p e =
-        ap (λ (y : Due). onDue y (λ w q b. walkOf (after (meaning b w) at q))) (sym e ∙ due) ∙ sym (law .goes)
+    pub stop : {n p : ℕ} → r ≡ Stop n p → Refused n p ≡ walk
+    stop e =
+        ap (λ (y : Due). onDue y (λ k p q b. walkOf (after (meaning b (of k p)) at q))) (sym e ∙ due) ∙ sym (law .goes)
 
-    pub arm : (w v : Word) (q b : ℕ) (x : Walk) → r ≡ There w q b → w ≡ v → x ≡ walkOf (after (meaning b v) at q) → x ≡ walk
-    arm w v q b x e g h =
-        h ∙ ap (λ (y : Word). walkOf (after (meaning b y) at q)) (sym g)
-        ∙ ap (λ (y : Due). onDue y (λ w q b. walkOf (after (meaning b w) at q))) (sym e ∙ due) ∙ sym (law .goes)
+    pub arm : {k p q b : ℕ} {v u : Word} {x : Walk} → r ≡ There k p q b → v ≡ of k p → v ≡ u →
+        x ≡ walkOf (after (meaning b u) at q) → x ≡ walk
+    arm {q} {b} e word g h =
+        h ∙ ap (λ (y : Word). walkOf (after (meaning b y) at q)) (sym g ∙ word)
+        ∙ ap (λ (y : Due). onDue y (λ k p q b. walkOf (after (meaning b (of k p)) at q))) (sym e ∙ due) ∙ sym (law .goes)
 
-    pub none-arm : (w : Word) (q b : ℕ) → r ≡ There w q b → meaning b w ≡ none → Refused 5 at ≡ walk
-    none-arm w q b e g =
-        arm w w q b (Refused 5 at) e refl (ap (λ (o : Option (Reader A)). walkOf (after o at q)) (sym g))
+    pub none-arm : {k p q b : ℕ} {v : Word} → r ≡ There k p q b → v ≡ of k p → meaning b v ≡ none → Refused 5 at ≡ walk
+    none-arm {q} e word g = arm e word refl (ap (λ (o : Option (Reader A)). walkOf (after o at q)) (sym g))

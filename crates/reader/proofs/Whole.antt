@@ -62,7 +62,8 @@ module _ (limits : Limits) (w : List ℕ) where
   pre-places c a = go (set limits w (limits .depth) a)
     where
       go : (z : Reading Members) →
-          placesOf (next (next (next (next (onRead z λ m q. read (made c a m) q) here) (set limits w (limits .depth))) here)
+          placesOf (next (next (next (next (onRead z λ m q. read (made c a m) q) here)
+          (set limits w (limits .depth))) here)
           (flowEvidence limits w (limits .depth)))
           ≡ byWalk (walkOf z) λ b. fromPost limits w a b
       go (read m b) = post-places c a m b
@@ -81,11 +82,11 @@ module _ (limits : Limits) (w : List ℕ) where
       go (fault k q) = refl
 
 -- a walk that goes on, and one that is refused
-pub by-next : (p : ℕ) (r v : Walk) (x : Layout) (f : ℕ → Layout) → r ≡ v → r ≡ Next p → x ≡ f p → x ≡ byWalk v f
-by-next p r v x f e g h = h ∙ ap (λ (z : Walk). byWalk z f) (sym g ∙ e)
+pub by-next : {p : ℕ} {r v : Walk} {x : Layout} (f : ℕ → Layout) → r ≡ v → r ≡ Next p → x ≡ f p → x ≡ byWalk v f
+by-next f e g h = h ∙ ap (λ (z : Walk). byWalk z f) (sym g ∙ e)
 
-pub by-refused : (n p : ℕ) (r v : Walk) (f : ℕ → Layout) → r ≡ v → r ≡ Walk.Refused n p → Refused n p ≡ byWalk v f
-by-refused n p r v f e g = ap (λ (z : Walk). byWalk z f) (sym g ∙ e)
+pub by-refused : {n p : ℕ} {r v : Walk} (f : ℕ → Layout) → r ≡ v → r ≡ Walk.Refused n p → Refused n p ≡ byWalk v f
+by-refused f e g = ap (λ (z : Walk). byWalk z f) (sym g ∙ e)
 
 -- ---- refusals 2 and 6
 pub empty-head : (w : List ℕ) → length w ≡ 0 → false ≡ headed w

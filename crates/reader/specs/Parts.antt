@@ -1,6 +1,5 @@
 -- The parts of evidence, by rule: what it carries, then its children (document 01, "Rules").
 -- Working: proofs/Evidence.antt ties the tables to the layout's.
---     six, three                               the parts of a word; those that it lacks come last
 --     preTable, implicationTable, flowTable    by rule
 --     partWalk, partsWalk                      the walk of a part, of all parts one after the other
 use mathlib.Core.List.{List}
@@ -21,52 +20,48 @@ use Rattle.reader.specs.Walk.{walkOf, onward}
 use Rattle.reader.specs.declared.Walk.{Walk}
 use Rattle.reader.specs.declared.Walk.the-variants.{Next, Refused}
 use Rattle.reader.specs.declared.Part.{Part}
-use Rattle.reader.specs.declared.Part.the-variants.{Nothing, Boolean, Command, Set, Precondition, Implication, Flow}
+use Rattle.reader.specs.declared.Part.the-variants.{Nothing, Boolean, Command, Set, Precondition, Implication}
+use Rattle.reader.specs.declared.Part.the-variants.{Flow}
 use Rattle.reader.specs.declared.Parts.{Parts}
-
-abbrev pub six : Part → Part → Part → Part → Part → Part → Parts
-six a b c d e f = record { first = a; second = b; third = c; fourth = d; fifth = e; sixth = f }
-
-abbrev pub three : Part → Part → Part → Parts
-three a b c = six a b c Nothing Nothing Nothing
+use Rattle.reader.specs.declared.Parts.the-variants.{None, Three, Six}
 
 abbrev pub preTable : PreRule → Parts
-preTable Pre20 = six Boolean Boolean Precondition Precondition Nothing Nothing
-preTable Pre21 = three Boolean Precondition Nothing
-preTable Pre22 = three Nothing Nothing Nothing
-preTable Pre23 = three Boolean Precondition Precondition
-preTable Pre24 = three Nothing Nothing Nothing
-preTable Pre25 = three Nothing Nothing Nothing
-preTable Pre26 = three Nothing Nothing Nothing
-preTable Pre27 = three Nothing Nothing Nothing
-preTable Pre28 = three Boolean Precondition Nothing
-preTable Pre29 = three Nothing Nothing Nothing
-preTable Pre30 = three Command Precondition Nothing
+preTable Pre20 = Six Boolean Boolean Precondition Precondition Nothing Nothing
+preTable Pre21 = Three Boolean Precondition Nothing
+preTable Pre22 = None
+preTable Pre23 = Three Boolean Precondition Precondition
+preTable Pre24 = None
+preTable Pre25 = None
+preTable Pre26 = None
+preTable Pre27 = None
+preTable Pre28 = Three Boolean Precondition Nothing
+preTable Pre29 = None
+preTable Pre30 = Three Command Precondition Nothing
 
 abbrev pub implicationTable : SetRule → Parts
-implicationTable Set13 = three Nothing Nothing Nothing
-implicationTable Set14 = three Nothing Nothing Nothing
-implicationTable Set15 = three Nothing Nothing Nothing
-implicationTable Set16 = six Set Set Set Set Implication Implication
-implicationTable Set17 = six Set Set Set Implication Implication Nothing
-implicationTable Set18 = three Nothing Nothing Nothing
-implicationTable Set19 = three Nothing Nothing Nothing
+implicationTable Set13 = None
+implicationTable Set14 = None
+implicationTable Set15 = None
+implicationTable Set16 = Six Set Set Set Set Implication Implication
+implicationTable Set17 = Six Set Set Set Implication Implication Nothing
+implicationTable Set18 = None
+implicationTable Set19 = None
 
 abbrev pub flowTable : FlowRule → Parts
-flowTable Flow1 = three Nothing Nothing Nothing
-flowTable Flow2 = three Set Flow Flow
-flowTable Flow3 = three Nothing Nothing Nothing
-flowTable Flow4 = three Nothing Nothing Nothing
-flowTable Flow5 = three Nothing Nothing Nothing
-flowTable Flow6 = six Set Set Boolean Flow Flow Precondition
-flowTable Flow7 = three Set Implication Flow
-flowTable Flow8 = three Set Flow Implication
-flowTable Flow9 = six Set Set Set Set Flow Flow
-flowTable Flow10 = three Nothing Nothing Nothing
-flowTable Flow11 = three Precondition Nothing Nothing
-flowTable Flow12 = six Set Set Boolean Boolean Flow Precondition
-flowTable Flow13 = three Flow Nothing Nothing
-flowTable Flow14 = three Command Flow Nothing
+flowTable Flow1 = None
+flowTable Flow2 = Three Set Flow Flow
+flowTable Flow3 = None
+flowTable Flow4 = None
+flowTable Flow5 = None
+flowTable Flow6 = Six Set Set Boolean Flow Flow Precondition
+flowTable Flow7 = Three Set Implication Flow
+flowTable Flow8 = Three Set Flow Implication
+flowTable Flow9 = Six Set Set Set Set Flow Flow
+flowTable Flow10 = None
+flowTable Flow11 = Three Precondition Nothing Nothing
+flowTable Flow12 = Six Set Set Boolean Boolean Flow Precondition
+flowTable Flow13 = Three Flow Nothing Nothing
+flowTable Flow14 = Three Command Flow Nothing
 
 abbrev pub partWalk : Limits → List ℕ → ℕ → Part → ℕ → Walk
 partWalk limits file d Nothing p = Next p
@@ -78,7 +73,9 @@ partWalk limits file d Implication p = walkOf (setEvidence limits file d p)
 partWalk limits file d Flow p = walkOf (flowEvidence limits file d p)
 
 abbrev pub partsWalk : Limits → List ℕ → ℕ → Parts → ℕ → Walk
-partsWalk limits file d ps at =
+partsWalk limits file d None at = Next at
+partsWalk limits file d (Three a b c) at =
+    let go = partWalk limits file d in onward (onward (onward (Next at) (go a)) (go b)) (go c)
+partsWalk limits file d (Six a b c e f g) at =
     let go = partWalk limits file d in
-    onward (onward (onward (onward (onward (onward (Next at) (go (ps .first))) (go (ps .second))) (go (ps .third)))
-    (go (ps .fourth))) (go (ps .fifth))) (go (ps .sixth))
+    onward (onward (onward (onward (onward (onward (Next at) (go a)) (go b)) (go c)) (go e)) (go f)) (go g)

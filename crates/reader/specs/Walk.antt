@@ -11,10 +11,8 @@ use Prim.Native.Nat.{ℕ, zero, suc, _+_}
 use lib.Dec.{ltb}
 use Rattle.language.specs.Syntax as syntax
 use Rattle.rules.specs.Context as context
-use Rattle.layout.specs.Bytes.{wordCount, numberAt}
+use Rattle.layout.specs.Bytes.{wordCount, kindAt, payloadAt}
 use Rattle.layout.specs.Reading.{Reading, read, fault, Reader}
-use Rattle.words.specs.Decode.{decodeOf}
-use Rattle.words.specs.declared.Word.{Word}
 use Rattle.reader.specs.declared.Walk.{Walk}
 use Rattle.reader.specs.declared.Walk.the-variants.{Next, Refused}
 use Rattle.reader.specs.declared.Due.{Due}
@@ -42,10 +40,10 @@ onward (Refused n p) f = Refused n p
 unfoldable pub dueOf : List ℕ → ℕ → ℕ → Due
 dueOf file zero at = cond (ltb at (wordCount file)) (Stop 4 at) (Stop 3 (wordCount file))
 dueOf file (suc d) at =
-    cond (ltb at (wordCount file)) (There (decodeOf (numberAt file at)) (at + 1) d) (Stop 3 (wordCount file))
+    cond (ltb at (wordCount file)) (There (kindAt file at) (payloadAt file at) (at + 1) d) (Stop 3 (wordCount file))
 
-abbrev pub onDue : Due → (Word → ℕ → ℕ → Walk) → Walk
-onDue (There w q d) f = f w q d
+abbrev pub onDue : Due → (ℕ → ℕ → ℕ → ℕ → Walk) → Walk
+onDue (There k p q d) f = f k p q d
 onDue (Stop n p) f = Refused n p
 
 -- the word stands at `at`, its parts from q on

@@ -12,6 +12,7 @@ use super::table::implication_parts;
 use super::table::pre_parts;
 use super::word::word_due;
 use words::Word;
+use words::decode::evidence_word;
 ghost use mathlib.Core.Path.{_≡_};
 ghost use Rattle.layout.specs.ReadEvidence.{preEvidence, setEvidence, flowEvidence};
 ghost use Rattle.reader.specs.Walk.{walkOf, onward, limitsOf};
@@ -23,10 +24,13 @@ pub fn read_pre(w: &[u32], limits: Limits, at: usize, left: usize) -> Walk
     let d = word_due(w, at, left);
     match d {
         Due::Stop(n, p) => Walk::Refused(n, p),
-        Due::There(word, next, below) => match word {
-            Word::Precondition(rule) => read_parts(pre_parts(rule), w, limits, next, below),
-            _ => Walk::Refused(5, at),
-        },
+        Due::There(kind, payload, next, below) => {
+            let word = evidence_word(kind, payload);
+            match word {
+                Word::Precondition(rule) => read_parts(pre_parts(rule), w, limits, next, below),
+                _ => Walk::Refused(5, at),
+            }
+        }
     }
 }
 
@@ -36,10 +40,19 @@ pub fn read_set_evidence(w: &[u32], limits: Limits, at: usize, left: usize) -> W
     let d = word_due(w, at, left);
     match d {
         Due::Stop(n, p) => Walk::Refused(n, p),
-        Due::There(word, next, below) => match word {
-            Word::Implication(rule) => read_parts(implication_parts(rule), w, limits, next, below),
-            _ => Walk::Refused(5, at),
-        },
+        Due::There(kind, payload, next, below) => {
+            let word = evidence_word(kind, payload);
+            match word {
+                Word::Implication(rule) => read_parts(
+                    implication_parts(rule),
+                    w,
+                    limits,
+                    next,
+                    below,
+                ),
+                _ => Walk::Refused(5, at),
+            }
+        }
     }
 }
 
@@ -49,10 +62,13 @@ pub fn read_flow(w: &[u32], limits: Limits, at: usize, left: usize) -> Walk
     let d = word_due(w, at, left);
     match d {
         Due::Stop(n, p) => Walk::Refused(n, p),
-        Due::There(word, next, below) => match word {
-            Word::Flow(rule) => read_parts(flow_parts(rule), w, limits, next, below),
-            _ => Walk::Refused(5, at),
-        },
+        Due::There(kind, payload, next, below) => {
+            let word = evidence_word(kind, payload);
+            match word {
+                Word::Flow(rule) => read_parts(flow_parts(rule), w, limits, next, below),
+                _ => Walk::Refused(5, at),
+            }
+        }
     }
 }
 
@@ -60,18 +76,22 @@ pub fn read_flow(w: &[u32], limits: Limits, at: usize, left: usize) -> Walk
 fn read_parts(parts: Parts, w: &[u32], limits: Limits, at: usize, left: usize) -> Walk
     ensures { λ r. ⌜ r ≡ partsWalk (limitsOf limits) (now (w .entry)) left parts at ⌝ }
 {
-    let a = parts.first;
-    let b = parts.second;
-    let c = parts.third;
-    let d = parts.fourth;
-    let e = parts.fifth;
-    let f = parts.sixth;
-    let first = read_part(a, w, limits, Walk::Next(at), left);
-    let second = read_part(b, w, limits, first, left);
-    let third = read_part(c, w, limits, second, left);
-    let fourth = read_part(d, w, limits, third, left);
-    let fifth = read_part(e, w, limits, fourth, left);
-    read_part(f, w, limits, fifth, left)
+    match parts {
+        Parts::None => Walk::Next(at),
+        Parts::Three(a, b, c) => {
+            let first = read_part(a, w, limits, Walk::Next(at), left);
+            let second = read_part(b, w, limits, first, left);
+            read_part(c, w, limits, second, left)
+        }
+        Parts::Six(a, b, c, d, e, f) => {
+            let first = read_part(a, w, limits, Walk::Next(at), left);
+            let second = read_part(b, w, limits, first, left);
+            let third = read_part(c, w, limits, second, left);
+            let fourth = read_part(d, w, limits, third, left);
+            let fifth = read_part(e, w, limits, fourth, left);
+            read_part(f, w, limits, fifth, left)
+        }
+    }
 }
 
 // A part, from where the walk so far goes on.

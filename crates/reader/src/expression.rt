@@ -7,6 +7,9 @@ use words::ArithmeticWord;
 use words::ArrayWord;
 use words::BooleanWord;
 use words::Word;
+use words::decode::arithmetic_word;
+use words::decode::array_word;
+use words::decode::boolean_word;
 ghost use mathlib.Core.Path.{_≡_};
 ghost use Rattle.language.specs.Syntax as syntax;
 ghost use Rattle.layout.specs.Read.{expression};
@@ -18,21 +21,24 @@ pub fn read_arithmetic(w: &[u32], at: usize, left: usize) -> Walk
     let d = word_due(w, at, left);
     match d {
         Due::Stop(n, p) => Walk::Refused(n, p),
-        Due::There(word, next, below) => match word {
-            Word::Arithmetic(a) => match a {
-                ArithmeticWord::Constant(_) => Walk::Next(next),
-                ArithmeticWord::Scalar(_) => Walk::Next(next),
-                ArithmeticWord::Operation(_) => {
-                    let first = read_operand(Sort::Arithmetic, w, Walk::Next(next), below);
-                    read_operand(Sort::Arithmetic, w, first, below)
-                }
-                ArithmeticWord::Select => {
-                    let array = read_operand(Sort::Array, w, Walk::Next(next), below);
-                    read_operand(Sort::Arithmetic, w, array, below)
-                }
-            },
-            _ => Walk::Refused(5, at),
-        },
+        Due::There(kind, payload, next, below) => {
+            let word = arithmetic_word(kind, payload);
+            match word {
+                Word::Arithmetic(a) => match a {
+                    ArithmeticWord::Constant(_) => Walk::Next(next),
+                    ArithmeticWord::Scalar(_) => Walk::Next(next),
+                    ArithmeticWord::Operation(_) => {
+                        let first = read_operand(Sort::Arithmetic, w, Walk::Next(next), below);
+                        read_operand(Sort::Arithmetic, w, first, below)
+                    }
+                    ArithmeticWord::Select => {
+                        let array = read_operand(Sort::Array, w, Walk::Next(next), below);
+                        read_operand(Sort::Arithmetic, w, array, below)
+                    }
+                },
+                _ => Walk::Refused(5, at),
+            }
+        }
     }
 }
 
@@ -42,25 +48,28 @@ pub fn read_boolean(w: &[u32], at: usize, left: usize) -> Walk
     let d = word_due(w, at, left);
     match d {
         Due::Stop(n, p) => Walk::Refused(n, p),
-        Due::There(word, next, below) => match word {
-            Word::Boolean(b) => match b {
-                BooleanWord::Compare(_) => {
-                    let first = read_operand(Sort::Arithmetic, w, Walk::Next(next), below);
-                    read_operand(Sort::Arithmetic, w, first, below)
-                }
-                BooleanWord::Truth(_) => Walk::Next(next),
-                BooleanWord::And => {
-                    let first = read_operand(Sort::Boolean, w, Walk::Next(next), below);
-                    read_operand(Sort::Boolean, w, first, below)
-                }
-                BooleanWord::Or => {
-                    let first = read_operand(Sort::Boolean, w, Walk::Next(next), below);
-                    read_operand(Sort::Boolean, w, first, below)
-                }
-                BooleanWord::Not => read_operand(Sort::Boolean, w, Walk::Next(next), below),
-            },
-            _ => Walk::Refused(5, at),
-        },
+        Due::There(kind, payload, next, below) => {
+            let word = boolean_word(kind, payload);
+            match word {
+                Word::Boolean(b) => match b {
+                    BooleanWord::Compare(_) => {
+                        let first = read_operand(Sort::Arithmetic, w, Walk::Next(next), below);
+                        read_operand(Sort::Arithmetic, w, first, below)
+                    }
+                    BooleanWord::Truth(_) => Walk::Next(next),
+                    BooleanWord::And => {
+                        let first = read_operand(Sort::Boolean, w, Walk::Next(next), below);
+                        read_operand(Sort::Boolean, w, first, below)
+                    }
+                    BooleanWord::Or => {
+                        let first = read_operand(Sort::Boolean, w, Walk::Next(next), below);
+                        read_operand(Sort::Boolean, w, first, below)
+                    }
+                    BooleanWord::Not => read_operand(Sort::Boolean, w, Walk::Next(next), below),
+                },
+                _ => Walk::Refused(5, at),
+            }
+        }
     }
 }
 
@@ -70,18 +79,21 @@ pub fn read_array(w: &[u32], at: usize, left: usize) -> Walk
     let d = word_due(w, at, left);
     match d {
         Due::Stop(n, p) => Walk::Refused(n, p),
-        Due::There(word, next, below) => match word {
-            Word::Array(a) => match a {
-                ArrayWord::Identifier(_) => Walk::Next(next),
-                ArrayWord::Zeros => Walk::Next(next),
-                ArrayWord::Update => {
-                    let array = read_operand(Sort::Array, w, Walk::Next(next), below);
-                    let index = read_operand(Sort::Arithmetic, w, array, below);
-                    read_operand(Sort::Arithmetic, w, index, below)
-                }
-            },
-            _ => Walk::Refused(5, at),
-        },
+        Due::There(kind, payload, next, below) => {
+            let word = array_word(kind, payload);
+            match word {
+                Word::Array(a) => match a {
+                    ArrayWord::Identifier(_) => Walk::Next(next),
+                    ArrayWord::Zeros => Walk::Next(next),
+                    ArrayWord::Update => {
+                        let array = read_operand(Sort::Array, w, Walk::Next(next), below);
+                        let index = read_operand(Sort::Arithmetic, w, array, below);
+                        read_operand(Sort::Arithmetic, w, index, below)
+                    }
+                },
+                _ => Walk::Refused(5, at),
+            }
+        }
     }
 }
 

@@ -7,17 +7,15 @@ pub mod table; // table.rt: what evidence carries and its children, by rule
 pub mod evidence; // evidence.rt: evidence
 pub mod file; // file.rt: a whole file
 
-use words::Word;
-
 // Where a walk goes on, or a refusal's number and place.
 pub enum Walk {
     Next(usize),
     Refused(u32, usize),
 }
 
-// The word that is due, the place past it and the levels left below it; or refusal 3 or 4.
+// The kind and payload of the word that is due, the place past it and the levels left below it; or refusal 3 or 4.
 pub enum Due {
-    There(Word, usize, usize),
+    There(u32, u32, usize, usize),
     Stop(u32, usize),
 }
 
@@ -46,14 +44,11 @@ pub enum Part {
     Flow,
 }
 
-// The parts of an evidence word, in the file's order; those that it lacks are Nothing, and come last.
-pub struct Parts {
-    pub first: Part,
-    pub second: Part,
-    pub third: Part,
-    pub fourth: Part,
-    pub fifth: Part,
-    pub sixth: Part,
+// The parts of an evidence word, in the file's order: none, up to three, up to six. Those that it lacks come last.
+pub enum Parts {
+    None,
+    Three(Part, Part, Part),
+    Six(Part, Part, Part, Part, Part, Part),
 }
 
 // The places of a file's parts: its command is at 1, and the evidence ends at `end`.

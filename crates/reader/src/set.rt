@@ -7,6 +7,7 @@ use super::expression::read_boolean;
 use super::expression::read_operand;
 use super::word::word_due;
 use words::Word;
+use words::decode::evidence_word;
 ghost use mathlib.Core.Path.{_≡_};
 ghost use Rattle.layout.specs.Bytes.{kindAt};
 ghost use Rattle.layout.specs.Reading.{several};
@@ -84,17 +85,20 @@ pub fn read_set(w: &[u32], limits: Limits, at: usize, left: usize) -> Walk
     let d = word_due(w, at, left);
     match d {
         Due::Stop(n, p) => Walk::Refused(n, p),
-        Due::There(word, next, below) => match word {
-            Word::Set(count) => {
-                let k = count as usize;
-                let most = limits.members;
-                if k <= most {
-                    read_members(w, count, next, below)
-                } else {
-                    Walk::Refused(5, at)
+        Due::There(kind, payload, next, below) => {
+            let word = evidence_word(kind, payload);
+            match word {
+                Word::Set(count) => {
+                    let k = count as usize;
+                    let most = limits.members;
+                    if k <= most {
+                        read_members(w, count, next, below)
+                    } else {
+                        Walk::Refused(5, at)
+                    }
                 }
+                _ => Walk::Refused(5, at),
             }
-            _ => Walk::Refused(5, at),
-        },
+        }
     }
 }

@@ -14,6 +14,11 @@ pub fn word_due(w: &[u32], at: usize, left: usize) -> Due
     if left == 0 {
         return Due::Stop(4, at);
     }
-    let word = words::decode::decode(w[at]);
-    Due::There(word, at + 1, left - 1)
+    let word = w[at];
+    Due::There(
+        words::decode::kind(word),
+        words::decode::payload(word),
+        at + 1,
+        left - 1,
+    )
 }

@@ -4,7 +4,7 @@
 --     both-passes                     one whose condition is two tests
 --     no-children, one-child, two-children, three-children
 --                                     the goals of the children, from the verdict
---     leaf-comes                      a rule with no children
+--     leaf-comes, settled-comes       a rule with no children; one whose condition has three results
 use mathlib.Core.Path.{_≡_, refl, sym, ap, _∙_}
 use mathlib.Core.Bool.{Bool, true, false, _&&_}
 use mathlib.Core.List.{List}
@@ -18,7 +18,10 @@ use Rattle.goals.specs.declared.Goal.{Goal}
 use Rattle.goals.specs.declared.Goal.the-variants.{Nothing}
 use Rattle.goals.specs.declared.Step.{Step}
 use Rattle.goals.specs.declared.Step.the-variants.{Stop, Go}
-use Rattle.rule_laws.specs.Steps.{leafStep}
+use Rattle.implication.specs.Sides.{resultOf}
+use Rattle.implication.specs.declared.Condition.{Condition}
+use Rattle.implication.specs.declared.Condition.the-variants.{Passes, Fails, TooLarge}
+use Rattle.rule_laws.specs.Steps.{leafStep, settledStep}
 
 pub word-passes : (i : ℕ) {b : Bool} (v : Verdict) → b ≡ true → judgeWord i (test b) v ≡ oneMore v
 unfolding judgeWord test
@@ -110,7 +113,28 @@ unfolding leafStep
 leaf-comes limits file g d at end true e h = no-children e (h ∙ word-passes at (accepted 0) refl)
 leaf-comes limits file g d at end false e h = h ∙ word-fails at (accepted 0) refl
 
+-- a rule whose condition has three results
+pub settled-comes : (limits : Limits) (file : List ℕ) (g : TreeGoal) (d at end : ℕ) (r : Condition) (s : Step) (v : Verdict) →
+    under limits g ≡ judgeWord at (resultOf r) v → (under limits g ≡ oneMore v → Comes limits file g d at end s) →
+    Comes limits file g d at end (settledStep r s)
+unfolding settledStep judgeWord
+settled-comes limits file g d at end Passes s v h k = k h
+settled-comes limits file g d at end Fails s v h k = h
+settled-comes limits file g d at end TooLarge s v h k = h
+
 -- the step in code
+pub settled-passes : {r : Condition} (s : Step) → r ≡ Passes → s ≡ settledStep r s
+unfolding settledStep
+settled-passes s e = rw e refl
+
+pub settled-fails : {r : Condition} (s : Step) → r ≡ Fails → Stop 8 ≡ settledStep r s
+unfolding settledStep
+settled-fails s e = rw e refl
+
+pub settled-large : {r : Condition} (s : Step) → r ≡ TooLarge → Stop 9 ≡ settledStep r s
+unfolding settledStep
+settled-large s e = rw e refl
+
 pub leaf-stops : (at : ℕ) {b : Bool} → b ≡ false → Stop 8 ≡ leafStep at b
 unfolding leafStep
 leaf-stops at h = rw h refl

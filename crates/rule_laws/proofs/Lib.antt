@@ -1,11 +1,15 @@
 -- Laws that the rules of all three judgements use.
 --     Places      what stands at a place, by its end in the list of ends
 --     Commands    the form of a written command by the kind of its first word, and its parts
+--     Sets        a written set with no member, with one
 --     Passing     a cursor that passes words decides sameness with what stands there
 --     Keeping     a scan for what a command modifies
+--     Implying    sides of an implication by their places
 --     Children    what the word of a rule comes to, from its verdict
 pub mod Places
 pub mod Commands
+pub mod Sets
 pub mod Passing
 pub mod Keeping
+pub mod Implying
 pub mod Children

@@ -4,6 +4,7 @@
 --     written, commanded, member-set             it stands up to its end in the list
 --     written-at, command-at, set-at             the same of what stands at a place of a goal
 --     at-written, at-command, at-set             and back
+--     written-to, command-to, set-to, known-to   at the same place by another name
 --     written-any, written-inside                an expression of some sort; it has words, and ends in the file
 --     command-inside, set-inside                 the same of a command and of a set
 --     written-known, command-known, set-known    its place is in the list of ends
@@ -107,6 +108,19 @@ module _ {file ends : List ℕ} where
   pub set-inside : {limits : Limits} {m : Members} {at : ℕ} → SetAt file ends limits m at → Inside file at (endAt ends at)
   set-inside {limits} {m} {at} x =
       stands-inside file at (word 32 (pos (length m))) (membersWords m) (endAt ends at) (x .stands .stand)
+
+  -- at the same place by another name
+  pub written-to : {k : Sort} {e : Expr k} {i j : ℕ} → j ≡ i → WrittenAt file ends e i → WrittenAt file ends e j
+  written-to {e = e} h x = subst (λ n. WrittenAt file ends e n) (sym h) x
+
+  pub command-to : {c : Command} {i j : ℕ} → j ≡ i → CommandAt file ends c i → CommandAt file ends c j
+  command-to {c} h x = subst (λ n. CommandAt file ends c n) (sym h) x
+
+  pub set-to : {limits : Limits} {m : Members} {i j : ℕ} → j ≡ i → SetAt file ends limits m i → SetAt file ends limits m j
+  set-to {limits} {m} h x = subst (λ n. SetAt file ends limits m n) (sym h) x
+
+  pub known-to : {i j : ℕ} → j ≡ i → PartKnown file ends i → PartKnown file ends j
+  known-to h x = subst (λ n. PartKnown file ends n) (sym h) x
 
   known : {at : ℕ} → EndsOf file ends → Inside file at (endAt ends at) → PartKnown file ends at
   known o i = let s = i .start in let w = i .within in let l = o .long in record { listed = omega arith; inside = w }

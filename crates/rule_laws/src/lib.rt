@@ -3,4 +3,5 @@
 pub mod part; // the words of a part at a cursor
 pub mod same; // sameness by words, of what stands at two places
 pub mod kept; // what a command does not modify
+pub mod imply; // implications between written assertions
 pub mod step; // what the word of a rule comes to

@@ -4,3 +4,4 @@ pub mod member; // members looked for among written ones
 pub mod pile; // members looked for in the sets that the rules make
 pub mod align; // members in the same order
 pub mod set; // a written set compared with the sets that a rule makes
+pub mod rule; // the conditions of the rules on sets

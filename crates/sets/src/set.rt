@@ -6,9 +6,10 @@ use crate::pile::set_in;
 ghost use mathlib.Core.Path.{_≡_};
 ghost use Rattle.sets.specs.Lists.{sameAll};
 ghost use Rattle.sets.specs.Piles.{writtenSet, pilesNumbers, CanSame};
+ghost use Rattle.sets.specs.Trees.{CanSameSet, SameSet};
 
-// Whether the written set at p is the same as the piles together. Members in the same order are found at once.
-pub fn same_set(w: &[u32], ends: &[u32], p: usize, piles: Piles) -> bool
+// Whether the members of the written set at p are those of the piles, by their words. Members in the same order are found at once.
+fn same_members(w: &[u32], ends: &[u32], p: usize, piles: Piles) -> bool
     requires { ⌜ CanSame (now w) (now ends) p piles ⌝ }
     ensures { λ r. ⌜ r ≡ sameAll (writtenSet (now (w .entry)) (now (ends .entry)) p) (pilesNumbers (now (w .entry)) (now (ends .entry)) piles) ⌝ }
 {
@@ -21,4 +22,12 @@ pub fn same_set(w: &[u32], ends: &[u32], p: usize, piles: Piles) -> bool
         return false;
     }
     piles_in(w, ends, piles, k, at)
+}
+
+// Whether the written set at p is the same as the piles together.
+pub fn same_set(w: &[u32], ends: &[u32], p: usize, piles: Piles) -> bool
+    requires { ⌜ CanSameSet (now w) (now ends) p piles ⌝ }
+    ensures { λ r. ⌜ SameSet (now (w .entry)) p piles r ⌝ }
+{
+    same_members(w, ends, p, piles)
 }

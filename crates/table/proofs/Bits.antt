@@ -1,5 +1,6 @@
 -- The bits of a number, and of what and, or, not make of words.
 -- Assumes nothing.
+--     below                           the order of two numbers
 --     bit-and, bit-or, bit-flip       the bits of what and, or, not make
 --     bit-low, bit-zero, bit-ones     a bit is 0 or 1; the bits of 0 and of the word of ones
 --     some-zero                       a word that is not all ones has a bit that is 0

@@ -3,6 +3,7 @@
 -- Assumes nothing.
 --     UpTo, upto-none, upto-more    every assignment of the first blocks makes the formula true
 --     upto-end, upto-stuck          at the last block; at a word that is not all ones
+--     four-more, four-stuck         four blocks
 use mathlib.Core.Path.{_≡_, sym, ap, subst, _∙_}
 use mathlib.Core.Bool.{Bool, true, false, false≢true, true≢false}
 use mathlib.Core.List.{List}
@@ -10,6 +11,8 @@ use mathlib.Core.Logic.{⊎-elim}
 use Prim.Native.Nat.{ℕ, _+_, _*_, _-_, _^_, _<_, _≤_}
 use native.Mathlib.Omega.{arith}
 use Rattle.table.specs.Formula.{Formula, value, bit, numbered, Small, word, Block, Spelled, Gives, Every}
+use Rattle.table.specs.Formula.{GivesFour, Full}
+use Rattle.table.specs.declared.Four.{Four}
 use Rattle.table.proofs.Bits.{below, bit-ones, some-zero, num, num-true, num-false, word-fits, word-bit}
 
 module _ {b : ℕ} {tb : List ℕ} (B : Block b tb) (f : Formula) {x : ℕ} (s : Small f) (e : x ≡ word tb f) where
@@ -61,3 +64,24 @@ module _ {p : List ℕ} {n : ℕ} where
         witness = λ _. stuck B f (s .small) (g .gives f s) z;
       };
     }
+
+-- ---- four blocks
+module _ {p : List ℕ} {n b : ℕ} {ta tb tc td : List ℕ} {x : Four} {r : Bool}
+    (A : Block b ta) (B : Block (b + 1) tb) (C : Block (b + 2) tc) (D : Block (b + 3) td)
+    (g : GivesFour p n ta tb tc td x) (f : Full x r) where
+  pub four-more : r ≡ true → UpTo p n b → UpTo p n (b + 4)
+  four-more e u =
+      let h = f .all e in
+      to (omega arith) (upto-more D (g .d) (h .3)
+      (to (omega arith) (upto-more C (g .c) (h .2)
+      (to (omega arith) (upto-more B (g .b) (h .1) (upto-more A (g .a) (h .0) u))))))
+    where
+      to : {i j : ℕ} → i ≡ j → UpTo p n i → UpTo p n j
+      to e v = subst (UpTo p n) e v
+
+  pub four-stuck : {c : ℕ} → r ≡ false → Every p n c false
+  four-stuck e =
+      ⊎-elim (λ h. upto-stuck A (g .a) h)
+      (λ k. ⊎-elim (λ h. upto-stuck B (g .b) h)
+      (λ k. ⊎-elim (λ h. upto-stuck C (g .c) h) (λ h. upto-stuck D (g .d) h) k) k)
+      (f .some e)

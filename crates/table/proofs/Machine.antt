@@ -6,19 +6,20 @@
 --     State, begin, finish             the loop's state in one lane; at its start, at its end
 --     push-room, pop-room              a stack that is not full, not empty
 --     push, flip, meet, join           one byte: a leaf, not, and, or
+--     short-formula                    a stack as long as the formula has room
 use mathlib.Core.Path.{_≡_, refl, sym, ap, ap₂, _∙_}
 use mathlib.Core.Bool.{Bool, true, false, cond}
 use mathlib.Core.List.{List, [], _∷_}
-use Prim.Native.Nat.{ℕ, zero, suc, _+_, _*_, _-_, _^_, _<_, _≤_, max}
+use Prim.Native.Nat.{ℕ, zero, suc, _+_, _-_, _^_, _<_, _≤_}
 use native.Mathlib.Numerals.{add-one}
 use native.Mathlib.Omega.{arith}
 use borrow.Author.Tests.{ne-eqb, lt-ltb, le-ltb}
 use lib.Bits.{bitAnd, bitOr}
 use lib.Dec.{eqb, ltb}
 use lib.ListN.{length, getD, take, drop, set, length-take, length-set}
-use lib.Seq.{drop-cons, drop-length, getD-take, getD-set-same, getD-set-other}
+use lib.Seq.{drop-cons, drop-length, getD-take, getD-set-same, getD-set-other, length-take-le}
 use Rattle.table.specs.Formula.{Formula, leaf, fixed, conj, disj, negated, fixedByte, spell, depth, Small}
-use Rattle.table.specs.Formula.{Spelled, IsFormula, word, Gives}
+use Rattle.table.specs.Formula.{IsFormula, word, Gives}
 
 abbrev unary : List ℕ → List ℕ
 unary [] = []
@@ -45,9 +46,9 @@ height : List ℕ → ℕ
 height [] = 1
 height (op ∷ p) = raise op (height p)
 
-Good : List ℕ → Type 0
-Good [] = Unit {0}
-Good (op ∷ p) = Good p × (op < 18 → height p ≤ 260) × (18 ≤ op → (op ≡ 20 → ⊥) → 2 ≤ height p)
+Good : ℕ → List ℕ → Type 0
+Good room [] = Unit {0}
+Good room (op ∷ p) = Good room p × (op < 18 → height p ≤ room) × (18 ≤ op → (op ≡ 20 → ⊥) → 2 ≤ height p)
 
 step-leaf : (tb : List ℕ) (op : ℕ) (s : List ℕ) → op < 18 → step tb op s ≡ getD tb op 0 ∷ s
 unfolding step
@@ -57,7 +58,8 @@ raise-leaf : (op h : ℕ) → op < 18 → raise op h ≡ suc h
 unfolding raise
 raise-leaf op h l = rw (lt-ltb op 18 l)
 
-step-other : (tb : List ℕ) (op : ℕ) (s : List ℕ) → 18 ≤ op → (op ≡ 20 → ⊥) → (op ≡ 18 → ⊥) → step tb op s ≡ binary bitOr s
+step-other : (tb : List ℕ) (op : ℕ) (s : List ℕ) → 18 ≤ op → (op ≡ 20 → ⊥) → (op ≡ 18 → ⊥) →
+    step tb op s ≡ binary bitOr s
 unfolding step
 step-other tb op s h n m = rw (le-ltb op 18 h, ne-eqb op 20 n, ne-eqb op 18 m)
 
@@ -95,35 +97,38 @@ height-spell (disj f g) p s =
     omega arith
 height-spell (negated f) p s = height-spell f p s
 
-good-spell : (f : Formula) (p : List ℕ) → Small f → height p + depth f ≤ 261 → Good p → Good (spell f p)
+good-spell : (room : ℕ) (f : Formula) (p : List ℕ) → Small f → height p + depth f ≤ suc room → Good room p →
+    Good room (spell f p)
 unfolding Good spell depth Small
-good-spell (leaf i) p s h g = (g, λ l. omega arith, λ l n. absurd (omega arith))
-good-spell (fixed b) p s h g = (g, λ l. omega arith, λ l n. let k = fixed-low b in absurd (omega arith))
-good-spell (conj f k) p s h g =
+good-spell room (leaf i) p s h g = (g, λ l. omega arith, λ l n. absurd (omega arith))
+good-spell room (fixed b) p s h g = (g, λ l. omega arith, λ l n. let k = fixed-low b in absurd (omega arith))
+good-spell room (conj f k) p s h g =
     let x = height-spell f (spell k p) (s .0) in
     let y = height-spell k p (s .1) in (
-      good-spell f (spell k p) (s .0) (omega arith) (good-spell k p (s .1) (omega arith) g),
+      good-spell room f (spell k p) (s .0) (omega arith) (good-spell room k p (s .1) (omega arith) g),
       λ l. absurd (omega arith),
       λ l n. omega arith,
     )
-good-spell (disj f k) p s h g =
+good-spell room (disj f k) p s h g =
     let x = height-spell f (spell k p) (s .0) in
     let y = height-spell k p (s .1) in (
-      good-spell f (spell k p) (s .0) (omega arith) (good-spell k p (s .1) (omega arith) g),
+      good-spell room f (spell k p) (s .0) (omega arith) (good-spell room k p (s .1) (omega arith) g),
       λ l. absurd (omega arith),
       λ l n. omega arith,
     )
-good-spell (negated f) p s h g = (good-spell f p s (omega arith) g, λ l. absurd (omega arith), λ l n. absurd (n refl))
+good-spell room (negated f) p s h g =
+    (good-spell room f p s (omega arith) g, λ l. absurd (omega arith), λ l n. absurd (n refl))
 
-good-drop : (i : ℕ) (p : List ℕ) → Good p → Good (drop i p)
+good-drop : (room i : ℕ) (p : List ℕ) → Good room p → Good room (drop i p)
 unfolding Good
-good-drop zero p g = g
-good-drop (suc i) [] g = g
-good-drop (suc i) (x ∷ p) g = good-drop i p (g .0)
+good-drop room zero p g = g
+good-drop room (suc i) [] g = g
+good-drop room (suc i) (x ∷ p) g = good-drop room i p (g .0)
 
-good : {p : List ℕ} {n : ℕ} → IsFormula p n → Good (take n p)
+good : {p : List ℕ} {n room : ℕ} → IsFormula p n room → Good room (take n p)
 unfolding height Good
-good x = rw (x .is .bytes) (good-spell (x .formula) [] (x .is .small) (let h = x .low in omega arith) tt)
+good {room = room} x =
+    rw (x .is .bytes) (good-spell room (x .formula) [] (x .is .small) (let h = x .low in omega arith) tt)
 
 -- the first k words of the stack, the last first
 under : List ℕ → ℕ → List ℕ
@@ -139,15 +144,15 @@ under-set s j v (suc k) h =
     (under-set s j v k (omega arith))
 
 -- the bytes from i on have been worked out: w is on top, the rest of the stack below it
-pub record State (tb p : List ℕ) (i : ℕ) (stack : List ℕ) (top w : ℕ) : Type 0 where
-  size : length stack ≡ 260
-  pub low : top ≤ 260
+pub record State (room : ℕ) (tb p : List ℕ) (i : ℕ) (stack : List ℕ) (top w : ℕ) : Type 0 where
+  size : length stack ≡ room
+  pub low : top ≤ room
   holds : run tb (drop i p) ≡ w ∷ under stack top
   high : height (drop i p) ≡ suc top
 
-pub begin : {tb p stack : List ℕ} {n : ℕ} → length stack ≡ 260 → length p ≡ n → State tb p n stack 0 0
+pub begin : {room n : ℕ} {tb p stack : List ℕ} → length stack ≡ room → length p ≡ n → State room tb p n stack 0 0
 unfolding run height under
-begin {tb} {p} {stack} {n} h e = record {
+begin {n = n} {tb = tb} {p = p} h e = record {
   size = h;
   low = omega arith;
   holds = ap (run tb) (gone p n e);
@@ -157,8 +162,9 @@ begin {tb} {p} {stack} {n} h e = record {
     gone : (p : List ℕ) (n : ℕ) → length p ≡ n → drop n p ≡ []
     gone p n e = ap (λ (k : ℕ). drop k p) (sym e) ∙ drop-length p
 
-pub finish : {tb prog stack : List ℕ} {n i top w : ℕ} → i ≤ 0 → State tb (take n prog) i stack top w → Gives prog n tb w
-finish {tb} {prog} {stack} {n} {i} {top} {w} z st = record {
+pub finish : {tb prog stack : List ℕ} {room n i top w : ℕ} → i ≤ 0 → State room tb (take n prog) i stack top w →
+    Gives prog n tb w
+finish {tb} {prog} {n = n} {i = i} z st = record {
   gives = λ f sp.
       head-is
       (sym (st .holds) ∙ ap (λ (k : ℕ). run tb (drop k (take n prog))) (zeroed i z) ∙ ap (run tb) (sp .bytes) ∙
@@ -171,8 +177,8 @@ finish {tb} {prog} {stack} {n} {i} {top} {w} z st = record {
     head-is : {a b : ℕ} {r s : List ℕ} → _≡_ {A = List ℕ} (a ∷ r) (b ∷ s) → a ≡ b
     head-is e = cc
 
-module _ {tb prog stack : List ℕ} {n i top w : ℕ}
-    (is : IsFormula prog n) (pos : 0 < i) (le : i ≤ n) (st : State tb (take n prog) i stack top w) where
+module _ {tb prog stack : List ℕ} {room n i top w : ℕ}
+    (is : IsFormula prog n room) (pos : 0 < i) (le : i ≤ n) (st : State room tb (take n prog) i stack top w) where
   abbrev op : ℕ
   op = getD prog (i - 1) 0
 
@@ -187,10 +193,10 @@ module _ {tb prog stack : List ℕ} {n i top w : ℕ}
       one : suc (i - 1) ≡ i
       one = omega arith
 
-  here : Good (op ∷ drop i (take n prog))
-  here = rw next at (good-drop (i - 1) (take n prog) (good is))
+  here : Good room (op ∷ drop i (take n prog))
+  here = rw next at (good-drop room (i - 1) (take n prog) (good is))
 
-  pub push-room : op < 18 → top < 260
+  pub push-room : op < 18 → top < room
   unfolding Good
   push-room l = let h = here .1 l in let k = st .high in omega arith
 
@@ -206,7 +212,7 @@ module _ {tb prog stack : List ℕ} {n i top w : ℕ}
   unfolding height
   rose = ap height next ∙ ap (raise op) (st .high)
 
-  pub push : op < 18 → State tb (take n prog) (i - 1) (set stack top w) (top + 1) (getD tb op 0)
+  pub push : op < 18 → State room tb (take n prog) (i - 1) (set stack top w) (top + 1) (getD tb op 0)
   unfolding under
   push l = record {
     size = length-set stack top w ∙ st .size;
@@ -216,17 +222,17 @@ module _ {tb prog stack : List ℕ} {n i top w : ℕ}
     high = rose ∙ raise-leaf op (suc top) l ∙ ap suc (sym (add-one top));
   }
     where
-      room : top < length stack
-      room = let h = push-room l in let k = st .size in omega arith
+      inside : top < length stack
+      inside = let h = push-room l in let k = st .size in omega arith
 
       stored : under (set stack top w) (top + 1) ≡ w ∷ under stack top
       stored =
           ap (under (set stack top w)) (add-one top) ∙
           ap₂ (λ (x : ℕ) (r : List ℕ). x ∷ r)
-          (getD-set-same stack top w 0 room)
+          (getD-set-same stack top w 0 inside)
           (under-set stack top w top (omega arith))
 
-  pub flip : op ≡ 20 → State tb (take n prog) (i - 1) stack top (2 ^ 64 - 1 - w)
+  pub flip : op ≡ 20 → State room tb (take n prog) (i - 1) stack top (2 ^ 64 - 1 - w)
   unfolding step raise
   flip e = record {
     size = st .size;
@@ -249,7 +255,7 @@ module _ {tb prog stack : List ℕ} {n i top w : ℕ}
     lower : height (drop (i - 1) (take n prog)) ≡ suc (top - 1)
     lower = let h = rose ∙ raise-other op (suc top) l m in let k = pop-room l m in omega arith
 
-    pub meet : op ≡ 18 → State tb (take n prog) (i - 1) stack (top - 1) (bitAnd w (getD stack (top - 1) 0))
+    pub meet : op ≡ 18 → State room tb (take n prog) (i - 1) stack (top - 1) (bitAnd w (getD stack (top - 1) 0))
     unfolding step
     meet e = record {
       size = st .size;
@@ -258,7 +264,7 @@ module _ {tb prog stack : List ℕ} {n i top w : ℕ}
       high = lower;
     }
 
-    pub join : (op ≡ 18 → ⊥) → State tb (take n prog) (i - 1) stack (top - 1) (bitOr w (getD stack (top - 1) 0))
+    pub join : (op ≡ 18 → ⊥) → State room tb (take n prog) (i - 1) stack (top - 1) (bitOr w (getD stack (top - 1) 0))
     join k = record {
       size = st .size;
       low = let h = st .low in omega arith;
@@ -267,3 +273,30 @@ module _ {tb prog stack : List ℕ} {n i top w : ℕ}
           ap (λ (s : List ℕ). binary bitOr (w ∷ s)) (popped (pop-room l m));
       high = lower;
     }
+
+-- ---- a formula is no deeper than it is long
+depth-spell : (f : Formula) (p : List ℕ) → depth f + length p ≤ length (spell f p)
+unfolding depth spell
+depth-spell (leaf i) p = omega arith
+depth-spell (fixed b) p = omega arith
+depth-spell (conj f g) p =
+    let x = depth-spell f (spell g p) in
+    let y = depth-spell g p in
+    omega arith
+depth-spell (disj f g) p =
+    let x = depth-spell f (spell g p) in
+    let y = depth-spell g p in
+    omega arith
+depth-spell (negated f) p = let x = depth-spell f p in omega arith
+
+pub short-formula : {p : List ℕ} {n room : ℕ} (most : ℕ) → n ≤ most → IsFormula p n room → IsFormula p n most
+short-formula {p} {n} most h x = record {
+  formula = x .formula;
+  is = x .is;
+  within = x .within;
+  low =
+      let e : length (take n p) ≡ n = length-take-le _ _ (x .within) in
+      let d = depth-spell (x .formula) [] in
+      let l = ap length (x .is .bytes) in
+      omega arith;
+}

@@ -4,11 +4,15 @@
 --     bit, numbered                 the bits of a number; the assignment that a number is
 --     spell, depth, Small           the bytes of a formula; its depth; each leaf has one of 16 numbers
 --     Spelled, IsFormula            bytes are a formula; and one for which the stack has room
---     word, Block                   the word of a formula from those of its leaves; the leaves of a block of 64 assignments
---     Gives, GivesFour, Every       what the functions give
+--     word, Block                   the word of a formula from those of its leaves; those of 64 assignments
+--     CanWork                       four stacks have room for it
+--     Ones, Full                    a word of ones; four of them
+--     Gives, GivesFour              the words that a formula gives
+--     Settles, Every                whether every assignment makes a formula true
 use mathlib.Core.Path.{_≡_}
 use mathlib.Core.Bool.{Bool, true, false, not, _&&_, _||_}
 use mathlib.Core.List.{List, [], _∷_}
+use mathlib.Core.Logic.{_⊎_}
 use Prim.Native.Nat.{ℕ, zero, suc, _+_, _*_, _-_, _/_, _%_, _^_, _<_, _≤_, max}
 use lib.Bits.{bitAnd, bitOr}
 use lib.Dec.{eqb}
@@ -69,12 +73,19 @@ pub record Spelled (p : List ℕ) (n : ℕ) (f : Formula) : Type 0 where
   pub bytes : take n p ≡ spell f []
   pub small : Small f
 
--- they are one for which the stack has room
-pub record IsFormula (p : List ℕ) (n : ℕ) : Type 0 where
+-- they are one for which a stack of so many words has room
+pub record IsFormula (p : List ℕ) (n room : ℕ) : Type 0 where
   pub formula : Formula
   pub is : Spelled p n formula
   pub within : n ≤ length p
-  pub low : depth formula ≤ 260
+  pub low : depth formula ≤ room
+
+-- the bytes are a formula for which the four stacks have room
+pub record CanWork (p : List ℕ) (n : ℕ) (sa sb sc sd : List ℕ) : Type 0 where
+  pub formula : IsFormula p n (length sa)
+  pub b : length sb ≡ length sa
+  pub c : length sc ≡ length sa
+  pub d : length sd ≡ length sa
 
 -- the word that a formula gives where leaf i has the word tb[i]
 unfoldable pub word : List ℕ → Formula → ℕ
@@ -94,6 +105,14 @@ pub record Block (b : ℕ) (tb : List ℕ) : Type 0 where
 abbrev pub spreadOf : ℕ → ℕ
 spreadOf zero = 0
 spreadOf (suc n) = 2 ^ 64 - 1
+
+-- a word of ones
+abbrev pub Ones : ℕ → Type 0
+Ones x = x ≡ 2 ^ 64 - 1
+
+pub record Full (x : Four) (r : Bool) : Type 0 where
+  pub all : r ≡ true → Ones (x .a) × Ones (x .b) × Ones (x .c) × Ones (x .d)
+  pub some : r ≡ false → (Ones (x .a) → ⊥) ⊎ ((Ones (x .b) → ⊥) ⊎ ((Ones (x .c) → ⊥) ⊎ (Ones (x .d) → ⊥)))
 
 pub record Gives (p : List ℕ) (n : ℕ) (tb : List ℕ) (r : ℕ) : Type 0 where
   pub gives : (f : Formula) → Spelled p n f → r ≡ word tb f

@@ -1,7 +1,7 @@
 // Formulas over at most 16 leaves, tried at 64 assignments in a word and four words a pass (document 01, "Implies").
 ghost use mathlib.Core.Path.{_≡_};
-ghost use Prim.Native.Nat.{ℕ, _%_, _≤_};
-ghost use Rattle.table.specs.Formula.{IsFormula, Block, GivesFour, Every, spreadOf};
+ghost use Prim.Native.Nat.{_%_, _≤_};
+ghost use Rattle.table.specs.Formula.{IsFormula, CanWork, Block, Full, GivesFour, Every, spreadOf};
 
 // 64 times the low bit of x.
 fn spread(x: usize) -> u64
@@ -52,6 +52,22 @@ struct Four {
     d: u64,
 }
 
+// Whether each of the four words is all ones.
+fn full(x: Four) -> bool
+    ensures { λ r. ⌜ Full x r ⌝ }
+{
+    if x.a != 18446744073709551615 {
+        return false;
+    }
+    if x.b != 18446744073709551615 {
+        return false;
+    }
+    if x.c != 18446744073709551615 {
+        return false;
+    }
+    x.d == 18446744073709551615
+}
+
 // The words that the formula of the first len bytes gives in four blocks at once, from its last byte to its first.
 fn block(
     prog: &[u8],
@@ -60,14 +76,15 @@ fn block(
     lb: &[u64; 18],
     lc: &[u64; 18],
     ld: &[u64; 18],
+    sa: &mut [u64],
+    sb: &mut [u64],
+    sc: &mut [u64],
+    sd: &mut [u64],
 ) -> Four
-    requires { ⌜ IsFormula (now prog) len ⌝ }
-    ensures { λ r. ⌜ GivesFour (now (prog .entry)) len (now (la .entry)) (now (lb .entry)) (now (lc .entry)) (now (ld .entry)) r ⌝ }
+    requires { ⌜ CanWork (now prog) len (now sa) (now sb) (now sc) (now sd) ⌝ }
+    ensures { λ r. ⌜ GivesFour (now (prog .entry)) len
+        (now (la .entry)) (now (lb .entry)) (now (lc .entry)) (now (ld .entry)) r ⌝ }
 {
-    let mut sa = [0u64; 260];
-    let mut sb = [0u64; 260];
-    let mut sc = [0u64; 260];
-    let mut sd = [0u64; 260];
     let mut top: usize = 0;
     let mut a: u64 = 0;
     let mut b: u64 = 0;
@@ -113,31 +130,50 @@ fn block(
     Four { a, b, c, d }
 }
 
-// Whether every assignment of the first blocks makes the formula of the first len bytes true.
-pub fn every(prog: &[u8], len: usize, blocks: usize) -> bool
-    requires { ⌜ IsFormula (now prog) len × (blocks ≤ 1024) ⌝ }
+// The same as `every`, with stacks that are lent.
+fn every_block(
+    prog: &[u8],
+    len: usize,
+    blocks: usize,
+    sa: &mut [u64],
+    sb: &mut [u64],
+    sc: &mut [u64],
+    sd: &mut [u64],
+) -> bool
+    requires { ⌜ CanWork (now prog) len (now sa) (now sb) (now sc) (now sd) × (blocks ≤ 1024) ⌝ }
     ensures { λ r. ⌜ Every (now (prog .entry)) len blocks r ⌝ }
 {
     let mut b: usize = 0;
     while b < blocks {
         let la = fill(b);
         let lb = fill(b + 1);
-        let lc = fill(b + 1 + 1);
-        let ld = fill(b + 1 + 1 + 1);
-        let x = block(prog, len, &la, &lb, &lc, &ld);
-        if x.a != 18446744073709551615 {
+        let lc = fill(b + 2);
+        let ld = fill(b + 3);
+        let x = block(prog, len, &la, &lb, &lc, &ld, sa, sb, sc, sd);
+        if !full(x) {
             return false;
         }
-        if x.b != 18446744073709551615 {
-            return false;
-        }
-        if x.c != 18446744073709551615 {
-            return false;
-        }
-        if x.d != 18446744073709551615 {
-            return false;
-        }
-        b = b + 1 + 1 + 1 + 1;
+        b += 4;
     }
     true
+}
+
+// Whether every assignment of the first blocks makes the formula of the first len bytes true.
+pub fn every(prog: &[u8], len: usize, blocks: usize) -> bool
+    requires { ⌜ IsFormula (now prog) len 260 × (blocks ≤ 1024) ⌝ }
+    ensures { λ r. ⌜ Every (now (prog .entry)) len blocks r ⌝ }
+{
+    // Most formulas are short, and few words are to be cleared for them.
+    if len <= 32 {
+        let mut sa = [0u64; 32];
+        let mut sb = [0u64; 32];
+        let mut sc = [0u64; 32];
+        let mut sd = [0u64; 32];
+        return every_block(prog, len, blocks, &mut sa, &mut sb, &mut sc, &mut sd);
+    }
+    let mut sa = [0u64; 260];
+    let mut sb = [0u64; 260];
+    let mut sc = [0u64; 260];
+    let mut sd = [0u64; 260];
+    every_block(prog, len, blocks, &mut sa, &mut sb, &mut sc, &mut sd)
 }

@@ -3,6 +3,7 @@
 --     words-length, words-at    how many words bytes make; the word at a place
 --     front, front-more         the first words stand in front; one more
 --     loaded-words              what a caller has who lends room enough
+--     loaded-length             the length of the room, and what of it is loaded
 use mathlib.Core.Path.{_≡_, refl, sym, _∙_, ap}
 use mathlib.Core.Bool.{Bool, true, false, cond}
 use mathlib.Core.List.{List, [], _∷_, _++_}
@@ -45,7 +46,8 @@ module _ (bytes before : List ℕ) where
   pub front-none : before ≡ front 0
   front-none = refl
 
-  pub front-more : (i : ℕ) → 4 * i + 3 < length bytes → i < length before → set (front i) i (wordAt bytes i) ≡ front (i + 1)
+  pub front-more : (i : ℕ) → 4 * i + 3 < length bytes → i < length before →
+      set (front i) i (wordAt bytes i) ≡ front (i + 1)
   front-more i h k =
       let s = wordsOf bytes in
       let l : i < length s = rw (words-length bytes) (omega arith) in
@@ -56,7 +58,9 @@ module _ (bytes before : List ℕ) where
       ∙ ap (λ (r : List ℕ). r ++ drop (suc i) before) (sym (take-suc s i 0 l)))
 
   pub front-length : (i : ℕ) → i ≤ length bytes / 4 → i ≤ length before → length (front i) ≡ length before
-  front-length i h k = simp (length-append, length-drop) (omega (arith, length-take-le i (wordsOf bytes) (rw (words-length bytes) h)))
+  front-length i h k =
+      let l = length-take-le i (wordsOf bytes) (rw (words-length bytes) h) in
+      simp (length-append, length-drop) (omega arith)
 
 pub lesser-both : (a b n : ℕ) → n ≡ lesser a b → (n ≤ a) × (n ≤ b)
 lesser-both a b n e = go (leb a b) refl e
@@ -65,9 +69,19 @@ lesser-both a b n e = go (leb a b) refl e
     go true t e = let h = leb-true a b t in (omega arith, omega arith)
     go false t e = let h = leb-false a b t in (omega arith, omega arith)
 
-pub loaded-words : {bytes before after : List ℕ} {n : ℕ} → Loaded bytes before after n → length bytes / 4 ≤ length before →
+pub loaded-words :
+    {bytes before after : List ℕ} {n : ℕ} → Loaded bytes before after n → length bytes / 4 ≤ length before →
     (n ≡ length bytes / 4) × (take n after ≡ wordsOf bytes)
 loaded-words {bytes} {before} {after} {n} h k =
     let e : n ≡ length bytes / 4 = h .count ∙ simp (le-leb _ _ k) in
-    let w : take n (wordsOf bytes) ≡ wordsOf bytes = take-all n (wordsOf bytes) (rw (words-length bytes) (omega arith)) in
+    let l : length (wordsOf bytes) ≤ n = rw (words-length bytes) (omega arith) in
+    let w : take n (wordsOf bytes) ≡ wordsOf bytes = take-all n (wordsOf bytes) l in
     (e, rw (h .content, w) (take-at (wordsOf bytes) (drop n before) n (words-length bytes ∙ sym e)))
+
+-- the words that were loaded are a part of the room that was lent
+pub loaded-length : {bytes before after : List ℕ} {n : ℕ} → Loaded bytes before after n →
+    (length after ≡ length before) × (n ≤ length after)
+loaded-length {bytes} {before} {after} {n} h =
+    let k = lesser-both (length bytes / 4) (length before) n (h .count) in
+    let l : length after ≡ length before = ap length (h .content) ∙ front-length bytes before n (k .0) (k .1) in
+    (l, omega arith)

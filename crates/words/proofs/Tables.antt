@@ -1,7 +1,9 @@
 -- The layout's tables at a decoded word: what each gives at a number's kind and payload is settled by what the number
 -- decodes to.
 -- Assumes nothing.
---     expression-word                          the tables of expressions, by sort
+--     arithmetic-of, boolean-of, array-of, command-of, set-of, pre-of, implication-of, flow-of
+--                                              each table by its own group of words
+--     expression-word                          the tables of expressions, by sort, by all words
 --     command-word, set-word                   of commands and sets
 --     pre-word, implication-word, flow-word    of evidence
 use mathlib.Core.Path.{_≡_, refl, sym, _∙_, ap}
@@ -22,7 +24,8 @@ use Rattle.layout.specs.Read.{commandWord}
 use Rattle.layout.specs.ReadEvidence.{preWord, setWord, flowWord}
 use Rattle.words.specs.Decode.{arithmeticOf, booleanOf, arrayOf, commandOf, flowOf, setOf, preOf, evidenceOf}
 use Rattle.words.specs.Decode.{within, operatorWord, comparisonWord, truthWord, kindOf, decodeOf}
-use Rattle.words.specs.Meaning.{arithmeticMeaning, booleanMeaning, arrayMeaning, expressionMeaning, commandMeaning}
+use Rattle.words.specs.Meaning.{arithmeticMeaning, booleanMeaning, arrayMeaning, expressionMeaning}
+use Rattle.words.specs.Meaning.{commandMeaning}
 use Rattle.words.specs.Meaning.{setMeaning, preMeaning, implicationMeaning, flowMeaning}
 use Rattle.words.specs.declared.Operator.the-variants.{Plus, Minus, Times}
 use Rattle.words.specs.declared.Comparison.the-variants.{Equal, Less, AtMost}
@@ -33,17 +36,21 @@ use Rattle.words.specs.declared.BooleanWord.the-variants.{Compare, Truth
 use Rattle.words.specs.declared.ArrayWord.{ArrayWord}
 use Rattle.words.specs.declared.ArrayWord.the-variants.{Identifier, Zeros, Update}
 use Rattle.words.specs.declared.CommandWord.{CommandWord}
-use Rattle.words.specs.declared.CommandWord.the-variants.{Skip, Sequence, Assert, AssignScalar, AssignArray, If, While, For}
+use Rattle.words.specs.declared.CommandWord.the-variants.{Skip, Sequence, Assert, AssignScalar, AssignArray, If}
+use Rattle.words.specs.declared.CommandWord.the-variants.{While, For}
 use Rattle.words.specs.declared.FlowRule.{FlowRule}
-use Rattle.words.specs.declared.FlowRule.the-variants.{Flow1, Flow2, Flow3, Flow4, Flow5, Flow6, Flow7, Flow8, Flow9}
+use Rattle.words.specs.declared.FlowRule.the-variants.{Flow1, Flow2, Flow3, Flow4, Flow5, Flow6, Flow7, Flow8}
+use Rattle.words.specs.declared.FlowRule.the-variants.{Flow9}
 use Rattle.words.specs.declared.FlowRule.the-variants.{Flow10, Flow11, Flow12, Flow13, Flow14}
 use Rattle.words.specs.declared.SetRule.{SetRule}
 use Rattle.words.specs.declared.SetRule.the-variants.{Set13, Set14, Set15, Set16, Set17, Set18, Set19}
 use Rattle.words.specs.declared.PreRule.{PreRule}
-use Rattle.words.specs.declared.PreRule.the-variants.{Pre20, Pre21, Pre22, Pre23, Pre24, Pre25, Pre26, Pre27, Pre28}
+use Rattle.words.specs.declared.PreRule.the-variants.{Pre20, Pre21, Pre22, Pre23, Pre24, Pre25, Pre26, Pre27}
+use Rattle.words.specs.declared.PreRule.the-variants.{Pre28}
 use Rattle.words.specs.declared.PreRule.the-variants.{Pre29, Pre30}
 use Rattle.words.specs.declared.Word.{Word}
-use Rattle.words.specs.declared.Word.the-variants.{Arithmetic, Boolean, Array, Command, Set, Flow, Implication, Precondition, Other}
+use Rattle.words.specs.declared.Word.the-variants.{Arithmetic, Boolean, Array, Command, Set, Flow, Implication}
+use Rattle.words.specs.declared.Word.the-variants.{Precondition, Other}
 
 abbrev id : {A : Type 0} → A → A
 id a = a
@@ -88,7 +95,8 @@ module _ {X : Type 0} (f : Word → Option X) (other : f Other ≡ none) where
   unfolding commandOf
   no-command h k p = sym (
       choose (eqb k 24) (bounds 0 p (h _)) (choose (eqb k 25) (bounds 0 p (h _)) (choose (eqb k 26) (bounds 0 p (h _))
-      (choose (eqb k 27) (bounds 31 p (h _)) (choose (eqb k 28) (bounds 31 p (h _)) (choose (eqb k 29) (bounds 0 p (h _))
+      (choose (eqb k 27) (bounds 31 p (h _)) (choose (eqb k 28) (bounds 31 p (h _))
+      (choose (eqb k 29) (bounds 0 p (h _))
       (choose (eqb k 30) (bounds 0 p (h _)) (choose (eqb k 31) (bounds 1023 p (h _)) other))))))))
 
   no-flow : ((r : FlowRule) → f (Flow r) ≡ none) → (p : ℕ) → none ≡ f (flowOf p)
@@ -155,17 +163,124 @@ up : {A : Type 0} (f : Word → Option A) (n p : ℕ) {a : A} {w : Word} → som
     upTo n p a ≡ f (within n p w)
 up f n p e h = both id f (leb p n) e h
 
+-- ---- a table and its own group
 module _ (part : (j : Sort) → Reader (Expr j)) (k p : ℕ) where
-  arithmetic-at : arithmeticWord part k p ≡ arithmeticMeaning part (kindOf k p)
+  pub arithmetic-of : arithmeticWord part k p ≡ arithmeticMeaning part (arithmeticOf k p)
   unfolding arithmeticOf
-  arithmetic-at =
+  arithmetic-of =
       let f = arithmeticMeaning part in
       let g : Option syntax.Operator → Option (Reader (Expr syntax.Arithmetic)) = λ o.
       onOption o λ o. leaf (operation o) ⊛ part syntax.Arithmetic ⊛ part syntax.Arithmetic in
-      by-kind f k p (arithmeticWord part k p)
-      (λ h. both id f (eqb k 1) refl (both id f (eqb k 2) (up f 31 p refl refl) (both id f (eqb k 3)
+      both id f (eqb k 1) refl (both id f (eqb k 2) (up f 31 p refl refl) (both id f (eqb k 3)
       (both g f (eqb p 0) refl (both g f (eqb p 1) refl (both g f (eqb p 2) refl refl)))
-      (both id f (eqb k 4) (up f 0 p refl refl) refl))))
+      (both id f (eqb k 4) (up f 0 p refl refl) refl)))
+
+  pub boolean-of : booleanWord part k p ≡ booleanMeaning part (booleanOf k p)
+  unfolding booleanOf
+  boolean-of =
+      let f = booleanMeaning part in
+      let g : Option syntax.Comparison → Option (Reader (Expr syntax.Boolean)) = λ o.
+      onOption o λ r. leaf (compare r) ⊛ part syntax.Arithmetic ⊛ part syntax.Arithmetic in
+      let t : Option Bool → Option (Reader (Expr syntax.Boolean)) = λ o. onOption o λ b. leaf (truth b) in
+      both id f (eqb k 8)
+      (both g f (eqb p 0) refl (both g f (eqb p 1) refl (both g f (eqb p 2) refl refl)))
+      (both id f (eqb k 9) (both t f (eqb p 0) refl (both t f (eqb p 1) refl refl))
+      (both id f (eqb k 10) (up f 0 p refl refl) (both id f (eqb k 11) (up f 0 p refl refl)
+      (both id f (eqb k 12) (up f 0 p refl refl) refl))))
+
+  pub array-of : arrayWord part k p ≡ arrayMeaning part (arrayOf k p)
+  unfolding arrayOf
+  array-of =
+      let f = arrayMeaning part in
+      both id f (eqb k 16) (up f 31 p refl refl) (both id f (eqb k 17) (up f 0 p refl refl)
+      (both id f (eqb k 18) (up f 0 p refl refl) refl))
+
+  pub command-of : (body : Reader syntax.Command) → commandWord part body k p ≡ commandMeaning part body (commandOf k p)
+  unfolding commandOf
+  command-of body =
+      let f = commandMeaning part body in
+      both id f (eqb k 24) (up f 0 p refl refl) (both id f (eqb k 25) (up f 0 p refl refl)
+      (both id f (eqb k 26) (up f 0 p refl refl) (both id f (eqb k 27) (up f 31 p refl refl)
+      (both id f (eqb k 28) (up f 31 p refl refl) (both id f (eqb k 29) (up f 0 p refl refl)
+      (both id f (eqb k 30) (up f 0 p refl refl) (both id f (eqb k 31) (up f 1023 p refl refl) refl)))))))
+
+hit : {X : Type 0} (k n : ℕ) (x : Option X) → k ≡ n → allow k ((n, x) ∷ []) ≡ x
+hit k n x e = simp (eq-eqb k n e)
+
+miss : {X : Type 0} (k n : ℕ) (x : Option X) → (k ≡ n → ⊥) → allow k ((n, x) ∷ []) ≡ none
+miss k n x e = simp (ne-eqb k n e)
+
+pub set-of : (most : ℕ) (one : Reader Member) (k p : ℕ) →
+    allow k ((32, upTo most p (several p one)) ∷ []) ≡ setMeaning most one (evidenceOf k p)
+set-of most one k p =
+    let f = setMeaning most one in
+    let x = upTo most p (several p one) in
+    by-evidence f k p _
+    (λ e. hit k 32 x e)
+    (λ e. miss k 32 x (λ j. omega arith) ∙ no-flow f refl (λ r. refl) p)
+    (λ e. miss k 32 x (λ j. omega arith) ∙ no-implication f refl (λ r. refl) p)
+    (λ e. miss k 32 x (λ j. omega arith) ∙ no-pre f refl (λ r. refl) p)
+    λ a _ _ _. miss k 32 x a
+
+module _ (b : Reader (Expr syntax.Boolean)) (c : Reader syntax.Command) (n : Reader PreEvidence) (i k p : ℕ) where
+  pub pre-of : allow k ((35, preWord b c n i p) ∷ []) ≡ preMeaning b c n i (evidenceOf k p)
+  unfolding preOf
+  pre-of =
+      let f = preMeaning b c n i in
+      let x = preWord b c n i p in
+      by-evidence f k p _
+      (λ e. miss k 35 x (λ j. omega arith))
+      (λ e. miss k 35 x (λ j. omega arith) ∙ no-flow f refl (λ r. refl) p)
+      (λ e. miss k 35 x (λ j. omega arith) ∙ no-implication f refl (λ r. refl) p)
+      (λ e. hit k 35 x e ∙ (
+      both id f (eqb p 20) refl (both id f (eqb p 21) refl (both id f (eqb p 22) refl (both id f (eqb p 23)
+      refl (both id f (eqb p 24) refl (both id f (eqb p 25) refl (both id f (eqb p 26) refl (both id f (eqb
+      p 27) refl (both id f (eqb p 28) refl (both id f (eqb p 29) refl (both id f (eqb p 30) refl
+      refl))))))))))))
+      λ _ _ _ a. miss k 35 x a
+
+module _ (m : Reader Members) (s : Reader SetEvidence) (i k p : ℕ) where
+  pub implication-of : allow k ((34, setWord m s i p) ∷ []) ≡ implicationMeaning m s i (evidenceOf k p)
+  unfolding setOf
+  implication-of =
+      let f = implicationMeaning m s i in
+      let x = setWord m s i p in
+      by-evidence f k p _
+      (λ e. miss k 34 x (λ j. omega arith))
+      (λ e. miss k 34 x (λ j. omega arith) ∙ no-flow f refl (λ r. refl) p)
+      (λ e. hit k 34 x e ∙ (
+      both id f (eqb p 13) refl (both id f (eqb p 14) refl (both id f (eqb p 15) refl (both id f (eqb p 16)
+      refl (both id f (eqb p 17) refl (both id f (eqb p 18) refl (both id f (eqb p 19) refl refl))))))))
+      (λ e. miss k 34 x (λ j. omega arith) ∙ no-pre f refl (λ r. refl) p)
+      λ _ _ a _. miss k 34 x a
+
+module _
+    (b : Reader (Expr syntax.Boolean)) (c : Reader syntax.Command) (m : Reader Members) (n : Reader PreEvidence)
+    (s : Reader SetEvidence) (v : Reader FlowEvidence) (i k p : ℕ)
+  where
+    pub flow-of : allow k ((33, flowWord b c m n s v i p) ∷ []) ≡ flowMeaning b c m n s v i (evidenceOf k p)
+    unfolding flowOf
+    flow-of =
+        let f = flowMeaning b c m n s v i in
+        let x = flowWord b c m n s v i p in
+        by-evidence f k p _
+        (λ e. miss k 33 x (λ j. omega arith))
+        (λ e. hit k 33 x e ∙ (
+        both id f (eqb p 1) refl (both id f (eqb p 2) refl (both id f (eqb p 3) refl (both id f (eqb p 4)
+        refl (both id f (eqb p 5) refl (both id f (eqb p 6) refl (both id f (eqb p 7) refl (both id f (eqb p
+        8) refl (both id f (eqb p 9) refl (both id f (eqb p 10) refl (both id f (eqb p 11) refl (both id f
+        (eqb p 12) refl (both id f (eqb p 13) refl (both id f (eqb p 14) refl refl)))))))))))))))
+        (λ e. miss k 33 x (λ j. omega arith) ∙ no-implication f refl (λ r. refl) p)
+        (λ e. miss k 33 x (λ j. omega arith) ∙ no-pre f refl (λ r. refl) p)
+        λ _ a _ _. miss k 33 x a
+
+-- ---- a table and all words
+module _ (part : (j : Sort) → Reader (Expr j)) (k p : ℕ) where
+  arithmetic-at : arithmeticWord part k p ≡ arithmeticMeaning part (kindOf k p)
+  arithmetic-at =
+      let f = arithmeticMeaning part in
+      by-kind f k p (arithmeticWord part k p)
+      (λ h. arithmetic-of part k p)
       (λ h l. out h ∙ no-boolean f refl (λ b. refl) k p)
       (λ h l. out (omega arith) ∙ no-array f refl (λ a. refl) k p)
       (λ h l. out (omega arith) ∙ no-command f refl (λ c. refl) k p)
@@ -180,19 +295,11 @@ module _ (part : (j : Sort) → Reader (Expr j)) (k p : ℕ) where
       )
 
   boolean-at : booleanWord part k p ≡ booleanMeaning part (kindOf k p)
-  unfolding booleanOf
   boolean-at =
       let f = booleanMeaning part in
-      let g : Option syntax.Comparison → Option (Reader (Expr syntax.Boolean)) = λ o.
-      onOption o λ r. leaf (compare r) ⊛ part syntax.Arithmetic ⊛ part syntax.Arithmetic in
-      let t : Option Bool → Option (Reader (Expr syntax.Boolean)) = λ o. onOption o λ b. leaf (truth b) in
       by-kind f k p (booleanWord part k p)
       (λ h. out (λ a b. omega arith) ∙ no-arithmetic f refl (λ a. refl) k p)
-      (λ h l. both id f (eqb k 8)
-      (both g f (eqb p 0) refl (both g f (eqb p 1) refl (both g f (eqb p 2) refl refl)))
-      (both id f (eqb k 9) (both t f (eqb p 0) refl (both t f (eqb p 1) refl refl))
-      (both id f (eqb k 10) (up f 0 p refl refl) (both id f (eqb k 11) (up f 0 p refl refl)
-      (both id f (eqb k 12) (up f 0 p refl refl) refl)))))
+      (λ h l. boolean-of part k p)
       (λ h l. out (λ a b. omega arith) ∙ no-array f refl (λ a. refl) k p)
       (λ h l. out (λ a b. omega arith) ∙ no-command f refl (λ c. refl) k p)
       (λ h. out (λ a b. omega arith) ∙ no-evidence f k p refl (λ r. refl) (λ r. refl) (λ r. refl) refl)
@@ -207,14 +314,12 @@ module _ (part : (j : Sort) → Reader (Expr j)) (k p : ℕ) where
       )
 
   array-at : arrayWord part k p ≡ arrayMeaning part (kindOf k p)
-  unfolding arrayOf
   array-at =
       let f = arrayMeaning part in
       by-kind f k p (arrayWord part k p)
       (λ h. out (λ a b. omega arith) ∙ no-arithmetic f refl (λ a. refl) k p)
       (λ h l. out (λ a b. omega arith) ∙ no-boolean f refl (λ b. refl) k p)
-      (λ h l. both id f (eqb k 16) (up f 31 p refl refl) (both id f (eqb k 17) (up f 0 p refl refl)
-      (both id f (eqb k 18) (up f 0 p refl refl) refl)))
+      (λ h l. array-of part k p)
       (λ h l. out (λ a b. omega arith) ∙ no-command f refl (λ c. refl) k p)
       (λ h. out (λ a b. omega arith) ∙ no-evidence f k p refl (λ r. refl) (λ r. refl) (λ r. refl) refl)
     where
@@ -227,18 +332,13 @@ module _ (part : (j : Sort) → Reader (Expr j)) (k p : ℕ) where
 
   module _ (body : Reader syntax.Command) where
     command-at : commandWord part body k p ≡ commandMeaning part body (kindOf k p)
-    unfolding commandOf
     command-at =
         let f = commandMeaning part body in
         by-kind f k p (commandWord part body k p)
         (λ h. out (λ a b. omega arith) ∙ no-arithmetic f refl (λ a. refl) k p)
         (λ h l. out (λ a b. omega arith) ∙ no-boolean f refl (λ b. refl) k p)
         (λ h l. out (λ a b. omega arith) ∙ no-array f refl (λ a. refl) k p)
-        (λ h l.
-        both id f (eqb k 24) (up f 0 p refl refl) (both id f (eqb k 25) (up f 0 p refl refl)
-        (both id f (eqb k 26) (up f 0 p refl refl) (both id f (eqb k 27) (up f 31 p refl refl)
-        (both id f (eqb k 28) (up f 31 p refl refl) (both id f (eqb k 29) (up f 0 p refl refl)
-        (both id f (eqb k 30) (up f 0 p refl refl) (both id f (eqb k 31) (up f 1023 p refl refl) refl))))))))
+        (λ h l. command-of part k p body)
         (λ h. out (λ a b. omega arith) ∙ no-evidence f k p refl (λ r. refl) (λ r. refl) (λ r. refl) refl)
       where
         out : (24 ≤ k → k ≤ 31 → ⊥) → commandWord part body k p ≡ none
@@ -252,12 +352,6 @@ module _ (part : (j : Sort) → Reader (Expr j)) (k p : ℕ) where
           ne-eqb k 30 (λ e. h (omega arith) (omega arith)),
           ne-eqb k 31 (λ e. h (omega arith) (omega arith)),
         )
-
-hit : {X : Type 0} (k n : ℕ) (x : Option X) → k ≡ n → allow k ((n, x) ∷ []) ≡ x
-hit k n x e = simp (eq-eqb k n e)
-
-miss : {X : Type 0} (k n : ℕ) (x : Option X) → (k ≡ n → ⊥) → allow k ((n, x) ∷ []) ≡ none
-miss k n x e = simp (ne-eqb k n e)
 
 -- a table of one kind from 32 on
 module _ {X : Type 0} (f : Word → Option X) (k p n : ℕ) (x : Option X) (other : f Other ≡ none) where
@@ -276,70 +370,29 @@ module _ {X : Type 0} (f : Word → Option X) (k p n : ℕ) (x : Option X) (othe
 set-at : (most : ℕ) (one : Reader Member) (k p : ℕ) →
     allow k ((32, upTo most p (several p one)) ∷ []) ≡ setMeaning most one (kindOf k p)
 set-at most one k p =
-    let f = setMeaning most one in
-    let x = upTo most p (several p one) in
-    one-kind f k p 32 x refl (omega arith) (λ a. refl) (λ b. refl) (λ a. refl) (λ c. refl)
-    λ h. by-evidence f k p _
-    (λ e. hit k 32 x e)
-    (λ e. miss k 32 x (λ j. omega arith) ∙ no-flow f refl (λ r. refl) p)
-    (λ e. miss k 32 x (λ j. omega arith) ∙ no-implication f refl (λ r. refl) p)
-    (λ e. miss k 32 x (λ j. omega arith) ∙ no-pre f refl (λ r. refl) p)
-    λ a _ _ _. miss k 32 x a
+    one-kind (setMeaning most one) k p 32 _ refl (omega arith) (λ a. refl) (λ b. refl) (λ a. refl) (λ c. refl)
+    λ h. set-of most one k p
 
 module _ (b : Reader (Expr syntax.Boolean)) (c : Reader syntax.Command) (n : Reader PreEvidence) (i k p : ℕ) where
   pre-at : allow k ((35, preWord b c n i p) ∷ []) ≡ preMeaning b c n i (kindOf k p)
-  unfolding preOf
   pre-at =
-      let f = preMeaning b c n i in
-      let x = preWord b c n i p in
-      one-kind f k p 35 x refl (omega arith) (λ a. refl) (λ b. refl) (λ a. refl) (λ c. refl)
-      λ h. by-evidence f k p _
-      (λ e. miss k 35 x (λ j. omega arith))
-      (λ e. miss k 35 x (λ j. omega arith) ∙ no-flow f refl (λ r. refl) p)
-      (λ e. miss k 35 x (λ j. omega arith) ∙ no-implication f refl (λ r. refl) p)
-      (λ e. hit k 35 x e ∙ (
-      both id f (eqb p 20) refl (both id f (eqb p 21) refl (both id f (eqb p 22) refl (both id f (eqb p 23)
-      refl (both id f (eqb p 24) refl (both id f (eqb p 25) refl (both id f (eqb p 26) refl (both id f (eqb
-      p 27) refl (both id f (eqb p 28) refl (both id f (eqb p 29) refl (both id f (eqb p 30) refl
-      refl))))))))))))
-      λ _ _ _ a. miss k 35 x a
+      one-kind (preMeaning b c n i) k p 35 _ refl (omega arith) (λ a. refl) (λ b. refl) (λ a. refl) (λ c. refl)
+      λ h. pre-of b c n i k p
 
 module _ (m : Reader Members) (s : Reader SetEvidence) (i k p : ℕ) where
   implication-at : allow k ((34, setWord m s i p) ∷ []) ≡ implicationMeaning m s i (kindOf k p)
-  unfolding setOf
   implication-at =
-      let f = implicationMeaning m s i in
-      let x = setWord m s i p in
-      one-kind f k p 34 x refl (omega arith) (λ a. refl) (λ b. refl) (λ a. refl) (λ c. refl)
-      λ h. by-evidence f k p _
-      (λ e. miss k 34 x (λ j. omega arith))
-      (λ e. miss k 34 x (λ j. omega arith) ∙ no-flow f refl (λ r. refl) p)
-      (λ e. hit k 34 x e ∙ (
-      both id f (eqb p 13) refl (both id f (eqb p 14) refl (both id f (eqb p 15) refl (both id f (eqb p 16)
-      refl (both id f (eqb p 17) refl (both id f (eqb p 18) refl (both id f (eqb p 19) refl refl))))))))
-      (λ e. miss k 34 x (λ j. omega arith) ∙ no-pre f refl (λ r. refl) p)
-      λ _ _ a _. miss k 34 x a
+      one-kind (implicationMeaning m s i) k p 34 _ refl (omega arith) (λ a. refl) (λ b. refl) (λ a. refl) (λ c. refl)
+      λ h. implication-of m s i k p
 
 module _
     (b : Reader (Expr syntax.Boolean)) (c : Reader syntax.Command) (m : Reader Members) (n : Reader PreEvidence)
     (s : Reader SetEvidence) (v : Reader FlowEvidence) (i k p : ℕ)
   where
     flow-at : allow k ((33, flowWord b c m n s v i p) ∷ []) ≡ flowMeaning b c m n s v i (kindOf k p)
-    unfolding flowOf
     flow-at =
-        let f = flowMeaning b c m n s v i in
-        let x = flowWord b c m n s v i p in
-        one-kind f k p 33 x refl (omega arith) (λ a. refl) (λ b. refl) (λ a. refl) (λ c. refl)
-        λ h. by-evidence f k p _
-        (λ e. miss k 33 x (λ j. omega arith))
-        (λ e. hit k 33 x e ∙ (
-        both id f (eqb p 1) refl (both id f (eqb p 2) refl (both id f (eqb p 3) refl (both id f (eqb p 4)
-        refl (both id f (eqb p 5) refl (both id f (eqb p 6) refl (both id f (eqb p 7) refl (both id f (eqb p
-        8) refl (both id f (eqb p 9) refl (both id f (eqb p 10) refl (both id f (eqb p 11) refl (both id f
-        (eqb p 12) refl (both id f (eqb p 13) refl (both id f (eqb p 14) refl refl)))))))))))))))
-        (λ e. miss k 33 x (λ j. omega arith) ∙ no-implication f refl (λ r. refl) p)
-        (λ e. miss k 33 x (λ j. omega arith) ∙ no-pre f refl (λ r. refl) p)
-        λ _ a _ _. miss k 33 x a
+        one-kind (flowMeaning b c m n s v i) k p 33 _ refl (omega arith) (λ a. refl) (λ b. refl) (λ a. refl)
+        (λ c. refl) λ h. flow-of b c m n s v i k p
 
 -- the laws, of a number
 module _ (w : ℕ) where

@@ -16,17 +16,21 @@ use Rattle.words.specs.declared.BooleanWord.the-variants.{Compare, Truth
 use Rattle.words.specs.declared.ArrayWord.{ArrayWord}
 use Rattle.words.specs.declared.ArrayWord.the-variants.{Identifier, Zeros, Update}
 use Rattle.words.specs.declared.CommandWord.{CommandWord}
-use Rattle.words.specs.declared.CommandWord.the-variants.{Skip, Sequence, Assert, AssignScalar, AssignArray, If, While, For}
+use Rattle.words.specs.declared.CommandWord.the-variants.{Skip, Sequence, Assert, AssignScalar, AssignArray, If}
+use Rattle.words.specs.declared.CommandWord.the-variants.{While, For}
 use Rattle.words.specs.declared.FlowRule.{FlowRule}
-use Rattle.words.specs.declared.FlowRule.the-variants.{Flow1, Flow2, Flow3, Flow4, Flow5, Flow6, Flow7, Flow8, Flow9}
+use Rattle.words.specs.declared.FlowRule.the-variants.{Flow1, Flow2, Flow3, Flow4, Flow5, Flow6, Flow7, Flow8}
+use Rattle.words.specs.declared.FlowRule.the-variants.{Flow9}
 use Rattle.words.specs.declared.FlowRule.the-variants.{Flow10, Flow11, Flow12, Flow13, Flow14}
 use Rattle.words.specs.declared.SetRule.{SetRule}
 use Rattle.words.specs.declared.SetRule.the-variants.{Set13, Set14, Set15, Set16, Set17, Set18, Set19}
 use Rattle.words.specs.declared.PreRule.{PreRule}
-use Rattle.words.specs.declared.PreRule.the-variants.{Pre20, Pre21, Pre22, Pre23, Pre24, Pre25, Pre26, Pre27, Pre28}
+use Rattle.words.specs.declared.PreRule.the-variants.{Pre20, Pre21, Pre22, Pre23, Pre24, Pre25, Pre26, Pre27}
+use Rattle.words.specs.declared.PreRule.the-variants.{Pre28}
 use Rattle.words.specs.declared.PreRule.the-variants.{Pre29, Pre30}
 use Rattle.words.specs.declared.Word.{Word}
-use Rattle.words.specs.declared.Word.the-variants.{Arithmetic, Boolean, Array, Command, Set, Flow, Implication, Precondition, Other}
+use Rattle.words.specs.declared.Word.the-variants.{Arithmetic, Boolean, Array, Command, Set, Flow, Implication}
+use Rattle.words.specs.declared.Word.the-variants.{Precondition, Other}
 
 -- a payload up to a bound
 abbrev pub within : ℕ → ℕ → Word → Word

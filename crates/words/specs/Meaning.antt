@@ -1,5 +1,5 @@
--- What the layout's tables give at a decoded word: how the parts that follow it are read, or nothing where the word is not
--- allowed.
+-- What the layout's tables give at a decoded word: how the parts that follow it are read, or nothing where the word is
+-- not allowed.
 -- Working: proofs/Tables.antt, a law for each table.
 --     operatorMeant, comparisonMeant                                          of the enums
 --     arithmeticMeaning, booleanMeaning, arrayMeaning, expressionMeaning      of expressions
@@ -13,7 +13,8 @@ use Rattle.language.specs.Syntax.{compare, truth, and, or, neg, array, zeros, u
 use Rattle.language.specs.Syntax.{skip, sequence, assert, assign, ifElse, while, for}
 use Rattle.rules.specs.Assertion.{Member, Members}
 use Rattle.rules.specs.Context.{Limits}
-use Rattle.rules.specs.Evidence.{PreEvidence, pre20, pre21, pre22, pre23, pre24, pre25, pre26, pre27, pre28, pre29, pre30}
+use Rattle.rules.specs.Evidence.{PreEvidence, pre20, pre21, pre22, pre23, pre24, pre25, pre26, pre27, pre28, pre29}
+use Rattle.rules.specs.Evidence.{pre30}
 use Rattle.rules.specs.Evidence.{SetEvidence, set13, set14, set15, set16, set17, set18, set19}
 use Rattle.rules.specs.Evidence.{FlowEvidence, flow1, flow2, flow3, flow4, flow5, flow6, flow7, flow8, flow9}
 use Rattle.rules.specs.Evidence.{flow10, flow11, flow12, flow13, flow14}
@@ -29,17 +30,21 @@ use Rattle.words.specs.declared.BooleanWord.the-variants.{Compare, Truth
 use Rattle.words.specs.declared.ArrayWord.{ArrayWord}
 use Rattle.words.specs.declared.ArrayWord.the-variants.{Identifier, Zeros, Update}
 use Rattle.words.specs.declared.CommandWord.{CommandWord}
-use Rattle.words.specs.declared.CommandWord.the-variants.{Skip, Sequence, Assert, AssignScalar, AssignArray, If, While, For}
+use Rattle.words.specs.declared.CommandWord.the-variants.{Skip, Sequence, Assert, AssignScalar, AssignArray, If}
+use Rattle.words.specs.declared.CommandWord.the-variants.{While, For}
 use Rattle.words.specs.declared.FlowRule.{FlowRule}
-use Rattle.words.specs.declared.FlowRule.the-variants.{Flow1, Flow2, Flow3, Flow4, Flow5, Flow6, Flow7, Flow8, Flow9}
+use Rattle.words.specs.declared.FlowRule.the-variants.{Flow1, Flow2, Flow3, Flow4, Flow5, Flow6, Flow7, Flow8}
+use Rattle.words.specs.declared.FlowRule.the-variants.{Flow9}
 use Rattle.words.specs.declared.FlowRule.the-variants.{Flow10, Flow11, Flow12, Flow13, Flow14}
 use Rattle.words.specs.declared.SetRule.{SetRule}
 use Rattle.words.specs.declared.SetRule.the-variants.{Set13, Set14, Set15, Set16, Set17, Set18, Set19}
 use Rattle.words.specs.declared.PreRule.{PreRule}
-use Rattle.words.specs.declared.PreRule.the-variants.{Pre20, Pre21, Pre22, Pre23, Pre24, Pre25, Pre26, Pre27, Pre28}
+use Rattle.words.specs.declared.PreRule.the-variants.{Pre20, Pre21, Pre22, Pre23, Pre24, Pre25, Pre26, Pre27}
+use Rattle.words.specs.declared.PreRule.the-variants.{Pre28}
 use Rattle.words.specs.declared.PreRule.the-variants.{Pre29, Pre30}
 use Rattle.words.specs.declared.Word.{Word}
-use Rattle.words.specs.declared.Word.the-variants.{Arithmetic, Boolean, Array, Command, Set, Flow, Implication, Precondition, Other}
+use Rattle.words.specs.declared.Word.the-variants.{Arithmetic, Boolean, Array, Command, Set, Flow, Implication}
+use Rattle.words.specs.declared.Word.the-variants.{Precondition, Other}
 
 abbrev pub operatorMeant : Operator → syntax.Operator
 operatorMeant Plus = syntax.plus

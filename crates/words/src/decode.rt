@@ -12,7 +12,8 @@ use super::Word;
 ghost use mathlib.Core.Path.{_≡_};
 ghost use Prim.Native.Nat.{_/_, _%_};
 ghost use Rattle.layout.specs.Bytes.{signed as signedOf};
-ghost use Rattle.words.specs.Decode.{within, operatorWord, comparisonWord, truthWord, arithmeticOf, booleanOf, arrayOf, commandOf};
+ghost use Rattle.words.specs.Decode.{within, operatorWord, comparisonWord, truthWord, arithmeticOf, booleanOf};
+ghost use Rattle.words.specs.Decode.{arrayOf, commandOf};
 ghost use Rattle.words.specs.Decode.{flowOf, setOf, preOf, evidenceOf, decodeOf};
 
 pub fn kind(word: u32) -> u32
@@ -74,7 +75,8 @@ fn bounded(word: Word, payload: u32, most: u32) -> Word
     if payload <= most { word } else { Word::Other }
 }
 
-fn arithmetic_word(kind: u32, payload: u32) -> Word
+// Kinds 1 to 4. A reader that is due a word of one group asks for that group alone.
+pub fn arithmetic_word(kind: u32, payload: u32) -> Word
     ensures { λ r. ⌜ r ≡ arithmeticOf kind payload ⌝ }
 {
     match kind {
@@ -90,7 +92,8 @@ fn arithmetic_word(kind: u32, payload: u32) -> Word
     }
 }
 
-fn boolean_word(kind: u32, payload: u32) -> Word
+// Kinds 8 to 12.
+pub fn boolean_word(kind: u32, payload: u32) -> Word
     ensures { λ r. ⌜ r ≡ booleanOf kind payload ⌝ }
 {
     match kind {
@@ -103,7 +106,8 @@ fn boolean_word(kind: u32, payload: u32) -> Word
     }
 }
 
-fn array_word(kind: u32, payload: u32) -> Word
+// Kinds 16 to 18.
+pub fn array_word(kind: u32, payload: u32) -> Word
     ensures { λ r. ⌜ r ≡ arrayOf kind payload ⌝ }
 {
     match kind {
@@ -114,7 +118,8 @@ fn array_word(kind: u32, payload: u32) -> Word
     }
 }
 
-fn command_word(kind: u32, payload: u32) -> Word
+// Kinds 24 to 31.
+pub fn command_word(kind: u32, payload: u32) -> Word
     ensures { λ r. ⌜ r ≡ commandOf kind payload ⌝ }
 {
     match kind {
@@ -198,7 +203,8 @@ fn pre_word(rule: u32) -> Word
     }
 }
 
-fn evidence_word(kind: u32, payload: u32) -> Word
+// Kinds 32 to 35.
+pub fn evidence_word(kind: u32, payload: u32) -> Word
     ensures { λ r. ⌜ r ≡ evidenceOf kind payload ⌝ }
 {
     match kind {

@@ -94,7 +94,7 @@ pub enum PreRule {
     Pre30,
 }
 
-// A word by its group. A set has its number of members, which the limits bound; any word that stands for nothing is Other.
+// A word by its group. A set has its number of members, which the limits bound; what stands for nothing is Other.
 pub enum Word {
     Arithmetic(ArithmeticWord),
     Boolean(BooleanWord),

@@ -1,7 +1,7 @@
 -- `implication::implies` meets its contract: the bytes lent are as many as the formula may take. Assumes nothing.
 use native.Mathlib.Omega.{arith}
 use borrow.Author.Needs.{needs}
-use Rattle.implication.proofs.Answers.{left-fits, right-fits}
+use Rattle.implication.proofs.Answers.{left-small, right-small}
 use Rattle.implication.proofs.implies.Statement.{statement}
 use Rattle.implication.proofs.implies.Tie as tie
 
@@ -24,9 +24,9 @@ pub implies-spec : {M : Type 1} → statement M
 implies-spec =
     tie.close
     (tie.spec
-    (λ c κs. let can = c .before .pre in (left-fits can, can .size))
+    (λ c κs. left-small (c .before .pre))
     (λ c. omega (arith, c .room .ensures .1))
-    (λ c κs. let can = c .before .before .pre in (right-fits can, can .size))
+    (λ c κs. right-small (c .before .before .pre))
     (λ c. omega (arith, c .room2 .ensures .1, c .before .room .ensures .1))
     (λ c. search needs)
     settle-requires

@@ -3,13 +3,14 @@ use mathlib.Core.Path.{_≡_, refl, sym, ap, _∙_}
 use mathlib.Core.List.{[], _∷_}
 use Prim.Native.Nat.{_+_, _≤_}
 use native.Mathlib.Omega.{arith}
-use borrow.Author.Needs.{needs}
 use borrow.Author.Tests.{not-true, not-false}
 use lib.ListN.{length, take, length-set}
-use Rattle.implication.specs.Sides.{sideRoom}
+use Rattle.implication.specs.declared.Condition.{Condition}
+use Rattle.implication.specs.declared.Condition.the-variants.{Passes, Fails}
+use Rattle.implication.specs.Sides.{resultOf, sideRoom, Implied}
 use Rattle.rules.specs.Condition.{test}
-use Rattle.implication.proofs.Answers.{first-can, left-full, second-can, right-full, count-few, is-formula, answered}
-use Rattle.implication.proofs.Answers.{begun, begun-start, begun-room, begun-length}
+use Rattle.implication.proofs.Answers.{first-can, left-full, second-can, right-full, count-few}
+use Rattle.implication.proofs.Answers.{is-formula, answered, begun, begun-start, begun-room, begun-length}
 use Rattle.implication.proofs.settle.Statement.{statement}
 use Rattle.implication.proofs.settle.Tie as tie
 
@@ -68,31 +69,25 @@ every-requires c κs =
       c .before .blocks2 .ensures .1,
     )
 
-returns-3 : tie.Need-returns-3
-unfolding test
-returns-3 c =
-    let at-every = c .before in
-    let at-few = at-every .before .before .before in
+-- the table's answer
+abbrev to-start : tie.After-every → tie.Start
+to-start c =
+    let at-few = c .before .before .before in
     let at-second = at-few .before .before .before in
-    let at-if = at-second .before .before .before .before in
-    let at-first = at-if .before .before .before in
-    let at-start = at-first .before .before .before .before .before .before in
-    answered (at-start .pre .0) (space at-start) (at-first .compile-side .ensures) (not-false _ (at-if .if1 .left))
-    (at-second .compile-side2 .ensures) (start at-start) (not-false _ (at-few .if2 .left))
-    (at-every .before .before .blocks2 .ensures .0) (at-every .every .ensures) (ap test (sym (c .if3 .taken)))
+    let at-first = at-second .before .before .before .before .before .before .before in
+    at-first .before .before .before .before .before .before
 
-returns-4 : tie.Need-returns-4
-unfolding test
-returns-4 c =
-    let at-every = c .before in
-    let at-few = at-every .before .before .before in
+answer : (c : tie.After-every) (r : Condition) → resultOf r ≡ test (c .every .result) →
+    let args = to-start c .args in Implied (args .w .now) (args .left) (args .right) (args .limit) r
+answer c r e =
+    let at-few = c .before .before .before in
     let at-second = at-few .before .before .before in
     let at-if = at-second .before .before .before .before in
     let at-first = at-if .before .before .before in
-    let at-start = at-first .before .before .before .before .before .before in
+    let at-start = to-start c in
     answered (at-start .pre .0) (space at-start) (at-first .compile-side .ensures) (not-false _ (at-if .if1 .left))
     (at-second .compile-side2 .ensures) (start at-start) (not-false _ (at-few .if2 .left))
-    (at-every .before .before .blocks2 .ensures .0) (at-every .every .ensures) (ap test (sym (c .if3 .left)))
+    (c .before .before .blocks2 .ensures .0) (c .every .ensures) e
 
 -- as many bytes as were lent, after the first side and after both
 same-length : tie.Need-same-length
@@ -126,6 +121,7 @@ same-length-4 c =
     begun-length (at-start .args .prog .now)
 
 pub settle-spec : {M : Type 1} → statement M
+unfolding test
 settle-spec = tie.close (tie.spec
     (λ c. omega (arith, c .before .before .pre .1))
     (λ c. simp length-set (omega (arith, c .before .before .pre .1)))
@@ -138,6 +134,6 @@ settle-spec = tie.close (tie.spec
     blocks-requires
     every-requires
     same-length-3
-    returns-3
+    (λ c. answer (c .before) Passes (sym (ap test (c .if3 .taken))))
     same-length-4
-    returns-4)
+    (λ c. answer (c .before) Fails (sym (ap test (c .if3 .left)))))

@@ -2,7 +2,8 @@
 use Prim.Native.Nat.{_-_}
 use native.Mathlib.Omega.{arith}
 use borrow.Author.Needs.{needs}
-use Rattle.implication.proofs.Walks.{Walk, walk-start, walk-end, walk-full, walk-space, walk-mark, walk-old, walk-new}
+use Rattle.implication.proofs.Walks.{Walk, walk-start, walk-end, walk-full, walk-space}
+use Rattle.implication.proofs.Walks.{walk-mark, walk-old, walk-new}
 use Rattle.implication.proofs.compile.compile.Statement.{statement}
 use Rattle.implication.proofs.compile.compile.Tie as tie
 
@@ -33,24 +34,26 @@ loop-again-2 c =
     let at-skip = c .before .before .before .before in
     let at-byte = at-skip .before .before in
     let at-test = at-byte .before .before in
-    walk-old (at-test .before .loop .inv) (at-test .loop-test .taken) (at-byte .byte .ensures) (at-skip .before .if1 .left)
-    (at-skip .skip .ensures) (c .before .find .ensures) (c .if2 .taken)
+    walk-old (at-test .before .loop .inv) (at-test .loop-test .taken) (at-byte .byte .ensures)
+    (at-skip .before .if1 .left) (at-skip .skip .ensures) (c .before .find .ensures) (c .if2 .taken)
 
 returns : tie.Need-returns Inv-loop μ-loop
 returns c =
     let at-skip = c .before .before .before .before .before in
     let at-byte = at-skip .before .before in
     let at-test = at-byte .before .before in
-    walk-full (at-test .before .loop .inv) (at-test .loop-test .taken) (at-byte .byte .ensures) (at-skip .before .if1 .left)
-    (at-skip .skip .ensures) (c .before .before .find .ensures) (c .before .if2 .left) (c .if3 .taken)
+    walk-full (at-test .before .loop .inv) (at-test .loop-test .taken) (at-byte .byte .ensures)
+    (at-skip .before .if1 .left) (at-skip .skip .ensures) (c .before .before .find .ensures) (c .before .if2 .left)
+    (c .if3 .taken)
 
 loop-again-3 : tie.Need-loop-again-3 Inv-loop μ-loop
 loop-again-3 c =
     let at-skip = c .before .before .before .before .before in
     let at-byte = at-skip .before .before in
     let at-test = at-byte .before .before in
-    walk-new (at-test .before .loop .inv) (at-test .loop-test .taken) (at-byte .byte .ensures) (at-skip .before .if1 .left)
-    (at-skip .skip .ensures) (c .before .before .find .ensures) (c .before .if2 .left) (c .if3 .left)
+    walk-new (at-test .before .loop .inv) (at-test .loop-test .taken) (at-byte .byte .ensures)
+    (at-skip .before .if1 .left) (at-skip .skip .ensures) (c .before .before .find .ensures) (c .before .if2 .left)
+    (c .if3 .left)
 
 -- there is room for a byte, by each branch
 space : tie.Need-slice-write-prog Inv-loop μ-loop
@@ -63,6 +66,12 @@ space-2 c = let at-test = c .before .before .before .before .before .before .bef
 space-3 : tie.Need-slice-write-prog-3 Inv-loop μ-loop
 space-3 c = let at-test = c .before .before .before .before .before .before .before .before .before in
     walk-space (at-test .before .loop .inv) (at-test .loop-test .taken)
+
+-- a known comparison's number is a byte
+old : tie.Need-cast-prog Inv-loop μ-loop
+old c =
+    let walk = c .before .before .before .before .before .before .before .before .before .loop .inv in
+    omega (arith, walk .within, walk .few)
 
 -- a new comparison's number is below 16
 fresh : tie.Need-element-write-starts Inv-loop μ-loop
@@ -101,7 +110,7 @@ compile-spec =
     (λ c. omega arith)
     (λ c κs. omega arith)
     find-requires
-    (λ c. let walk = c .before .before .before .before .before .before .before .before .before .loop .inv in omega (arith, walk .within, walk .few))
+    old
     space-2
     (λ c. let h = space-2 c in omega arith)
     less-2

@@ -1,7 +1,6 @@
 -- `implication::compile::compile_both` meets its contract: the first boolean's bytes, then the second's.
 -- Assumes nothing.
 use native.Mathlib.Omega.{arith}
-use borrow.Author.Needs.{needs}
 use borrow.Author.Tests.{not-true, not-false}
 use Rattle.implication.proofs.Pairs.{adds-none, adds-one, joint-and, can-first, can-second, same-first}
 use Rattle.implication.proofs.Pairs.{pair-full, pair-done}

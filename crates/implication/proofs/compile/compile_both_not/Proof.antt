@@ -1,7 +1,6 @@
 -- `implication::compile::compile_both_not` meets its contract: the first boolean's bytes, then not and the second's.
 -- Assumes nothing.
 use native.Mathlib.Omega.{arith}
-use borrow.Author.Needs.{needs}
 use borrow.Author.Tests.{not-true, not-false}
 use Rattle.implication.proofs.Pairs.{adds-one, joint-and-not, can-first, can-second, after-first, same-first}
 use Rattle.implication.proofs.Pairs.{pair-full, pair-done}
@@ -25,7 +24,9 @@ space : tie.Need-slice-write-prog-2
 space c =
     let at-compile = c .before .before .before in
     let pre = at-compile .before .before .before .before .before .before .pre in
-    let h = after-first (pre .2) (adds-one _ _ 18 (omega (arith, pre .2 .room))) (at-compile .compile .ensures) 1 (omega arith) in
+    let h =
+    after-first (pre .2) (adds-one _ _ 18 (omega (arith, pre .2 .room))) (at-compile .compile .ensures) 1
+    (omega arith) in
     omega arith
 
 compile-requires-2 : tie.Need-compile-requires-2

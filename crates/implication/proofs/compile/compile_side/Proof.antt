@@ -34,7 +34,8 @@ returns-2 c =
     let at-call = c .before .before in
     let at-side = at-call .before .before .before .before .before in
     side-done (at-side .s2 .given .1)
-    (compiles-as (λ χ x. record { levels = x .levels; stands = x .stands }) (omega arith) (at-call .compile-both .ensures))
+    (compiles-as (λ χ x. record { levels = x .levels; stands = x .stands }) (omega arith)
+    (at-call .compile-both .ensures))
 
 returns-3 : tie.Need-returns-3
 returns-3 c =

@@ -24,7 +24,8 @@ same-range-requires c κs =
 returns : tie.Need-returns Inv-loop μ-loop
 returns c =
     let at-test = c .before .before .before .before in
-    missed-here (at-test .before .loop .inv .0) (c .before .same-range .ensures) (at-test .loop-test .taken) (c .if1 .taken)
+    missed-here (at-test .before .loop .inv .0) (c .before .same-range .ensures) (at-test .loop-test .taken)
+    (c .if1 .taken)
 
 loop-again : tie.Need-loop-again Inv-loop μ-loop
 loop-again c =

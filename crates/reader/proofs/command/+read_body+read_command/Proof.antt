@@ -19,6 +19,7 @@ use Rattle.reader.proofs.command.read_command.Kinds as read-command-kin
 use Rattle.reader.proofs.command.+read_body+read_command.Lts-read_command as read-command-lts
 use Rattle.reader.proofs.expression.read_operand.Reads as read-operand-reads
 use Rattle.reader.proofs.word.word_due.Reads as word-due-reads
+use Rattle.words.proofs.decode.command_word.Reads as command-word-reads
 use Rattle.reader.proofs.command.+read_body+read_command.{statement}
 use Rattle.reader.proofs.command.+read_body+read_command.Tie.{close}
 
@@ -62,6 +63,8 @@ pub +read-body+read-command-spec : {M : Type 1} → statement M
     λ t. read-command-lts.spec (
       word-due-reads.Asked,
       word-due-reads.Learnt,
+      command-word-reads.Asked,
+      command-word-reads.Learnt,
       read-body-below t,
       read-body.Post,
       read-operand-reads.Asked,
@@ -72,13 +75,18 @@ pub +read-body+read-command-spec : {M : Type 1} → statement M
     (λ c κs. search needs)
     (λ c. search needs)
     (λ c. search needs)
+    (λ c κs. search needs)
     (λ c. search needs)
     (λ c. search needs)
     (λ c. search needs)
-    (λ c κs. let a = c .before .before .before .before .before .before .before .before .before .before .args in
-    let h = room (a .w .now) (a .left) (a .at) _ _ _ _ (c .before .before .before .before .before .before .before .before .word-due .ensures) (c .before .before .before .before .before .before .d2 .given .1) in omega arith)
-    (λ c κs. let a = c .before .before .before .before .before .before .before .before .before .before .before .args in
-    let h = room (a .w .now) (a .left) (a .at) _ _ _ _ (c .before .before .before .before .before .before .before .before .before .word-due .ensures) (c .before .before .before .before .before .before .before .d2 .given .1) in omega arith)
+    (λ c κs. let m = c .before .before .before .before .before .before .before in
+    let a = m .before .before .before .before .args in
+    let h = room (a .w .now) (a .left) (a .at) (m .before .before .word-due .ensures) (m .d2 .given .1) in
+    omega arith)
+    (λ c κs. let m = c .before .before .before .before .before .before .before .before in
+    let a = m .before .before .before .before .args in
+    let h = room (a .w .now) (a .left) (a .at) (m .before .before .word-due .ensures) (m .d2 .given .1) in
+    omega arith)
     (λ c. search needs)
     (λ c κs. search needs)
     (λ c. search needs)
@@ -87,51 +95,90 @@ pub +read-body+read-command-spec : {M : Type 1} → statement M
     (λ c κs. search needs)
     (λ c. search needs)
     (λ c κs. search needs)
-    (λ c κs. let a = c .before .before .before .before .before .before .before .before .before .before .before .args in
-    let h = room (a .w .now) (a .left) (a .at) _ _ _ _ (c .before .before .before .before .before .before .before .before .before .word-due .ensures) (c .before .before .before .before .before .before .before .d2 .given .1) in omega arith)
-    (λ c κs. let a = c .before .before .before .before .before .before .before .before .before .before .before .before .args in
-    let h = room (a .w .now) (a .left) (a .at) _ _ _ _ (c .before .before .before .before .before .before .before .before .before .before .word-due .ensures) (c .before .before .before .before .before .before .before .before .d2 .given .1) in omega arith)
+    (λ c κs. let m = c .before .before .before .before .before .before .before .before in
+    let a = m .before .before .before .before .args in
+    let h = room (a .w .now) (a .left) (a .at) (m .before .before .word-due .ensures) (m .d2 .given .1) in
+    omega arith)
+    (λ c κs. let m = c .before .before .before .before .before .before .before .before .before in
+    let a = m .before .before .before .before .args in
+    let h = room (a .w .now) (a .left) (a .at) (m .before .before .word-due .ensures) (m .d2 .given .1) in
+    omega arith)
     (λ c. search needs)
     (λ c κs. search needs)
-    (λ c κs. let a = c .before .before .before .before .before .before .before .before .before .before .before .args in
-    let h = room (a .w .now) (a .left) (a .at) _ _ _ _ (c .before .before .before .before .before .before .before .before .before .word-due .ensures) (c .before .before .before .before .before .before .before .d2 .given .1) in omega arith)
+    (λ c κs. let m = c .before .before .before .before .before .before .before .before in
+    let a = m .before .before .before .before .args in
+    let h = room (a .w .now) (a .left) (a .at) (m .before .before .word-due .ensures) (m .d2 .given .1) in
+    omega arith)
     (λ c. search needs)
-    (λ c κs. let a = c .before .before .before .before .before .before .before .before .before .before .args in
-    let h = room (a .w .now) (a .left) (a .at) _ _ _ _ (c .before .before .before .before .before .before .before .before .word-due .ensures) (c .before .before .before .before .before .before .d2 .given .1) in omega arith)
-    (λ c. let a = c .before .before .before .before .before .args in stop (command-goes (a .w .now) (a .left) (a .at)) _ (c .before .before .before .word-due .ensures) _ _ (c .before .d .given .1))
-    (λ c. let a = c .before .before .before .before .before .before .before .before .before .before .args in
-    arm (command-goes (a .w .now) (a .left) (a .at)) _ (c .before .before .before .before .before .before .before .before .word-due .ensures) _ _ _ _ _ (c .before .before .before .before .before .before .d2 .given .1)
-    (c .before .before .before .word .given .1 ∙ ap Word.Command (c .enum-told .given .1))
+    (λ c κs. let m = c .before .before .before .before .before .before .before in
+    let a = m .before .before .before .before .args in
+    let h = room (a .w .now) (a .left) (a .at) (m .before .before .word-due .ensures) (m .d2 .given .1) in
+    omega arith)
+    (λ c. let m = c .before in
+    let a = m .before .before .before .before .args in
+    stop (command-goes (a .w .now) (a .left) (a .at)) (m .before .before .word-due .ensures)
+    (m .d .given .1))
+    (λ c. let e = c in
+    let m = e .before .before .before .before .before .before .before in
+    let a = m .before .before .before .before .args in
+    arm (command-goes (a .w .now) (a .left) (a .at)) (m .before .before .word-due .ensures)
+    (m .d2 .given .1) (e .before .before .before .before .before .command-word .ensures)
+    (e .before .before .before .word .given .1 ∙ ap Word.Command (e .enum-told .given .1))
     refl)
-    (λ c. let a = c .before .before .before .before .before .before .before .before .before .before .before .before .args in
-    arm (command-goes (a .w .now) (a .left) (a .at)) _ (c .before .before .before .before .before .before .before .before .before .before .word-due .ensures) _ _ _ _ _ (c .before .before .before .before .before .before .before .before .d2 .given .1)
-    (c .before .before .before .before .before .word .given .1 ∙ ap Word.Command (c .before .before .enum-told2 .given .1))
-    (onto _ _ _ _ _ (c .read-body2 .ensures) (onto _ _ _ _ _ (c .before .read-body .ensures) refl)))
-    (λ c. let a = c .before .before .before .before .before .before .before .before .before .before .before .args in
-    arm (command-goes (a .w .now) (a .left) (a .at)) _ (c .before .before .before .before .before .before .before .before .before .word-due .ensures) _ _ _ _ _ (c .before .before .before .before .before .before .before .d2 .given .1)
-    (c .before .before .before .before .word .given .1 ∙ ap Word.Command (c .before .enum-told3 .given .1))
-    (onto _ _ _ _ _ (c .read-operand .ensures) refl))
-    (λ c. let a = c .before .before .before .before .before .before .before .before .before .before .before .args in
-    arm (command-goes (a .w .now) (a .left) (a .at)) _ (c .before .before .before .before .before .before .before .before .before .word-due .ensures) _ _ _ _ _ (c .before .before .before .before .before .before .before .d2 .given .1)
-    (c .before .before .before .before .word .given .1 ∙ ap Word.Command (c .before .enum-told4 .given .1))
-    (onto _ _ _ _ _ (c .read-operand2 .ensures) refl))
-    (λ c. let a = c .before .before .before .before .before .before .before .before .before .before .before .args in
-    arm (command-goes (a .w .now) (a .left) (a .at)) _ (c .before .before .before .before .before .before .before .before .before .word-due .ensures) _ _ _ _ _ (c .before .before .before .before .before .before .before .d2 .given .1)
-    (c .before .before .before .before .word .given .1 ∙ ap Word.Command (c .before .enum-told5 .given .1))
-    (onto _ _ _ _ _ (c .read-operand3 .ensures) refl))
-    (λ c. let a = c .before .before .before .before .before .before .before .before .before .before .before .before .before .args in
-    arm (command-goes (a .w .now) (a .left) (a .at)) _ (c .before .before .before .before .before .before .before .before .before .before .before .word-due .ensures) _ _ _ _ _ (c .before .before .before .before .before .before .before .before .before .d2 .given .1)
-    (c .before .before .before .before .before .before .word .given .1 ∙ ap Word.Command (c .before .before .before .enum-told6 .given .1))
-    (onto _ _ _ _ _ (c .read-body4 .ensures) (onto _ _ _ _ _ (c .before .read-body3 .ensures) (onto _ _ _ _ _ (c .before .before .read-operand4 .ensures) refl))))
-    (λ c. let a = c .before .before .before .before .before .before .before .before .before .before .before .before .args in
-    arm (command-goes (a .w .now) (a .left) (a .at)) _ (c .before .before .before .before .before .before .before .before .before .before .word-due .ensures) _ _ _ _ _ (c .before .before .before .before .before .before .before .before .d2 .given .1)
-    (c .before .before .before .before .before .word .given .1 ∙ ap Word.Command (c .before .before .enum-told7 .given .1))
-    (onto _ _ _ _ _ (c .read-body5 .ensures) (onto _ _ _ _ _ (c .before .read-operand5 .ensures) refl)))
-    (λ c. let a = c .before .before .before .before .before .before .before .before .before .before .before .args in
-    arm (command-goes (a .w .now) (a .left) (a .at)) _ (c .before .before .before .before .before .before .before .before .before .word-due .ensures) _ _ _ _ _ (c .before .before .before .before .before .before .before .d2 .given .1)
-    (c .before .before .before .before .word .given .1 ∙ ap Word.Command (c .before .enum-told8 .given .1))
-    (onto _ _ _ _ _ (c .read-body6 .ensures) refl))
-    (λ c. let a = c .before .before .before .before .before .before .args in
-    none-arm (command-goes (a .w .now) (a .left) (a .at)) _ (c .before .before .before .before .word-due .ensures) _ _ _ (c .before .before .d2 .given .1)
-    (not-command (expression (a .w .now) (c .before .before .d2 .given .0 .1 .1 .0)) (command (a .w .now) (c .before .before .d2 .given .0 .1 .1 .0))
-    (c .before .before .d2 .given .0 .0) (c .match2 .keys2)))
+    (λ c. let e = c .before .before in
+    let m = e .before .before .before .before .before .before .before in
+    let a = m .before .before .before .before .args in
+    arm (command-goes (a .w .now) (a .left) (a .at)) (m .before .before .word-due .ensures)
+    (m .d2 .given .1) (e .before .before .before .before .before .command-word .ensures)
+    (e .before .before .before .word .given .1 ∙ ap Word.Command (e .enum-told2 .given .1))
+    (onto _ _ _ (c .read-body2 .ensures) (onto _ _ _ (c .before .read-body .ensures) refl)))
+    (λ c. let e = c .before in
+    let m = e .before .before .before .before .before .before .before in
+    let a = m .before .before .before .before .args in
+    arm (command-goes (a .w .now) (a .left) (a .at)) (m .before .before .word-due .ensures)
+    (m .d2 .given .1) (e .before .before .before .before .before .command-word .ensures)
+    (e .before .before .before .word .given .1 ∙ ap Word.Command (e .enum-told3 .given .1))
+    (onto _ _ _ (c .read-operand .ensures) refl))
+    (λ c. let e = c .before in
+    let m = e .before .before .before .before .before .before .before in
+    let a = m .before .before .before .before .args in
+    arm (command-goes (a .w .now) (a .left) (a .at)) (m .before .before .word-due .ensures)
+    (m .d2 .given .1) (e .before .before .before .before .before .command-word .ensures)
+    (e .before .before .before .word .given .1 ∙ ap Word.Command (e .enum-told4 .given .1))
+    (onto _ _ _ (c .read-operand2 .ensures) refl))
+    (λ c. let e = c .before in
+    let m = e .before .before .before .before .before .before .before in
+    let a = m .before .before .before .before .args in
+    arm (command-goes (a .w .now) (a .left) (a .at)) (m .before .before .word-due .ensures)
+    (m .d2 .given .1) (e .before .before .before .before .before .command-word .ensures)
+    (e .before .before .before .word .given .1 ∙ ap Word.Command (e .enum-told5 .given .1))
+    (onto _ _ _ (c .read-operand3 .ensures) refl))
+    (λ c. let e = c .before .before .before in
+    let m = e .before .before .before .before .before .before .before in
+    let a = m .before .before .before .before .args in
+    arm (command-goes (a .w .now) (a .left) (a .at)) (m .before .before .word-due .ensures)
+    (m .d2 .given .1) (e .before .before .before .before .before .command-word .ensures)
+    (e .before .before .before .word .given .1 ∙ ap Word.Command (e .enum-told6 .given .1))
+    (onto _ _ _ (c .read-body4 .ensures)
+    (onto _ _ _ (c .before .read-body3 .ensures)
+    (onto _ _ _ (c .before .before .read-operand4 .ensures) refl))))
+    (λ c. let e = c .before .before in
+    let m = e .before .before .before .before .before .before .before in
+    let a = m .before .before .before .before .args in
+    arm (command-goes (a .w .now) (a .left) (a .at)) (m .before .before .word-due .ensures)
+    (m .d2 .given .1) (e .before .before .before .before .before .command-word .ensures)
+    (e .before .before .before .word .given .1 ∙ ap Word.Command (e .enum-told7 .given .1))
+    (onto _ _ _ (c .read-body5 .ensures) (onto _ _ _ (c .before .read-operand5 .ensures) refl)))
+    (λ c. let e = c .before in
+    let m = e .before .before .before .before .before .before .before in
+    let a = m .before .before .before .before .args in
+    arm (command-goes (a .w .now) (a .left) (a .at)) (m .before .before .word-due .ensures)
+    (m .d2 .given .1) (e .before .before .before .before .before .command-word .ensures)
+    (e .before .before .before .word .given .1 ∙ ap Word.Command (e .enum-told8 .given .1))
+    (onto _ _ _ (c .read-body6 .ensures) refl))
+    (λ c. let m = c .before .before .before in
+    let a = m .before .before .before .before .args in
+    let b = m .d2 .given .0 .1 .1 .1 .0 in
+    none-arm (command-goes (a .w .now) (a .left) (a .at)) (m .before .before .word-due .ensures)
+    (m .d2 .given .1) (c .before .command-word .ensures)
+    (not-command (expression (a .w .now) b) (command (a .w .now) b) (c .before .command-word .result) (c .match2 .keys2)))

@@ -1,9 +1,8 @@
--- The readers of evidence meet their contracts: each goes by the word that is due and by its rule's parts, and the levels
+-- The readers of evidence meet their contracts: each goes by the word that is due and by its rule's parts. The levels
 -- left fall.
 -- Assumes nothing.
 use borrow.Author.Needs.{needs}
 use native.Mathlib.Omega.{arith}
-use mathlib.Core.Path.{_∙_}
 use Prim.Native.Nat.{ℕ, _<_, _+_, _*_}
 use Rattle.language.specs.Syntax.{Boolean}
 use Rattle.layout.specs.Read.{expression, command, set}
@@ -37,6 +36,7 @@ use Rattle.reader.proofs.table.flow_parts.Reads as flow-parts-reads
 use Rattle.reader.proofs.table.implication_parts.Reads as implication-parts-reads
 use Rattle.reader.proofs.table.pre_parts.Reads as pre-parts-reads
 use Rattle.reader.proofs.word.word_due.Reads as word-due-reads
+use Rattle.words.proofs.decode.evidence_word.Reads as evidence-word-reads
 use Rattle.reader.proofs.evidence.+read_flow+read_part+read_parts+read_pre+read_set_evidence.{
   statement,
 }
@@ -115,6 +115,8 @@ pub +read-flow+read-part+read-parts+read-pre+read-set-evidence-spec : {M : Type 
     (λ t. read-flow-lts.spec (
       word-due-reads.Asked,
       word-due-reads.Learnt,
+      evidence-word-reads.Asked,
+      evidence-word-reads.Learnt,
       flow-parts-reads.Asked,
       flow-parts-reads.Learnt,
       read-parts-below t,
@@ -125,19 +127,32 @@ pub +read-flow+read-part+read-parts+read-pre+read-set-evidence-spec : {M : Type 
     (λ c κs. search needs)
     (λ c. search needs)
     (λ c. search needs)
+    (λ c κs. search needs)
     (λ c. search needs)
     (λ c κs. search needs)
-    (λ c κs. let a = c .before .before .before .before .before .before .before .before .before .args in
-    let h = room (a .w .now) (a .left) (a .at) _ _ _ _ (c .before .before .before .before .before .before .before .word-due .ensures) (c .before .before .before .before .before .d2 .given .1) in omega arith)
-    (λ c. let a = c .before .before .before .before .before .args in stop (flow-goes (limitsOf (a .limits)) (a .w .now) (a .left) (a .at)) _ (c .before .before .before .word-due .ensures) _ _ (c .before .d .given .1))
-    (λ c. let a = c .before .before .before .before .before .before .before .before .before .before .args in
-    arm (flow-goes (limitsOf (a .limits)) (a .w .now) (a .left) (a .at)) _ (c .before .before .before .before .before .before .before .before .word-due .ensures) _ _ _ _ _ (c .before .before .before .before .before .before .d2 .given .1) (c .before .before .before .word .given .1)
-    (rw (c .before .flow-parts .ensures) at (c .read-parts .ensures)
-    ∙ flow-parts-walk (limitsOf (a .limits)) (a .w .now) _ (a .at) _ (c .before .before .before .word .given .0 .0)))
-    (λ c. let a = c .before .before .before .before .before .before .args in let w = a .w .now in let b = c .before .before .d2 .given .0 .1 .1 .0 in let l = limitsOf (a .limits) in
-    none-arm (flow-goes (limitsOf (a .limits)) (a .w .now) (a .left) (a .at)) _ (c .before .before .before .before .word-due .ensures) _ _ _ (c .before .before .d2 .given .1)
-    (not-flow (expression w b Boolean) (command w b) (set l w b) (preEvidence w b) (setEvidence l w b) (flowEvidence l w b) (a .at)
-    (c .before .before .d2 .given .0 .0) (c .match2 .keys2))))
+    (λ c κs. let m = c .before .before .before .before .before .before in
+    let a = m .before .before .before .before .args in
+    let h = room (a .w .now) (a .left) (a .at) (m .before .before .word-due .ensures) (m .d2 .given .1) in
+    omega arith)
+    (λ c. let m = c .before in
+    let a = m .before .before .before .before .args in
+    stop (flow-goes (a .w .now) (limitsOf (a .limits)) (a .left) (a .at)) (m .before .before .word-due .ensures)
+    (m .d .given .1))
+    (λ c. let m = c .before .before .before .before .before .before .before in
+    let a = m .before .before .before .before .args in
+    let r = c .before .before .before .word .given in
+    arm (flow-goes (a .w .now) (limitsOf (a .limits)) (a .left) (a .at)) (m .before .before .word-due .ensures)
+    (m .d2 .given .1) (c .before .before .before .before .before .evidence-word .ensures) (r .1)
+    (flow-parts-walk (limitsOf (a .limits)) (a .w .now) _ (a .at) _ _ (c .read-parts .ensures)
+    (r .0 .0) (c .before .flow-parts .ensures)))
+    (λ c. let m = c .before .before .before in
+    let a = m .before .before .before .before .args in
+    let w = a .w .now in let l = limitsOf (a .limits) in
+    let b = m .d2 .given .0 .1 .1 .1 .0 in
+    none-arm (flow-goes (a .w .now) (limitsOf (a .limits)) (a .left) (a .at)) (m .before .before .word-due .ensures)
+    (m .d2 .given .1) (c .before .evidence-word .ensures)
+    (not-flow (expression w b Boolean) (command w b) (set l w b) (preEvidence w b) (setEvidence l w b)
+    (flowEvidence l w b) (a .at) (c .before .evidence-word .result) (c .match2 .keys2))))
     (λ t. read-part-lts.spec (
       read-boolean-reads.Asked,
       read-boolean-reads.Learnt,
@@ -170,32 +185,52 @@ pub +read-flow+read-part+read-parts+read-pre+read-set-evidence-spec : {M : Type 
     (λ c κs. omega arith)
     (λ c. search needs)
     (λ c. rw (c .before .before .before .from .given .1, c .enum-told .given .1))
-    (λ c. rw (c .before .before .before .before .from .given .1, c .before .enum-told2 .given .1) (c .read-boolean .ensures))
-    (λ c. rw (c .before .before .before .before .from .given .1, c .before .enum-told3 .given .1) (c .read-command .ensures))
-    (λ c. rw (c .before .before .before .before .from .given .1, c .before .enum-told4 .given .1) (c .read-set .ensures))
-    (λ c. rw (c .before .before .before .before .from .given .1, c .before .enum-told5 .given .1) (c .read-pre .ensures))
-    (λ c. rw (c .before .before .before .before .from .given .1, c .before .enum-told6 .given .1) (c .read-set-evidence .ensures))
-    (λ c. rw (c .before .before .before .before .from .given .1, c .before .enum-told7 .given .1) (c .read-flow .ensures))
+    (λ c. let m = c .before .before .before .before in
+    rw (m .from .given .1, c .before .enum-told2 .given .1) (c .read-boolean .ensures))
+    (λ c. let m = c .before .before .before .before in
+    rw (m .from .given .1, c .before .enum-told3 .given .1) (c .read-command .ensures))
+    (λ c. let m = c .before .before .before .before in
+    rw (m .from .given .1, c .before .enum-told4 .given .1) (c .read-set .ensures))
+    (λ c. let m = c .before .before .before .before in
+    rw (m .from .given .1, c .before .enum-told5 .given .1) (c .read-pre .ensures))
+    (λ c. let m = c .before .before .before .before in
+    rw (m .from .given .1, c .before .enum-told6 .given .1) (c .read-set-evidence .ensures))
+    (λ c. let m = c .before .before .before .before in
+    rw (m .from .given .1, c .before .enum-told7 .given .1) (c .read-flow .ensures))
     (λ c. rw (c .enum-told8 .given .1)))
     (λ t. read-parts-lts.spec
     (read-part-below t, read-part.Post)
     (read-parts-at t)
     read-parts.Post
+    (λ c. search needs)
+    (λ c. search needs)
+    (λ c κs. omega arith)
+    (λ c κs. omega arith)
+    (λ c κs. omega arith)
+    (λ c. search needs)
     (λ c κs. omega arith)
     (λ c κs. omega arith)
     (λ c κs. omega arith)
     (λ c κs. omega arith)
     (λ c κs. omega arith)
     (λ c κs. omega arith)
-    (λ c. more _ _ _ _ (c .read-part6 .ensures)
-    (more _ _ _ _ (c .before .read-part5 .ensures)
-    (more _ _ _ _ (c .before .before .read-part4 .ensures)
-    (more _ _ _ _ (c .before .before .before .read-part3 .ensures)
-    (more _ _ _ _ (c .before .before .before .before .read-part2 .ensures)
-    (c .before .before .before .before .before .read-part .ensures)))))))
+    (λ c. rw (c .enum-told .given .1))
+    (λ c. rw (c .before .before .before .before .parts .given .1)
+    (more _ (c .read-part3 .ensures)
+    (more _ (c .before .read-part2 .ensures)
+    (c .before .before .read-part .ensures))))
+    (λ c. rw (c .before .before .before .before .before .before .before .parts2 .given .1)
+    (more _ (c .read-part9 .ensures)
+    (more _ (c .before .read-part8 .ensures)
+    (more _ (c .before .before .read-part7 .ensures)
+    (more _ (c .before .before .before .read-part6 .ensures)
+    (more _ (c .before .before .before .before .read-part5 .ensures)
+    (c .before .before .before .before .before .read-part4 .ensures))))))))
     (λ t. read-pre-lts.spec (
       word-due-reads.Asked,
       word-due-reads.Learnt,
+      evidence-word-reads.Asked,
+      evidence-word-reads.Learnt,
       pre-parts-reads.Asked,
       pre-parts-reads.Learnt,
       read-parts-below t,
@@ -206,22 +241,36 @@ pub +read-flow+read-part+read-parts+read-pre+read-set-evidence-spec : {M : Type 
     (λ c κs. search needs)
     (λ c. search needs)
     (λ c. search needs)
+    (λ c κs. search needs)
     (λ c. search needs)
     (λ c κs. search needs)
-    (λ c κs. let a = c .before .before .before .before .before .before .before .before .before .args in
-    let h = room (a .w .now) (a .left) (a .at) _ _ _ _ (c .before .before .before .before .before .before .before .word-due .ensures) (c .before .before .before .before .before .d2 .given .1) in omega arith)
-    (λ c. let a = c .before .before .before .before .before .args in stop (pre-goes (a .w .now) (a .left) (a .at)) _ (c .before .before .before .word-due .ensures) _ _ (c .before .d .given .1))
-    (λ c. let a = c .before .before .before .before .before .before .before .before .before .before .args in
-    arm (pre-goes (a .w .now) (a .left) (a .at)) _ (c .before .before .before .before .before .before .before .before .word-due .ensures) _ _ _ _ _ (c .before .before .before .before .before .before .d2 .given .1) (c .before .before .before .word .given .1)
-    (rw (c .before .pre-parts .ensures) at (c .read-parts .ensures)
-    ∙ pre-parts-walk (limitsOf (a .limits)) (a .w .now) _ (a .at) _ (c .before .before .before .word .given .0 .0)))
-    (λ c. let a = c .before .before .before .before .before .before .args in let w = a .w .now in let b = c .before .before .d2 .given .0 .1 .1 .0 in
-    none-arm (pre-goes (a .w .now) (a .left) (a .at)) _ (c .before .before .before .before .word-due .ensures) _ _ _ (c .before .before .d2 .given .1)
-    (not-pre (expression w b Boolean) (command w b) (preEvidence w b) (a .at)
-    (c .before .before .d2 .given .0 .0) (c .match2 .keys2))))
+    (λ c κs. let m = c .before .before .before .before .before .before in
+    let a = m .before .before .before .before .args in
+    let h = room (a .w .now) (a .left) (a .at) (m .before .before .word-due .ensures) (m .d2 .given .1) in
+    omega arith)
+    (λ c. let m = c .before in
+    let a = m .before .before .before .before .args in
+    stop (pre-goes (a .w .now) (a .left) (a .at)) (m .before .before .word-due .ensures)
+    (m .d .given .1))
+    (λ c. let m = c .before .before .before .before .before .before .before in
+    let a = m .before .before .before .before .args in
+    let r = c .before .before .before .word .given in
+    arm (pre-goes (a .w .now) (a .left) (a .at)) (m .before .before .word-due .ensures)
+    (m .d2 .given .1) (c .before .before .before .before .before .evidence-word .ensures) (r .1)
+    (pre-parts-walk (limitsOf (a .limits)) (a .w .now) _ (a .at) _ _ (c .read-parts .ensures)
+    (r .0 .0) (c .before .pre-parts .ensures)))
+    (λ c. let m = c .before .before .before in
+    let a = m .before .before .before .before .args in
+    let w = a .w .now in
+    let b = m .d2 .given .0 .1 .1 .1 .0 in
+    none-arm (pre-goes (a .w .now) (a .left) (a .at)) (m .before .before .word-due .ensures)
+    (m .d2 .given .1) (c .before .evidence-word .ensures)
+    (not-pre (expression w b Boolean) (command w b) (preEvidence w b) (a .at) (c .before .evidence-word .result) (c .match2 .keys2))))
     λ t. read-set-evidence-lts.spec (
       word-due-reads.Asked,
       word-due-reads.Learnt,
+      evidence-word-reads.Asked,
+      evidence-word-reads.Learnt,
       implication-parts-reads.Asked,
       implication-parts-reads.Learnt,
       read-parts-below t,
@@ -232,16 +281,28 @@ pub +read-flow+read-part+read-parts+read-pre+read-set-evidence-spec : {M : Type 
     (λ c κs. search needs)
     (λ c. search needs)
     (λ c. search needs)
+    (λ c κs. search needs)
     (λ c. search needs)
     (λ c κs. search needs)
-    (λ c κs. let a = c .before .before .before .before .before .before .before .before .before .args in
-    let h = room (a .w .now) (a .left) (a .at) _ _ _ _ (c .before .before .before .before .before .before .before .word-due .ensures) (c .before .before .before .before .before .d2 .given .1) in omega arith)
-    (λ c. let a = c .before .before .before .before .before .args in stop (implication-goes (limitsOf (a .limits)) (a .w .now) (a .left) (a .at)) _ (c .before .before .before .word-due .ensures) _ _ (c .before .d .given .1))
-    (λ c. let a = c .before .before .before .before .before .before .before .before .before .before .args in
-    arm (implication-goes (limitsOf (a .limits)) (a .w .now) (a .left) (a .at)) _ (c .before .before .before .before .before .before .before .before .word-due .ensures) _ _ _ _ _ (c .before .before .before .before .before .before .d2 .given .1) (c .before .before .before .word .given .1)
-    (rw (c .before .implication-parts .ensures) at (c .read-parts .ensures)
-    ∙ implication-parts-walk (limitsOf (a .limits)) (a .w .now) _ (a .at) _ (c .before .before .before .word .given .0 .0)))
-    (λ c. let a = c .before .before .before .before .before .before .args in let w = a .w .now in let b = c .before .before .d2 .given .0 .1 .1 .0 in let l = limitsOf (a .limits) in
-    none-arm (implication-goes (limitsOf (a .limits)) (a .w .now) (a .left) (a .at)) _ (c .before .before .before .before .word-due .ensures) _ _ _ (c .before .before .d2 .given .1)
-    (not-implication (set l w b) (setEvidence l w b) (a .at)
-    (c .before .before .d2 .given .0 .0) (c .match2 .keys2)))
+    (λ c κs. let m = c .before .before .before .before .before .before in
+    let a = m .before .before .before .before .args in
+    let h = room (a .w .now) (a .left) (a .at) (m .before .before .word-due .ensures) (m .d2 .given .1) in
+    omega arith)
+    (λ c. let m = c .before in
+    let a = m .before .before .before .before .args in
+    stop (implication-goes (a .w .now) (limitsOf (a .limits)) (a .left) (a .at)) (m .before .before .word-due .ensures)
+    (m .d .given .1))
+    (λ c. let m = c .before .before .before .before .before .before .before in
+    let a = m .before .before .before .before .args in
+    let r = c .before .before .before .word .given in
+    arm (implication-goes (a .w .now) (limitsOf (a .limits)) (a .left) (a .at)) (m .before .before .word-due .ensures)
+    (m .d2 .given .1) (c .before .before .before .before .before .evidence-word .ensures) (r .1)
+    (implication-parts-walk (limitsOf (a .limits)) (a .w .now) _ (a .at) _ _ (c .read-parts .ensures)
+    (r .0 .0) (c .before .implication-parts .ensures)))
+    (λ c. let m = c .before .before .before in
+    let a = m .before .before .before .before .args in
+    let w = a .w .now in let l = limitsOf (a .limits) in
+    let b = m .d2 .given .0 .1 .1 .1 .0 in
+    none-arm (implication-goes (a .w .now) (limitsOf (a .limits)) (a .left) (a .at)) (m .before .before .word-due .ensures)
+    (m .d2 .given .1) (c .before .evidence-word .ensures)
+    (not-implication (set l w b) (setEvidence l w b) (a .at) (c .before .evidence-word .result) (c .match2 .keys2)))

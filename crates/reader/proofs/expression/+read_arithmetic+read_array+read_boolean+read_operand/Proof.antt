@@ -25,6 +25,9 @@ use Rattle.reader.proofs.expression.read_operand.Reads as read-operand
 use Rattle.reader.proofs.expression.read_operand.Kinds as read-operand-kinds
 use Rattle.reader.proofs.expression.+read_arithmetic+read_array+read_boolean+read_operand.Lts-read_operand as read-operand-lts
 use Rattle.reader.proofs.word.word_due.Reads as word-due-reads
+use Rattle.words.proofs.decode.arithmetic_word.Reads as arithmetic-word-reads
+use Rattle.words.proofs.decode.array_word.Reads as array-word-reads
+use Rattle.words.proofs.decode.boolean_word.Reads as boolean-word-reads
 use Rattle.reader.proofs.expression.+read_arithmetic+read_array+read_boolean+read_operand.{
   statement,
 }
@@ -102,6 +105,8 @@ pub +read-arithmetic+read-array+read-boolean+read-operand-spec : {M : Type 1} �
     (λ t. read-arithmetic-lts.spec (
       word-due-reads.Asked,
       word-due-reads.Learnt,
+      arithmetic-word-reads.Asked,
+      arithmetic-word-reads.Learnt,
       read-operand-below t,
       read-operand.Post,
     )
@@ -110,42 +115,71 @@ pub +read-arithmetic+read-array+read-boolean+read-operand-spec : {M : Type 1} �
     (λ c κs. search needs)
     (λ c. search needs)
     (λ c. search needs)
+    (λ c κs. search needs)
     (λ c. search needs)
     (λ c. search needs)
     (λ c. search needs)
     (λ c. search needs)
-    (λ c κs. let a = c .before .before .before .before .before .before .before .before .before .before .args in
-    let h = room (a .w .now) (a .left) (a .at) _ _ _ _ (c .before .before .before .before .before .before .before .before .word-due .ensures) (c .before .before .before .before .before .before .d2 .given .1) in omega arith)
-    (λ c κs. let a = c .before .before .before .before .before .before .before .before .before .before .before .args in
-    let h = room (a .w .now) (a .left) (a .at) _ _ _ _ (c .before .before .before .before .before .before .before .before .before .word-due .ensures) (c .before .before .before .before .before .before .before .d2 .given .1) in omega arith)
+    (λ c κs. let m = c .before .before .before .before .before .before .before in
+    let a = m .before .before .before .before .args in
+    let h = room (a .w .now) (a .left) (a .at) (m .before .before .word-due .ensures) (m .d2 .given .1) in
+    omega arith)
+    (λ c κs. let m = c .before .before .before .before .before .before .before .before in
+    let a = m .before .before .before .before .args in
+    let h = room (a .w .now) (a .left) (a .at) (m .before .before .word-due .ensures) (m .d2 .given .1) in
+    omega arith)
     (λ c. search needs)
-    (λ c κs. let a = c .before .before .before .before .before .before .before .before .before .before .args in
-    let h = room (a .w .now) (a .left) (a .at) _ _ _ _ (c .before .before .before .before .before .before .before .before .word-due .ensures) (c .before .before .before .before .before .before .d2 .given .1) in omega arith)
-    (λ c κs. let a = c .before .before .before .before .before .before .before .before .before .before .before .args in
-    let h = room (a .w .now) (a .left) (a .at) _ _ _ _ (c .before .before .before .before .before .before .before .before .before .word-due .ensures) (c .before .before .before .before .before .before .before .d2 .given .1) in omega arith)
-    (λ c. let a = c .before .before .before .before .before .args in stop (expression-goes (a .w .now) (a .left) syntax.Arithmetic (a .at)) _ (c .before .before .before .word-due .ensures) _ _ (c .before .d .given .1))
-    (λ c. let a = c .before .before .before .before .before .before .before .before .before .before .args in
-    arm (expression-goes (a .w .now) (a .left) syntax.Arithmetic (a .at)) _ (c .before .before .before .before .before .before .before .before .word-due .ensures) _ _ _ _ _ (c .before .before .before .before .before .before .d2 .given .1)
-    (c .before .before .before .word .given .1 ∙ ap Word.Arithmetic (c .enum-told .given .1))
+    (λ c κs. let m = c .before .before .before .before .before .before .before in
+    let a = m .before .before .before .before .args in
+    let h = room (a .w .now) (a .left) (a .at) (m .before .before .word-due .ensures) (m .d2 .given .1) in
+    omega arith)
+    (λ c κs. let m = c .before .before .before .before .before .before .before .before in
+    let a = m .before .before .before .before .args in
+    let h = room (a .w .now) (a .left) (a .at) (m .before .before .word-due .ensures) (m .d2 .given .1) in
+    omega arith)
+    (λ c. let m = c .before in
+    let a = m .before .before .before .before .args in
+    stop (expression-goes (a .w .now) (a .left) syntax.Arithmetic (a .at)) (m .before .before .word-due .ensures)
+    (m .d .given .1))
+    (λ c. let e = c in
+    let m = e .before .before .before .before .before .before .before in
+    let a = m .before .before .before .before .args in
+    arm (expression-goes (a .w .now) (a .left) syntax.Arithmetic (a .at)) (m .before .before .word-due .ensures)
+    (m .d2 .given .1) (e .before .before .before .before .before .arithmetic-word .ensures)
+    (e .before .before .before .word .given .1 ∙ ap Word.Arithmetic (e .enum-told .given .1))
     refl)
-    (λ c. let a = c .before .before .before .before .before .before .before .before .before .before .args in
-    arm (expression-goes (a .w .now) (a .left) syntax.Arithmetic (a .at)) _ (c .before .before .before .before .before .before .before .before .word-due .ensures) _ _ _ _ _ (c .before .before .before .before .before .before .d2 .given .1)
-    (c .before .before .before .word .given .1 ∙ ap Word.Arithmetic (c .enum-told2 .given .1))
+    (λ c. let e = c in
+    let m = e .before .before .before .before .before .before .before in
+    let a = m .before .before .before .before .args in
+    arm (expression-goes (a .w .now) (a .left) syntax.Arithmetic (a .at)) (m .before .before .word-due .ensures)
+    (m .d2 .given .1) (e .before .before .before .before .before .arithmetic-word .ensures)
+    (e .before .before .before .word .given .1 ∙ ap Word.Arithmetic (e .enum-told2 .given .1))
     refl)
-    (λ c. let a = c .before .before .before .before .before .before .before .before .before .before .before .before .args in
-    arm (expression-goes (a .w .now) (a .left) syntax.Arithmetic (a .at)) _ (c .before .before .before .before .before .before .before .before .before .before .word-due .ensures) _ _ _ _ _ (c .before .before .before .before .before .before .before .before .d2 .given .1)
-    (c .before .before .before .before .before .word .given .1 ∙ ap Word.Arithmetic (c .before .before .enum-told3 .given .1))
-    (onto _ _ _ _ _ (c .read-operand2 .ensures) (onto _ _ _ _ _ (c .before .read-operand .ensures) refl)))
-    (λ c. let a = c .before .before .before .before .before .before .before .before .before .before .before .before .args in
-    arm (expression-goes (a .w .now) (a .left) syntax.Arithmetic (a .at)) _ (c .before .before .before .before .before .before .before .before .before .before .word-due .ensures) _ _ _ _ _ (c .before .before .before .before .before .before .before .before .d2 .given .1)
-    (c .before .before .before .before .before .word .given .1 ∙ ap Word.Arithmetic (c .before .before .enum-told4 .given .1))
-    (onto _ _ _ _ _ (c .read-operand4 .ensures) (onto _ _ _ _ _ (c .before .read-operand3 .ensures) refl)))
-    (λ c. let a = c .before .before .before .before .before .before .args in
-    none-arm (expression-goes (a .w .now) (a .left) syntax.Arithmetic (a .at)) _ (c .before .before .before .before .word-due .ensures) _ _ _ (c .before .before .d2 .given .1)
-    (not-arithmetic (expression (a .w .now) (c .before .before .d2 .given .0 .1 .1 .0)) (c .before .before .d2 .given .0 .0) (c .match2 .keys2))))
+    (λ c. let e = c .before .before in
+    let m = e .before .before .before .before .before .before .before in
+    let a = m .before .before .before .before .args in
+    arm (expression-goes (a .w .now) (a .left) syntax.Arithmetic (a .at)) (m .before .before .word-due .ensures)
+    (m .d2 .given .1) (e .before .before .before .before .before .arithmetic-word .ensures)
+    (e .before .before .before .word .given .1 ∙ ap Word.Arithmetic (e .enum-told3 .given .1))
+    (onto _ _ _ (c .read-operand2 .ensures) (onto _ _ _ (c .before .read-operand .ensures) refl)))
+    (λ c. let e = c .before .before in
+    let m = e .before .before .before .before .before .before .before in
+    let a = m .before .before .before .before .args in
+    arm (expression-goes (a .w .now) (a .left) syntax.Arithmetic (a .at)) (m .before .before .word-due .ensures)
+    (m .d2 .given .1) (e .before .before .before .before .before .arithmetic-word .ensures)
+    (e .before .before .before .word .given .1 ∙ ap Word.Arithmetic (e .enum-told4 .given .1))
+    (onto _ _ _ (c .read-operand4 .ensures) (onto _ _ _ (c .before .read-operand3 .ensures) refl)))
+    (λ c. let m = c .before .before .before in
+    let a = m .before .before .before .before .args in
+    let b = m .d2 .given .0 .1 .1 .1 .0 in
+    none-arm (expression-goes (a .w .now) (a .left) syntax.Arithmetic (a .at)) (m .before .before .word-due .ensures)
+    (m .d2 .given .1) (c .before .arithmetic-word .ensures)
+    (not-arithmetic (expression (a .w .now) b) (c .before .arithmetic-word .result) (c .match2 .keys2))))
     (λ t. read-array-lts.spec (
       word-due-reads.Asked,
       word-due-reads.Learnt,
+      array-word-reads.Asked,
+      array-word-reads.Learnt,
       read-operand-below t,
       read-operand.Post,
     )
@@ -154,35 +188,61 @@ pub +read-arithmetic+read-array+read-boolean+read-operand-spec : {M : Type 1} �
     (λ c κs. search needs)
     (λ c. search needs)
     (λ c. search needs)
+    (λ c κs. search needs)
     (λ c. search needs)
     (λ c. search needs)
     (λ c. search needs)
     (λ c. search needs)
-    (λ c κs. let a = c .before .before .before .before .before .before .before .before .before .before .args in
-    let h = room (a .w .now) (a .left) (a .at) _ _ _ _ (c .before .before .before .before .before .before .before .before .word-due .ensures) (c .before .before .before .before .before .before .d2 .given .1) in omega arith)
-    (λ c κs. let a = c .before .before .before .before .before .before .before .before .before .before .before .args in
-    let h = room (a .w .now) (a .left) (a .at) _ _ _ _ (c .before .before .before .before .before .before .before .before .before .word-due .ensures) (c .before .before .before .before .before .before .before .d2 .given .1) in omega arith)
-    (λ c κs. let a = c .before .before .before .before .before .before .before .before .before .before .before .before .args in
-    let h = room (a .w .now) (a .left) (a .at) _ _ _ _ (c .before .before .before .before .before .before .before .before .before .before .word-due .ensures) (c .before .before .before .before .before .before .before .before .d2 .given .1) in omega arith)
-    (λ c. let a = c .before .before .before .before .before .args in stop (expression-goes (a .w .now) (a .left) syntax.Array (a .at)) _ (c .before .before .before .word-due .ensures) _ _ (c .before .d .given .1))
-    (λ c. let a = c .before .before .before .before .before .before .before .before .before .before .args in
-    arm (expression-goes (a .w .now) (a .left) syntax.Array (a .at)) _ (c .before .before .before .before .before .before .before .before .word-due .ensures) _ _ _ _ _ (c .before .before .before .before .before .before .d2 .given .1)
-    (c .before .before .before .word .given .1 ∙ ap Word.Array (c .enum-told .given .1))
+    (λ c κs. let m = c .before .before .before .before .before .before .before in
+    let a = m .before .before .before .before .args in
+    let h = room (a .w .now) (a .left) (a .at) (m .before .before .word-due .ensures) (m .d2 .given .1) in
+    omega arith)
+    (λ c κs. let m = c .before .before .before .before .before .before .before .before in
+    let a = m .before .before .before .before .args in
+    let h = room (a .w .now) (a .left) (a .at) (m .before .before .word-due .ensures) (m .d2 .given .1) in
+    omega arith)
+    (λ c κs. let m = c .before .before .before .before .before .before .before .before .before in
+    let a = m .before .before .before .before .args in
+    let h = room (a .w .now) (a .left) (a .at) (m .before .before .word-due .ensures) (m .d2 .given .1) in
+    omega arith)
+    (λ c. let m = c .before in
+    let a = m .before .before .before .before .args in
+    stop (expression-goes (a .w .now) (a .left) syntax.Array (a .at)) (m .before .before .word-due .ensures)
+    (m .d .given .1))
+    (λ c. let e = c in
+    let m = e .before .before .before .before .before .before .before in
+    let a = m .before .before .before .before .args in
+    arm (expression-goes (a .w .now) (a .left) syntax.Array (a .at)) (m .before .before .word-due .ensures)
+    (m .d2 .given .1) (e .before .before .before .before .before .array-word .ensures)
+    (e .before .before .before .word .given .1 ∙ ap Word.Array (e .enum-told .given .1))
     refl)
-    (λ c. let a = c .before .before .before .before .before .before .before .before .before .before .args in
-    arm (expression-goes (a .w .now) (a .left) syntax.Array (a .at)) _ (c .before .before .before .before .before .before .before .before .word-due .ensures) _ _ _ _ _ (c .before .before .before .before .before .before .d2 .given .1)
-    (c .before .before .before .word .given .1 ∙ ap Word.Array (c .enum-told2 .given .1))
+    (λ c. let e = c in
+    let m = e .before .before .before .before .before .before .before in
+    let a = m .before .before .before .before .args in
+    arm (expression-goes (a .w .now) (a .left) syntax.Array (a .at)) (m .before .before .word-due .ensures)
+    (m .d2 .given .1) (e .before .before .before .before .before .array-word .ensures)
+    (e .before .before .before .word .given .1 ∙ ap Word.Array (e .enum-told2 .given .1))
     refl)
-    (λ c. let a = c .before .before .before .before .before .before .before .before .before .before .before .before .before .args in
-    arm (expression-goes (a .w .now) (a .left) syntax.Array (a .at)) _ (c .before .before .before .before .before .before .before .before .before .before .before .word-due .ensures) _ _ _ _ _ (c .before .before .before .before .before .before .before .before .before .d2 .given .1)
-    (c .before .before .before .before .before .before .word .given .1 ∙ ap Word.Array (c .before .before .before .enum-told3 .given .1))
-    (onto _ _ _ _ _ (c .read-operand3 .ensures) (onto _ _ _ _ _ (c .before .read-operand2 .ensures) (onto _ _ _ _ _ (c .before .before .read-operand .ensures) refl))))
-    (λ c. let a = c .before .before .before .before .before .before .args in
-    none-arm (expression-goes (a .w .now) (a .left) syntax.Array (a .at)) _ (c .before .before .before .before .word-due .ensures) _ _ _ (c .before .before .d2 .given .1)
-    (not-array (expression (a .w .now) (c .before .before .d2 .given .0 .1 .1 .0)) (c .before .before .d2 .given .0 .0) (c .match2 .keys2))))
+    (λ c. let e = c .before .before .before in
+    let m = e .before .before .before .before .before .before .before in
+    let a = m .before .before .before .before .args in
+    arm (expression-goes (a .w .now) (a .left) syntax.Array (a .at)) (m .before .before .word-due .ensures)
+    (m .d2 .given .1) (e .before .before .before .before .before .array-word .ensures)
+    (e .before .before .before .word .given .1 ∙ ap Word.Array (e .enum-told3 .given .1))
+    (onto _ _ _ (c .read-operand3 .ensures)
+    (onto _ _ _ (c .before .read-operand2 .ensures)
+    (onto _ _ _ (c .before .before .read-operand .ensures) refl))))
+    (λ c. let m = c .before .before .before in
+    let a = m .before .before .before .before .args in
+    let b = m .d2 .given .0 .1 .1 .1 .0 in
+    none-arm (expression-goes (a .w .now) (a .left) syntax.Array (a .at)) (m .before .before .word-due .ensures)
+    (m .d2 .given .1) (c .before .array-word .ensures)
+    (not-array (expression (a .w .now) b) (c .before .array-word .result) (c .match2 .keys2))))
     (λ t. read-boolean-lts.spec (
       word-due-reads.Asked,
       word-due-reads.Learnt,
+      boolean-word-reads.Asked,
+      boolean-word-reads.Learnt,
       read-operand-below t,
       read-operand.Post,
     )
@@ -191,50 +251,86 @@ pub +read-arithmetic+read-array+read-boolean+read-operand-spec : {M : Type 1} �
     (λ c κs. search needs)
     (λ c. search needs)
     (λ c. search needs)
+    (λ c κs. search needs)
     (λ c. search needs)
     (λ c. search needs)
-    (λ c κs. let a = c .before .before .before .before .before .before .before .before .before .before .args in
-    let h = room (a .w .now) (a .left) (a .at) _ _ _ _ (c .before .before .before .before .before .before .before .before .word-due .ensures) (c .before .before .before .before .before .before .d2 .given .1) in omega arith)
-    (λ c κs. let a = c .before .before .before .before .before .before .before .before .before .before .before .args in
-    let h = room (a .w .now) (a .left) (a .at) _ _ _ _ (c .before .before .before .before .before .before .before .before .before .word-due .ensures) (c .before .before .before .before .before .before .before .d2 .given .1) in omega arith)
+    (λ c κs. let m = c .before .before .before .before .before .before .before in
+    let a = m .before .before .before .before .args in
+    let h = room (a .w .now) (a .left) (a .at) (m .before .before .word-due .ensures) (m .d2 .given .1) in
+    omega arith)
+    (λ c κs. let m = c .before .before .before .before .before .before .before .before in
+    let a = m .before .before .before .before .args in
+    let h = room (a .w .now) (a .left) (a .at) (m .before .before .word-due .ensures) (m .d2 .given .1) in
+    omega arith)
     (λ c. search needs)
     (λ c. search needs)
-    (λ c κs. let a = c .before .before .before .before .before .before .before .before .before .before .args in
-    let h = room (a .w .now) (a .left) (a .at) _ _ _ _ (c .before .before .before .before .before .before .before .before .word-due .ensures) (c .before .before .before .before .before .before .d2 .given .1) in omega arith)
-    (λ c κs. let a = c .before .before .before .before .before .before .before .before .before .before .before .args in
-    let h = room (a .w .now) (a .left) (a .at) _ _ _ _ (c .before .before .before .before .before .before .before .before .before .word-due .ensures) (c .before .before .before .before .before .before .before .d2 .given .1) in omega arith)
+    (λ c κs. let m = c .before .before .before .before .before .before .before in
+    let a = m .before .before .before .before .args in
+    let h = room (a .w .now) (a .left) (a .at) (m .before .before .word-due .ensures) (m .d2 .given .1) in
+    omega arith)
+    (λ c κs. let m = c .before .before .before .before .before .before .before .before in
+    let a = m .before .before .before .before .args in
+    let h = room (a .w .now) (a .left) (a .at) (m .before .before .word-due .ensures) (m .d2 .given .1) in
+    omega arith)
     (λ c. search needs)
-    (λ c κs. let a = c .before .before .before .before .before .before .before .before .before .before .args in
-    let h = room (a .w .now) (a .left) (a .at) _ _ _ _ (c .before .before .before .before .before .before .before .before .word-due .ensures) (c .before .before .before .before .before .before .d2 .given .1) in omega arith)
-    (λ c κs. let a = c .before .before .before .before .before .before .before .before .before .before .before .args in
-    let h = room (a .w .now) (a .left) (a .at) _ _ _ _ (c .before .before .before .before .before .before .before .before .before .word-due .ensures) (c .before .before .before .before .before .before .before .d2 .given .1) in omega arith)
+    (λ c κs. let m = c .before .before .before .before .before .before .before in
+    let a = m .before .before .before .before .args in
+    let h = room (a .w .now) (a .left) (a .at) (m .before .before .word-due .ensures) (m .d2 .given .1) in
+    omega arith)
+    (λ c κs. let m = c .before .before .before .before .before .before .before .before in
+    let a = m .before .before .before .before .args in
+    let h = room (a .w .now) (a .left) (a .at) (m .before .before .word-due .ensures) (m .d2 .given .1) in
+    omega arith)
     (λ c. search needs)
-    (λ c κs. let a = c .before .before .before .before .before .before .before .before .before .before .args in
-    let h = room (a .w .now) (a .left) (a .at) _ _ _ _ (c .before .before .before .before .before .before .before .before .word-due .ensures) (c .before .before .before .before .before .before .d2 .given .1) in omega arith)
-    (λ c. let a = c .before .before .before .before .before .args in stop (expression-goes (a .w .now) (a .left) syntax.Boolean (a .at)) _ (c .before .before .before .word-due .ensures) _ _ (c .before .d .given .1))
-    (λ c. let a = c .before .before .before .before .before .before .before .before .before .before .before .before .args in
-    arm (expression-goes (a .w .now) (a .left) syntax.Boolean (a .at)) _ (c .before .before .before .before .before .before .before .before .before .before .word-due .ensures) _ _ _ _ _ (c .before .before .before .before .before .before .before .before .d2 .given .1)
-    (c .before .before .before .before .before .word .given .1 ∙ ap Word.Boolean (c .before .before .enum-told .given .1))
-    (onto _ _ _ _ _ (c .read-operand2 .ensures) (onto _ _ _ _ _ (c .before .read-operand .ensures) refl)))
-    (λ c. let a = c .before .before .before .before .before .before .before .before .before .before .args in
-    arm (expression-goes (a .w .now) (a .left) syntax.Boolean (a .at)) _ (c .before .before .before .before .before .before .before .before .word-due .ensures) _ _ _ _ _ (c .before .before .before .before .before .before .d2 .given .1)
-    (c .before .before .before .word .given .1 ∙ ap Word.Boolean (c .enum-told2 .given .1))
+    (λ c κs. let m = c .before .before .before .before .before .before .before in
+    let a = m .before .before .before .before .args in
+    let h = room (a .w .now) (a .left) (a .at) (m .before .before .word-due .ensures) (m .d2 .given .1) in
+    omega arith)
+    (λ c. let m = c .before in
+    let a = m .before .before .before .before .args in
+    stop (expression-goes (a .w .now) (a .left) syntax.Boolean (a .at)) (m .before .before .word-due .ensures)
+    (m .d .given .1))
+    (λ c. let e = c .before .before in
+    let m = e .before .before .before .before .before .before .before in
+    let a = m .before .before .before .before .args in
+    arm (expression-goes (a .w .now) (a .left) syntax.Boolean (a .at)) (m .before .before .word-due .ensures)
+    (m .d2 .given .1) (e .before .before .before .before .before .boolean-word .ensures)
+    (e .before .before .before .word .given .1 ∙ ap Word.Boolean (e .enum-told .given .1))
+    (onto _ _ _ (c .read-operand2 .ensures) (onto _ _ _ (c .before .read-operand .ensures) refl)))
+    (λ c. let e = c in
+    let m = e .before .before .before .before .before .before .before in
+    let a = m .before .before .before .before .args in
+    arm (expression-goes (a .w .now) (a .left) syntax.Boolean (a .at)) (m .before .before .word-due .ensures)
+    (m .d2 .given .1) (e .before .before .before .before .before .boolean-word .ensures)
+    (e .before .before .before .word .given .1 ∙ ap Word.Boolean (e .enum-told2 .given .1))
     refl)
-    (λ c. let a = c .before .before .before .before .before .before .before .before .before .before .before .before .args in
-    arm (expression-goes (a .w .now) (a .left) syntax.Boolean (a .at)) _ (c .before .before .before .before .before .before .before .before .before .before .word-due .ensures) _ _ _ _ _ (c .before .before .before .before .before .before .before .before .d2 .given .1)
-    (c .before .before .before .before .before .word .given .1 ∙ ap Word.Boolean (c .before .before .enum-told3 .given .1))
-    (onto _ _ _ _ _ (c .read-operand4 .ensures) (onto _ _ _ _ _ (c .before .read-operand3 .ensures) refl)))
-    (λ c. let a = c .before .before .before .before .before .before .before .before .before .before .before .before .args in
-    arm (expression-goes (a .w .now) (a .left) syntax.Boolean (a .at)) _ (c .before .before .before .before .before .before .before .before .before .before .word-due .ensures) _ _ _ _ _ (c .before .before .before .before .before .before .before .before .d2 .given .1)
-    (c .before .before .before .before .before .word .given .1 ∙ ap Word.Boolean (c .before .before .enum-told4 .given .1))
-    (onto _ _ _ _ _ (c .read-operand6 .ensures) (onto _ _ _ _ _ (c .before .read-operand5 .ensures) refl)))
-    (λ c. let a = c .before .before .before .before .before .before .before .before .before .before .before .args in
-    arm (expression-goes (a .w .now) (a .left) syntax.Boolean (a .at)) _ (c .before .before .before .before .before .before .before .before .before .word-due .ensures) _ _ _ _ _ (c .before .before .before .before .before .before .before .d2 .given .1)
-    (c .before .before .before .before .word .given .1 ∙ ap Word.Boolean (c .before .enum-told5 .given .1))
-    (onto _ _ _ _ _ (c .read-operand7 .ensures) refl))
-    (λ c. let a = c .before .before .before .before .before .before .args in
-    none-arm (expression-goes (a .w .now) (a .left) syntax.Boolean (a .at)) _ (c .before .before .before .before .word-due .ensures) _ _ _ (c .before .before .d2 .given .1)
-    (not-boolean (expression (a .w .now) (c .before .before .d2 .given .0 .1 .1 .0)) (c .before .before .d2 .given .0 .0) (c .match2 .keys2))))
+    (λ c. let e = c .before .before in
+    let m = e .before .before .before .before .before .before .before in
+    let a = m .before .before .before .before .args in
+    arm (expression-goes (a .w .now) (a .left) syntax.Boolean (a .at)) (m .before .before .word-due .ensures)
+    (m .d2 .given .1) (e .before .before .before .before .before .boolean-word .ensures)
+    (e .before .before .before .word .given .1 ∙ ap Word.Boolean (e .enum-told3 .given .1))
+    (onto _ _ _ (c .read-operand4 .ensures) (onto _ _ _ (c .before .read-operand3 .ensures) refl)))
+    (λ c. let e = c .before .before in
+    let m = e .before .before .before .before .before .before .before in
+    let a = m .before .before .before .before .args in
+    arm (expression-goes (a .w .now) (a .left) syntax.Boolean (a .at)) (m .before .before .word-due .ensures)
+    (m .d2 .given .1) (e .before .before .before .before .before .boolean-word .ensures)
+    (e .before .before .before .word .given .1 ∙ ap Word.Boolean (e .enum-told4 .given .1))
+    (onto _ _ _ (c .read-operand6 .ensures) (onto _ _ _ (c .before .read-operand5 .ensures) refl)))
+    (λ c. let e = c .before in
+    let m = e .before .before .before .before .before .before .before in
+    let a = m .before .before .before .before .args in
+    arm (expression-goes (a .w .now) (a .left) syntax.Boolean (a .at)) (m .before .before .word-due .ensures)
+    (m .d2 .given .1) (e .before .before .before .before .before .boolean-word .ensures)
+    (e .before .before .before .word .given .1 ∙ ap Word.Boolean (e .enum-told5 .given .1))
+    (onto _ _ _ (c .read-operand7 .ensures) refl))
+    (λ c. let m = c .before .before .before in
+    let a = m .before .before .before .before .args in
+    let b = m .d2 .given .0 .1 .1 .1 .0 in
+    none-arm (expression-goes (a .w .now) (a .left) syntax.Boolean (a .at)) (m .before .before .word-due .ensures)
+    (m .d2 .given .1) (c .before .boolean-word .ensures)
+    (not-boolean (expression (a .w .now) b) (c .before .boolean-word .result) (c .match2 .keys2))))
     λ t. read-operand-lts.spec (
       read-arithmetic-below t,
       read-arithmetic.Post,
@@ -253,7 +349,10 @@ pub +read-arithmetic+read-array+read-boolean+read-operand-spec : {M : Type 1} �
     (λ c. search needs)
     (λ c κs. omega arith)
     (λ c. search needs)
-    (λ c. rw (c .before .before .before .before .from .given .1, c .before .enum-told .given .1) (c .read-arithmetic .ensures))
-    (λ c. rw (c .before .before .before .before .from .given .1, c .before .enum-told2 .given .1) (c .read-boolean .ensures))
-    (λ c. rw (c .before .before .before .before .from .given .1, c .before .enum-told3 .given .1) (c .read-array .ensures))
+    (λ c. let m = c .before .before .before .before in
+    rw (m .from .given .1, c .before .enum-told .given .1) (c .read-arithmetic .ensures))
+    (λ c. let m = c .before .before .before .before in
+    rw (m .from .given .1, c .before .enum-told2 .given .1) (c .read-boolean .ensures))
+    (λ c. let m = c .before .before .before .before in
+    rw (m .from .given .1, c .before .enum-told3 .given .1) (c .read-array .ensures))
     (λ c. rw (c .enum-told4 .given .1))

@@ -15,7 +15,11 @@ read-parts-spec =
     (λ c. search needs)
     (λ c κs. search needs)
     (λ c. search needs)
-    (λ c. by-next _ _ _ _ _ (c .before .before .before .before .read-command .ensures) (c .before .before .program .given .1) (c .from-pre .ensures)
-    ∙ sym (parts-places (limitsOf (c .before .before .before .before .before .before .args .limits)) (c .before .before .before .before .before .before .args .w .now)))
-    (λ c. by-refused _ _ _ _ _ (c .before .before .before .read-command .ensures) (c .before .program2 .given .1)
-    ∙ sym (parts-places (limitsOf (c .before .before .before .before .before .args .limits)) (c .before .before .before .before .before .args .w .now))))
+    (λ c. by-next _ (c .before .before .before .before .read-command .ensures)
+    (c .before .before .program .given .1) (c .from-pre .ensures)
+    ∙ (let a = c .before .before .before .before .before .before .args in
+    sym (parts-places (limitsOf (a .limits)) (a .w .now))))
+    (λ c. by-refused _ (c .before .before .before .read-command .ensures)
+    (c .before .program2 .given .1)
+    ∙ (let a = c .before .before .before .before .before .args in
+    sym (parts-places (limitsOf (a .limits)) (a .w .now)))))

@@ -17,6 +17,7 @@ read-words-spec =
     (λ c κs. search needs)
     (λ c. let a = c .before .before .before .before .before .args in
     c .check-end .ensures ∙ ap (endOf (a .w .now)) (c .before .read-parts .ensures)
-    ∙ headed-read (limitsOf (a .limits)) (a .w .now) (sym (c .before .before .before .starts .ensures) ∙ c .before .before .if1 .taken))
+    ∙ headed-read (limitsOf (a .limits)) (a .w .now)
+    (sym (c .before .before .before .starts .ensures) ∙ c .before .before .if1 .taken))
     (λ c. let a = c .before .before .before .args in
     not-headed (limitsOf (a .limits)) (a .w .now) (sym (c .before .starts .ensures) ∙ c .if1 .left)))

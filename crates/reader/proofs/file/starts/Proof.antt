@@ -17,4 +17,5 @@ starts-spec =
     (λ c. search needs)
     (λ c κs. search needs)
     (λ c. search needs)
-    (λ c. ap (λ (n : ℕ). eqb n (63 * 67108864 + length (c .before .before .before .before .args .w .now))) (c .wide .ensures)))
+    (λ c. let w = c .before .before .before .before .args .w .now in
+    ap (λ (n : ℕ). eqb n (63 * 67108864 + length w)) (c .wide .ensures)))

@@ -12,4 +12,4 @@ read-consequent-spec =
     (tie.spec
     (λ c κs. search needs)
     (λ c κs. search needs)
-    (λ c. onto _ _ _ _ _ (rw (c .before .sort-at .ensures) at (c .read-operand .ensures)) refl))
+    (λ c. onto _ _ _ (rw (c .before .sort-at .ensures) at (c .read-operand .ensures)) refl))

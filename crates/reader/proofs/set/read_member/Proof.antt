@@ -16,7 +16,9 @@ read-member-spec =
     (λ c. search needs)
     (λ c κs. search needs)
     (λ c. search needs)
-    (λ c. onto _ _ _ _ _ (on _ _ _ _ (c .before .before .antecedent .given .1) (c .read-consequent .ensures))
-    (onto _ _ _ _ (Next (c .before .before .before .before .before .before .args .at)) (c .before .before .before .before .read-boolean .ensures) refl))
-    (λ c. onto _ (consequentAt (c .before .before .before .before .args .w .now) (c .before .before .before .before .args .left)) _ _ _ (off _ _ _ _ (c .enum-told .given .1))
-    (onto _ _ _ _ (Next (c .before .before .before .before .args .at)) (c .before .before .read-boolean .ensures) refl)))
+    (λ c. let a = c .before .before .before .before .before .before .args in
+    onto _ _ _ (on _ (c .before .before .antecedent .given .1) (c .read-consequent .ensures))
+    (onto _ _ _ {s = Next (a .at)} (c .before .before .before .before .read-boolean .ensures) refl))
+    (λ c. let a = c .before .before .before .before .args in
+    onto _ (consequentAt (a .w .now) (a .left)) _ (off _ (c .enum-told .given .1))
+    (onto _ _ _ {s = Next (a .at)} (c .before .before .read-boolean .ensures) refl)))

@@ -1,4 +1,4 @@
--- `reader::set::read_members` meets its contract: after i turns, what is left to read is `count` less i members from p on.
+-- `reader::set::read_members` meets its contract: after i turns, `count` less i members are left to read, from p on.
 -- Assumes nothing.
 use borrow.Author.Needs.{needs}
 use native.Mathlib.Omega.{arith}
@@ -28,13 +28,15 @@ read-members-spec =
     (λ c κs. search needs)
     (λ c. search needs)
     (λ c. search needs)
-    (λ c. members-stop _ _ _ _ _ _ _ (c .before .before .before .loop-test .taken) (c .before .before .read-member .ensures) (c .enum-told .given .1)
+    (λ c. members-stop _ _ _ _ (c .before .before .before .loop-test .taken)
+    (c .before .before .read-member .ensures) (c .enum-told .given .1)
     ∙ sym (c .before .before .before .before .loop .inv .1))
     (λ c. omega arith)
     (λ c. omega arith)
     (λ c. (
       omega arith,
       c .before .before .before .before .before .loop .inv .1
-          ∙ members-next _ _ _ _ _ _ (c .before .before .before .before .loop-test .taken) (c .before .before .before .read-member .ensures) (c .before .m .given .1),
+          ∙ members-next _ _ _ _ (c .before .before .before .before .loop-test .taken)
+          (c .before .before .before .read-member .ensures) (c .before .m .given .1),
     ))
     (λ c. sym (c .before .loop .inv .1 ∙ members-done _ _ _ _ (c .loop-test .left))))

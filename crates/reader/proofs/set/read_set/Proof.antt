@@ -16,16 +16,28 @@ read-set-spec =
     (λ c κs. search needs)
     (λ c. search needs)
     (λ c. search needs)
+    (λ c κs. search needs)
     (λ c. search needs)
     (λ c. search needs)
     (λ c κs. search needs)
-    (λ c. let a = c .before .before .before .before .before .args in stop (set-goes (limitsOf (a .limits)) (a .w .now) (a .left) (a .at)) _ (c .before .before .before .word-due .ensures) _ _ (c .before .d .given .1))
-    (λ c. let a = c .before .before .before .before .before .before .before .before .before .before .args in
-    arm (set-goes (limitsOf (a .limits)) (a .w .now) (a .left) (a .at)) _ (c .before .before .before .before .before .before .before .before .word-due .ensures) _ _ _ _ _ (c .before .before .before .before .before .before .d2 .given .1) (c .before .before .before .word .given .1)
-    (simp (le-leb _ _ (c .before .if1 .taken)) (c .read-members .ensures)))
-    (λ c. let a = c .before .before .before .before .before .before .before .before .before .args in
-    arm (set-goes (limitsOf (a .limits)) (a .w .now) (a .left) (a .at)) _ (c .before .before .before .before .before .before .before .word-due .ensures) _ _ _ _ _ (c .before .before .before .before .before .d2 .given .1) (c .before .before .word .given .1)
-    (simp (lt-leb _ _ (c .if1 .left))))
-    (λ c. let a = c .before .before .before .before .before .before .args in
-    none-arm (set-goes (limitsOf (a .limits)) (a .w .now) (a .left) (a .at)) _ (c .before .before .before .before .word-due .ensures) _ _ _ (c .before .before .d2 .given .1)
-    (not-set (a .limits .members) (memberAt (a .w .now) (c .before .before .d2 .given .0 .1 .1 .0)) (c .before .before .d2 .given .0 .0) (c .match2 .keys2))))
+    (λ c. let m = c .before in
+    let a = m .before .before .before .before .args in
+    stop (set-goes (a .w .now) (limitsOf (a .limits)) (a .left) (a .at)) (m .before .before .word-due .ensures)
+    (m .d .given .1))
+    (λ c. let m = c .before .before .before .before .before .before .before in
+    let a = m .before .before .before .before .args in
+    arm (set-goes (a .w .now) (limitsOf (a .limits)) (a .left) (a .at)) (m .before .before .word-due .ensures)
+    (m .d2 .given .1) (c .before .before .before .before .before .evidence-word .ensures)
+    (c .before .before .before .word .given .1) (simp (le-leb _ _ (c .before .if1 .taken)) (c .read-members .ensures)))
+    (λ c. let m = c .before .before .before .before .before .before in
+    let a = m .before .before .before .before .args in
+    arm (set-goes (a .w .now) (limitsOf (a .limits)) (a .left) (a .at)) (m .before .before .word-due .ensures)
+    (m .d2 .given .1) (c .before .before .before .before .evidence-word .ensures)
+    (c .before .before .word .given .1) (simp (lt-leb _ _ (c .if1 .left))))
+    (λ c. let m = c .before .before .before in
+    let a = m .before .before .before .before .args in
+    let b = m .d2 .given .0 .1 .1 .1 .0 in
+    none-arm (set-goes (a .w .now) (limitsOf (a .limits)) (a .left) (a .at)) (m .before .before .word-due .ensures)
+    (m .d2 .given .1) (c .before .evidence-word .ensures)
+    (not-set (a .limits .members) (memberAt (a .w .now) b)
+    (c .before .evidence-word .result) (c .match2 .keys2))))

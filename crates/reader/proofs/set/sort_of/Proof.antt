@@ -15,7 +15,8 @@ sort-of-spec =
     (tie.spec
     (λ c. simp (lt-leb 8 _ (c .if1 .taken), lt-leb 16 _ (low _ (c .if1 .taken))))
     (λ c. simp (le-leb 8 _ (c .before .if1 .left), le-leb _ 12 (c .if2 .taken)))
-    (λ c. simp (lt-leb _ 12 (c .before .if2 .left), le-leb 8 _ (c .before .before .if1 .left), lt-leb 16 _ (c .if3 .taken)))
+    (λ c. let b = c .before in
+    simp (lt-leb _ 12 (b .if2 .left), le-leb 8 _ (b .before .if1 .left), lt-leb 16 _ (c .if3 .taken)))
     (λ c. let b = c .before .before in
     simp (
       le-leb 8 _ (b .before .if1 .left),

@@ -1,10 +1,8 @@
 -- `reader::word::word_due` meets its contract: the tests pick the case.
 -- Assumes nothing.
 use borrow.Author.Needs.{needs}
-use native.Mathlib.Omega.{arith}
-use mathlib.Core.Path.{sym, _∙_, ap}
-use Prim.Native.Nat.{_+_, _-_}
-use Rattle.words.specs.declared.Word.{Word}
+use mathlib.Core.Path.{sym, _∙_, ap₂}
+use Prim.Native.Nat.{ℕ, _+_, _-_}
 use Rattle.reader.specs.declared.Due.the-variants.{There}
 use Rattle.reader.proofs.Walks.{due-ends, due-deep, due-there}
 use Rattle.reader.proofs.word.word_due.Statement.{statement}
@@ -20,8 +18,10 @@ word-due-spec =
     (λ c. search needs)
     (λ c. search needs)
     (λ c κs. search needs)
+    (λ c κs. search needs)
     (λ c. search needs)
     (λ c. search needs)
-    (λ c. let a = c .before .before .before .before .before .args in
-    ap (λ (x : Word). There x (a .at + 1) (a .left - 1)) (c .decode .ensures)
-    ∙ sym (due-there (a .w .now) (a .left) (a .at) (c .before .before .before .if1 .left) (c .before .before .if2 .left))))
+    (λ c. let b = c .before .before .before in
+    let a = b .before .before .before .args in
+    ap₂ (λ (k p : ℕ). There k p (a .at + 1) (a .left - 1)) (c .before .kind .ensures) (c .payload .ensures)
+    ∙ sym (due-there (a .w .now) (a .left) (a .at) (b .before .if1 .left) (b .if2 .left))))

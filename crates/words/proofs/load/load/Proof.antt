@@ -11,7 +11,8 @@ use Rattle.words.proofs.load.load.Tie as tie
 
 abbrev Inv-loop : tie.InvT-loop
 Inv-loop file words₀ whole room n i₀ words i =
-    (i ≤ n) × (n ≤ length file / 4) × (n ≤ length words₀) × (length words ≡ length words₀) × (words ≡ front file words₀ i)
+    (i ≤ n) × (n ≤ length file / 4) × (n ≤ length words₀) × (length words ≡ length words₀)
+    × (words ≡ front file words₀ i)
 
 abbrev μ-loop : tie.MeasureT-loop
 μ-loop file words₀ whole room n i₀ words i = n - i

@@ -1,0 +1,15 @@
+-- `pre_rules::condition::is_replaced` meets its contract.
+-- Assumes nothing.
+use borrow.Author.Needs.{needs}
+use Rattle.pre_rules.proofs.Assertions.{replaced-at}
+use Rattle.pre_rules.proofs.condition.is_replaced.Statement.{statement}
+use Rattle.pre_rules.proofs.condition.is_replaced.Tie as tie
+
+pub is-replaced-spec : {M : Type 1} → statement M
+is-replaced-spec =
+    tie.close
+    (tie.spec
+    (λ c κs. search needs)
+    (λ c κs. search needs)
+    (λ c κs. search needs)
+    (λ c. replaced-at _ (c .before .match-boolean .ensures) (c .before .before .end-at .ensures) (c .came-to-end .ensures)))

@@ -1,0 +1,78 @@
+-- The rules' tests of assertions by words: what each asks for, and what it promises (document 01, rules 20 to 29).
+-- Working. Assumes nothing.
+--     CanSplit, SplitAt          rule 20: φ is (φ1 ∧ B) ∨ (φ2 ∧ ¬B)
+--     CanJoin, JoinAt            rule 26: φ is φ' ∧ B
+--     CanReplace, ReplacedAt     rules 24 and 25: φ is φ' with the right side for the identifier
+--     TrueAt                     rule 29: φ is true
+--     CanRepeat, RepeatsAt       rule 21: φ0 ∧ B implies φ, and φ' ∧ ¬B implies φ
+use mathlib.Core.Path.{_≡_}
+use mathlib.Core.Bool.{Bool, true}
+use mathlib.Core.List.{List}
+use Prim.Native.Nat.{ℕ, _+_, _*_, _≤_}
+use lib.ListN.{length}
+use Rattle.language.specs.Syntax.{Arithmetic, Boolean, Array, Expr, truth, and, or, neg, toScalar, toArray}
+use Rattle.rules.specs.Context.{Context}
+use Rattle.rules.specs.Condition.{implication, _then_}
+use Rattle.rules.specs.Replace.{replacement, replace}
+use Rattle.rules.specs.Tests.{sameAntecedent}
+use Rattle.ends.specs.Ends.{EndsOf}
+use Rattle.compare.specs.Places.{ExpressionAt}
+use Rattle.implication.specs.Sides.{resultOf}
+use Rattle.implication.specs.declared.Condition.{Condition}
+use Rattle.rule_laws.specs.Implications.{AssertionAt}
+use Rattle.rule_laws.specs.Places.{WrittenAt, PartKnown}
+
+module _ (file ends : List ℕ) where
+  -- φ at f, the test at b, φ1 at p, φ2 at q
+  pub record CanSplit (f b p q : ℕ) : Type 0 where
+    pub whole : PartKnown file ends f
+    pub test : PartKnown file ends b
+    pub first : PartKnown file ends p
+    pub second : PartKnown file ends q
+
+  pub record SplitAt (f b p q : ℕ) (r : Bool) : Type 0 where
+    pub is : (φ t φ₁ φ₂ : Expr Boolean) → WrittenAt file ends φ f → WrittenAt file ends t b → WrittenAt file ends φ₁ p →
+        WrittenAt file ends φ₂ q → r ≡ sameAntecedent φ (or (and φ₁ t) (and φ₂ (neg t)))
+
+  -- φ at f, φ' at g, the test at b
+  pub record CanJoin (f g b : ℕ) : Type 0 where
+    pub whole : PartKnown file ends f
+    pub first : PartKnown file ends g
+    pub test : PartKnown file ends b
+
+  pub record JoinAt (f g b : ℕ) (r : Bool) : Type 0 where
+    pub is : (φ φ′ t : Expr Boolean) → WrittenAt file ends φ f → WrittenAt file ends φ′ g → WrittenAt file ends t b →
+        r ≡ sameAntecedent φ (and φ′ t)
+
+  -- φ at f, φ' at g, the right side at a, for the identifier that the word is
+  pub record CanReplace (f g a : ℕ) : Type 0 where
+    pub ends-of : EndsOf file ends
+    pub whole : PartKnown file ends f
+    pub replaced : ExpressionAt file ends Boolean g
+    pub right : PartKnown file ends a
+
+  pub record ReplacedAt (f g word a : ℕ) (r : Bool) : Type 0 where
+    pub scalars : (φ φ′ : Expr Boolean) (x : ℕ) (e : Expr Arithmetic) → WrittenAt file ends φ f → WrittenAt file ends φ′ g →
+        WrittenAt file ends e a → x ≤ 31 → word ≡ 2 * 67108864 + x →
+        r ≡ sameAntecedent φ (replace φ′ (replacement (toScalar x e)))
+    pub arrays : (φ φ′ : Expr Boolean) (x : ℕ) (e : Expr Array) → WrittenAt file ends φ f → WrittenAt file ends φ′ g →
+        WrittenAt file ends e a → x ≤ 31 → word ≡ 16 * 67108864 + x →
+        r ≡ sameAntecedent φ (replace φ′ (replacement (toArray x e)))
+
+  pub record TrueAt (f : ℕ) (r : Bool) : Type 0 where
+    pub is : (φ : Expr Boolean) → WrittenAt file ends φ f → r ≡ sameAntecedent φ (truth true)
+
+  -- φ0 at a, the test at b, φ' at g, φ at f
+  pub record CanRepeat (limit a b g f : ℕ) : Type 0 where
+    pub ends-of : EndsOf file ends
+    pub size : length file ≤ 8192
+    pub few : limit ≤ 16
+    pub first : AssertionAt file ends a
+    pub test : AssertionAt file ends b
+    pub second : AssertionAt file ends g
+    pub whole : AssertionAt file ends f
+
+  pub record RepeatsAt (limit a b g f : ℕ) (r : Condition) : Type 0 where
+    pub is : (φ₀ t φ′ φ : Expr Boolean) → WrittenAt file ends φ₀ a → WrittenAt file ends t b → WrittenAt file ends φ′ g →
+        WrittenAt file ends φ f → (Γ : Context) → Γ .limits .comparisons ≡ limit →
+        resultOf r ≡ (implication Γ (and φ₀ t) φ then implication Γ (and φ′ (neg t)) φ)

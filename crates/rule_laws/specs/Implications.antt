@@ -1,0 +1,31 @@
+-- Implications between assertions that stand at places (document 01, "Rules").
+-- Working. Assumes nothing.
+--     AssertionAt                 an assertion stands at a place
+--     CanImplyAt, ImpliesAt       one implies another: what a test of them asks for and promises
+use mathlib.Core.Path.{_≡_}
+use mathlib.Core.List.{List}
+use Prim.Native.Nat.{ℕ, _≤_}
+use lib.ListN.{length}
+use Rattle.language.specs.Syntax.{Boolean, Expr}
+use Rattle.rules.specs.Context.{Context}
+use Rattle.rules.specs.Condition.{implication}
+use Rattle.ends.specs.Ends.{EndsOf}
+use Rattle.implication.specs.Sides.{resultOf}
+use Rattle.implication.specs.declared.Condition.{Condition}
+use Rattle.rule_laws.specs.Places.{WrittenAt}
+
+module _ (file ends : List ℕ) where
+  pub record AssertionAt (at : ℕ) : Type 0 where
+    pub tree : Expr Boolean
+    pub tree-at : WrittenAt file ends tree at
+
+  pub record CanImplyAt (limit a b : ℕ) : Type 0 where
+    pub ends-of : EndsOf file ends
+    pub size : length file ≤ 8192
+    pub few : limit ≤ 16
+    pub left : AssertionAt a
+    pub right : AssertionAt b
+
+  pub record ImpliesAt (limit a b : ℕ) (r : Condition) : Type 0 where
+    pub is : (φ ψ : Expr Boolean) → WrittenAt file ends φ a → WrittenAt file ends ψ b → (Γ : Context) →
+        Γ .limits .comparisons ≡ limit → resultOf r ≡ implication Γ φ ψ

@@ -1,0 +1,219 @@
+-- The conditions of the rules on sets: each is a written set compared with piles.
+-- Assumes nothing.
+--     can-same, set-does                    a written set and three piles, by trees
+--     can-written, rule-written .. -rest    the rules that compare sets
+--     hold-all, rule-stand                  set rule 13
+--     find-test, rule-test                  rule 13
+use mathlib.Core.Path.{_≡_, refl, sym, ap, ap₂, subst, _∙_}
+use mathlib.Core.Bool.{Bool, true}
+use mathlib.Core.List.{List, [], _∷_, _++_, append-nil}
+use Prim.Native.Nat.{ℕ, _+_, _<_}
+use native.Mathlib.Omega.{arith}
+use lib.IntN.{pos}
+use lib.ListN.{length}
+use Rattle.language.specs.Syntax.{Sort, Boolean, Expr, truth, neg, Assignment}
+use Rattle.rules.specs.Words.{word, words}
+use Rattle.rules.specs.Assertion.{Members, member, one}
+use Rattle.rules.specs.Replace.{replacement, replaceMembers}
+use Rattle.rules.specs.Sets.{under, without}
+use Rattle.rules.specs.Tests.{stands, within, same}
+use Rattle.ends.specs.Ends.{EndsOf}
+use Rattle.compare.specs.Matching.{numbers}
+use Rattle.compare.specs.Trees.{ExpressionStands, PutStands}
+use Rattle.compare.specs.declared.cursor.Put.{Put}
+use Rattle.compare.proofs.Trees.{expression-is, any-place, fits-part}
+use Rattle.sets.specs.Items.{itemNumbers}
+use Rattle.sets.specs.Lists.{written, standsIn, withinAll, sameAll}
+use Rattle.sets.specs.Standing.{MembersAt, ViewAt, ItemAt, CanFind, CanHold}
+use Rattle.sets.specs.Piles.{countAt, writtenSet, pilesNumbers, SetAt, CanSame}
+use Rattle.sets.specs.Trees.{SetStands, PileStands, HasSet, HasPile, CanSameSet, SameSet}
+use Rattle.sets.specs.Trees.{stands-empty, stands-one, stands-plain, stands-under, stands-unless, stands-replaced}
+use Rattle.sets.specs.Trees.{stands-without}
+use Rattle.sets.specs.Rules.{CanTwo, SameWritten, CanReplaced, SameReplaced, CanUnder, SameUnder}
+use Rattle.sets.specs.Rules.{CanBranches, SameBranches, CanThree, SameUnion, CanRest, SameRest}
+use Rattle.sets.specs.Rules.{AllStand, CanTest, TestStands}
+use Rattle.sets.specs.declared.item.View.the-variants.{Plain, Under, Unless, Replaced}
+use Rattle.sets.specs.declared.item.Item.the-variants.{Certain}
+use Rattle.sets.specs.declared.pile.Pile.{Pile}
+use Rattle.sets.specs.declared.pile.Pile.the-variants.{Empty, One, Set, Without}
+use Rattle.sets.specs.declared.pile.Piles.{Piles}
+use Rattle.sets.proofs.Tests.{stands-numbers, within-numbers}
+use Rattle.sets.proofs.Piles.{set-members}
+use Rattle.sets.proofs.Trees.{set-is, set-place, written-is, pile-is, same-trees}
+
+abbrev pub three : Pile → Pile → Pile → Piles
+three a b c = record { first = a; second = b; third = c }
+
+module _ {file ends : List ℕ} where
+  pub can-same : {p : ℕ} {piles : Piles} → CanSameSet file ends p piles → CanSame file ends p piles
+  can-same c = record {
+    ends-of = c .ends-of;
+    set = set-place (set-is (c .ends-of) (c .set .stands));
+    piles-at =
+        record {
+          first-at = pile-is (c .ends-of) (c .first-pile .stands) .pile-place;
+          second-at = pile-is (c .ends-of) (c .second-pile .stands) .pile-place;
+          third-at = pile-is (c .ends-of) (c .third-pile .stands) .pile-place;
+        };
+  }
+
+  pub set-does : {p : ℕ} {piles : Piles} {r : Bool} → EndsOf file ends →
+      r ≡ sameAll (writtenSet file ends p) (pilesNumbers file ends piles) → SameSet file p piles r
+  set-does o e = record { does = λ s x y z g h i j. e ∙ same-trees o s x y z g h i j }
+
+module _ {file : List ℕ} where
+  no-pile : HasPile file Empty
+  no-pile = record { tree = []; stands = stands-empty }
+
+  plain-pile : {q : ℕ} → HasSet file q → HasPile file (Set q Plain)
+  plain-pile h = record { tree = h .tree; stands = stands-plain (h .stands) }
+
+module _ {file ends : List ℕ} where
+  pub can-written : {p q : ℕ} → CanTwo file ends p q → CanSameSet file ends p (three (Set q Plain) Empty Empty)
+  can-written c = record {
+    ends-of = c .ends-of;
+    set = c .first-set;
+    first-pile = plain-pile (c .second-set);
+    second-pile = no-pile;
+    third-pile = no-pile;
+  }
+
+  pub can-replaced : {p q : ℕ} {put : Put} → CanReplaced file ends p q put →
+      CanSameSet file ends p (three (Set q (Replaced put)) Empty Empty)
+  can-replaced c = record {
+    ends-of = c .ends-of;
+    set = c .first-set;
+    first-pile = record { tree = _; stands = stands-replaced (c .second-set .stands) (c .right-side .stands) };
+    second-pile = no-pile;
+    third-pile = no-pile;
+  }
+
+  pub can-under : {p q b : ℕ} → CanUnder file ends p q b → CanSameSet file ends p (three (Set q (Under b)) Empty Empty)
+  can-under c = record {
+    ends-of = c .ends-of;
+    set = c .first-set;
+    first-pile = record { tree = _; stands = stands-under (c .second-set .stands) (c .test .stands) };
+    second-pile = no-pile;
+    third-pile = no-pile;
+  }
+
+  pub can-branches : {p s t b f : ℕ} → CanBranches file ends p s t b f →
+      CanSameSet file ends p (three (Set s (Under b)) (Set t (Unless b)) (One f b))
+  can-branches c = record {
+    ends-of = c .ends-of;
+    set = c .first-set;
+    first-pile = record { tree = _; stands = stands-under (c .then-set .stands) (c .test .stands) };
+    second-pile = record { tree = _; stands = stands-unless (c .else-set .stands) (c .test .stands) };
+    third-pile = record { tree = _; stands = stands-one (c .before .stands) (c .test .stands) };
+  }
+
+  pub can-union : {p s t : ℕ} → CanThree file ends p s t →
+      CanSameSet file ends p (three (Set s Plain) (Set t Plain) Empty)
+  can-union c = record {
+    ends-of = c .ends-of;
+    set = c .first-set;
+    first-pile = plain-pile (c .second-set);
+    second-pile = plain-pile (c .third-set);
+    third-pile = no-pile;
+  }
+
+  pub can-rest : {p t l s : ℕ} → CanRest file ends p t l s →
+      CanSameSet file ends p (three (Without t l) (Set s Plain) Empty)
+  can-rest c = record {
+    ends-of = c .ends-of;
+    set = c .first-set;
+    first-pile = record { tree = _; stands = stands-without (c .whole-set .stands) (c .left-out .stands) };
+    second-pile = plain-pile (c .put-in);
+    third-pile = no-pile;
+  }
+
+module _ {file : List ℕ} {p : ℕ} {r : Bool} where
+  pub rule-written : {q : ℕ} → SameSet file p (three (Set q Plain) Empty Empty) r → SameWritten file p q r
+  rule-written s = record {
+    does = λ x y g h. s .does x y [] [] g (stands-plain h) stands-empty stands-empty ∙ ap (same x) (append-nil y);
+  }
+
+  pub rule-replaced : {q : ℕ} {put : Put} → SameSet file p (three (Set q (Replaced put)) Empty Empty) r →
+      SameReplaced file p q put r
+  rule-replaced s = record {
+    does = λ x y a g h t.
+        let z = replaceMembers y (replacement a) in
+        s .does x z [] [] g (stands-replaced h t) stands-empty stands-empty ∙ ap (same x) (append-nil z);
+  }
+
+  pub rule-under : {q b : ℕ} → SameSet file p (three (Set q (Under b)) Empty Empty) r → SameUnder file p q b r
+  rule-under s = record {
+    does = λ x y β g h t.
+        s .does x (under y β) [] [] g (stands-under h t) stands-empty stands-empty ∙ ap (same x) (append-nil (under y β));
+  }
+
+  pub rule-branches : {s t b f : ℕ} → SameSet file p (three (Set s (Under b)) (Set t (Unless b)) (One f b)) r →
+      SameBranches file p s t b f r
+  rule-branches e = record {
+    does = λ x y z β φ₀ g h i j k.
+        e .does x (under y β) (under z (neg β)) (one φ₀ β) g (stands-under h j) (stands-unless i j) (stands-one k j);
+  }
+
+  pub rule-union : {s t : ℕ} → SameSet file p (three (Set s Plain) (Set t Plain) Empty) r → SameUnion file p s t r
+  rule-union e = record {
+    does = λ x y z g h i.
+        e .does x y z [] g (stands-plain h) (stands-plain i) stands-empty ∙ ap (λ l. same x (y ++ l)) (append-nil z);
+  }
+
+  pub rule-rest : {t l s : ℕ} → SameSet file p (three (Without t l) (Set s Plain) Empty) r → SameRest file p t l s r
+  rule-rest e = record {
+    does = λ x y z u g h i j.
+        e .does x (without y z) u [] g (stands-without h i) (stands-plain j) stands-empty
+        ∙ ap (λ l. same x (without y z ++ l)) (append-nil u);
+  }
+
+-- set rule 13
+module _ {file ends : List ℕ} where
+  pub set-counted : {q k : ℕ} → EndsOf file ends → HasSet file q → k ≡ countAt file q → MembersAt file ends k (q + 1)
+  set-counted o h e = set-members (set-place (set-is o (h .stands))) e
+
+  pub hold-all : {p q j k : ℕ} → CanTwo file ends p q → j ≡ countAt file q → k ≡ countAt file p →
+      CanHold file ends j (q + 1) Plain k (p + 1)
+  unfolding ViewAt
+  hold-all c e f = record {
+    ends-of = c .ends-of;
+    part = set-counted (c .ends-of) (c .second-set) e;
+    view-at = tt;
+    members = set-counted (c .ends-of) (c .first-set) f;
+  }
+
+  pub rule-stand : {p q j k : ℕ} {r : Bool} → EndsOf file ends → j ≡ countAt file q → k ≡ countAt file p →
+      r ≡ withinAll (written file ends j (q + 1)) (written file ends k (p + 1)) → AllStand file p q r
+  rule-stand {p} {q} {j} {k} o e f h = record {
+    does = λ x y g i.
+        let a = written-is o g in
+        let b = written-is o i in
+        h
+        ∙ ap₂ withinAll
+        (ap (λ n. written file ends n (q + 1)) e ∙ b .numbers-are)
+        (ap (λ n. written file ends n (p + 1)) f ∙ a .numbers-are)
+        ∙ sym (within-numbers y x (b .fit-all) (a .fit-all));
+  }
+
+  -- rule 13: the word of true is 9:1
+  pub find-test : {p b k : ℕ} → CanTest file ends p b → k ≡ countAt file p → CanFind file ends k (p + 1) (Certain b)
+  unfolding ItemAt
+  find-test c e = record {
+    ends-of = c .ends-of;
+    members = set-counted (c .ends-of) (c .first-set) e;
+    item-at = any-place (expression-is (c .ends-of) (c .test .stands));
+  }
+
+  pub rule-test : {p b k : ℕ} {r : Bool} → EndsOf file ends → k ≡ countAt file p →
+      r ≡ standsIn (itemNumbers file ends (Certain b)) (written file ends k (p + 1)) → TestStands file p b r
+  unfolding itemNumbers words numbers
+  rule-test {p} {b} o e h = record {
+    does = λ x β g t.
+        let a = written-is o g in
+        let c = expression-is o t in
+        h
+        ∙ ap₂ standsIn
+        (ap (λ l. 603979777 ∷ l) (c .same))
+        (ap (λ n. written file ends n (p + 1)) e ∙ a .numbers-are)
+        ∙ sym (stands-numbers (member (truth true) β) x (omega arith, fits-part c) (a .fit-all));
+  }

@@ -1,0 +1,122 @@
+-- What the rules ask of sets (document 01, "Rules"), in the terms of the trees that stand at the places.
+-- Working. Assumes nothing.
+--     CanTwo, SameWritten          rules 1, 10, 13: P same as Q
+--     CanReplaced, SameReplaced    rules 3, 4: with the right side for the identifier
+--     CanUnder, SameUnder          rules 5, 12: under B
+--     CanBranches, SameBranches    rule 6
+--     CanThree, SameUnion          rules 9, 16: S ∪ T
+--     CanRest, SameRest            set rule 17: (T without S') ∪ S
+--     AllStand                     set rule 13: each of Q stands in P
+--     CanTest, TestStands          rule 13: true ⇒ B stands in P
+--     CanOperands, SameOperands    set rule 19: P same as φ ⇒ each operand
+--     SameSingle                   rules 11, 18: one member each, the same consequent
+use mathlib.Core.Path.{_≡_}
+use mathlib.Core.Bool.{Bool, true, false, _||_}
+use mathlib.Core.List.{List, _++_}
+use Prim.Native.Nat.{ℕ}
+use lib.Dec.{eqb}
+use Rattle.language.specs.Syntax.{Sort, Boolean, Expr, truth, neg, Assignment}
+use Rattle.rules.specs.Assertion.{Members, member, one}
+use Rattle.rules.specs.Condition.{onOne, onSome}
+use Rattle.rules.specs.Replace.{replacement, replaceMembers}
+use Rattle.rules.specs.Sets.{under, without, operands}
+use Rattle.rules.specs.Tests.{sameConsequent, stands, within, same}
+use Rattle.ends.specs.Ends.{EndsOf}
+use Rattle.compare.specs.Trees.{ExpressionStands, PutStands, HasExpression, HasPut}
+use Rattle.compare.specs.declared.cursor.Put.{Put}
+use Rattle.sets.specs.Trees.{SetStands, HasSet}
+
+module _ (file ends : List ℕ) where
+  pub record CanTwo (p q : ℕ) : Type 0 where
+    pub ends-of : EndsOf file ends
+    pub first-set : HasSet file p
+    pub second-set : HasSet file q
+
+  pub record CanReplaced (p q : ℕ) (put : Put) : Type 0 where
+    pub ends-of : EndsOf file ends
+    pub first-set : HasSet file p
+    pub second-set : HasSet file q
+    pub right-side : HasPut file put
+
+  pub record CanUnder (p q b : ℕ) : Type 0 where
+    pub ends-of : EndsOf file ends
+    pub first-set : HasSet file p
+    pub second-set : HasSet file q
+    pub test : HasExpression file Boolean b
+
+  pub record CanBranches (p s t b f : ℕ) : Type 0 where
+    pub ends-of : EndsOf file ends
+    pub first-set : HasSet file p
+    pub then-set : HasSet file s
+    pub else-set : HasSet file t
+    pub test : HasExpression file Boolean b
+    pub before : HasExpression file Boolean f
+
+  pub record CanThree (p s t : ℕ) : Type 0 where
+    pub ends-of : EndsOf file ends
+    pub first-set : HasSet file p
+    pub second-set : HasSet file s
+    pub third-set : HasSet file t
+
+  pub record CanRest (p t l s : ℕ) : Type 0 where
+    pub ends-of : EndsOf file ends
+    pub first-set : HasSet file p
+    pub whole-set : HasSet file t
+    pub left-out : HasSet file l
+    pub put-in : HasSet file s
+
+  pub record CanTest (p b : ℕ) : Type 0 where
+    pub ends-of : EndsOf file ends
+    pub first-set : HasSet file p
+    pub test : HasExpression file Boolean b
+
+module _ (file : List ℕ) where
+  pub record SameWritten (p q : ℕ) (r : Bool) : Type 0 where
+    pub does : (x y : Members) → SetStands file x p → SetStands file y q → r ≡ same x y
+
+  pub record SameReplaced (p q : ℕ) (put : Put) (r : Bool) : Type 0 where
+    pub does : (x y : Members) (a : Assignment) → SetStands file x p → SetStands file y q → PutStands file put a →
+        r ≡ same x (replaceMembers y (replacement a))
+
+  pub record SameUnder (p q b : ℕ) (r : Bool) : Type 0 where
+    pub does : (x y : Members) (β : Expr Boolean) → SetStands file x p → SetStands file y q → ExpressionStands file β b →
+        r ≡ same x (under y β)
+
+  pub record SameBranches (p s t b f : ℕ) (r : Bool) : Type 0 where
+    pub does : (x y z : Members) (β φ₀ : Expr Boolean) → SetStands file x p → SetStands file y s → SetStands file z t →
+        ExpressionStands file β b → ExpressionStands file φ₀ f →
+        r ≡ same x (under y β ++ (under z (neg β) ++ one φ₀ β))
+
+  pub record SameUnion (p s t : ℕ) (r : Bool) : Type 0 where
+    pub does : (x y z : Members) → SetStands file x p → SetStands file y s → SetStands file z t → r ≡ same x (y ++ z)
+
+  pub record SameRest (p t l s : ℕ) (r : Bool) : Type 0 where
+    pub does : (x y z u : Members) → SetStands file x p → SetStands file y t → SetStands file z l → SetStands file u s →
+        r ≡ same x (without y z ++ u)
+
+  pub record AllStand (p q : ℕ) (r : Bool) : Type 0 where
+    pub does : (x y : Members) → SetStands file x p → SetStands file y q → r ≡ within y x
+
+  pub record TestStands (p b : ℕ) (r : Bool) : Type 0 where
+    pub does : (x : Members) (β : Expr Boolean) → SetStands file x p → ExpressionStands file β b →
+        r ≡ stands (member (truth true) β) x
+
+-- rule 19: φ at f, E at b; E has one operand or two that the rule takes
+abbrev pub hasTwo : ℕ → Bool
+hasTwo k = eqb k 3 || (eqb k 8 || (eqb k 10 || eqb k 11))
+
+pub record CanOperands (file ends : List ℕ) (p f b : ℕ) : Type 0 where
+  pub ends-of : EndsOf file ends
+  pub first-set : HasSet file p
+  pub antecedent : HasExpression file Boolean f
+  pub sort : Sort
+  pub consequent : HasExpression file sort b
+
+pub record SameOperands (file : List ℕ) (p f b : ℕ) (r : Bool) : Type 0 where
+  pub does : (x : Members) (φ : Expr Boolean) {k : Sort} (e : Expr k) → SetStands file x p → ExpressionStands file φ f →
+      ExpressionStands file e b → r ≡ onSome (operands φ e) false (same x)
+
+-- rules 11 and 18: one member each, with the same consequent
+pub record SameSingle (file : List ℕ) (p q : ℕ) (r : Bool) : Type 0 where
+  pub does : (x y : Members) → SetStands file x p → SetStands file y q →
+      r ≡ onOne x false (λ m. onOne y false (λ n. sameConsequent (m .consequent) (n .consequent)))

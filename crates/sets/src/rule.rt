@@ -1,0 +1,211 @@
+use crate::item::Item;
+use crate::item::View;
+use crate::member::has_item;
+use crate::member::seen_in;
+use crate::pile::Pile;
+use crate::pile::Piles;
+use crate::pile::count;
+use crate::set::same_set;
+use compare::assertion::same_expression;
+use compare::cursor::Put;
+use compare::cursor::end_at;
+ghost use Rattle.sets.specs.Rules.{CanTwo, SameWritten, CanReplaced, SameReplaced, CanUnder, SameUnder};
+ghost use Rattle.sets.specs.Rules.{CanBranches, SameBranches, CanThree, SameUnion, CanRest, SameRest};
+ghost use mathlib.Core.Path.{_≡_};
+ghost use Rattle.sets.specs.Rules.{AllStand, CanTest, TestStands, hasTwo, CanOperands, SameOperands, SameSingle};
+
+// Rules 1, 10 and 13: P same as Q.
+pub fn same_written(w: &[u32], ends: &[u32], p: usize, q: usize) -> bool
+    requires { ⌜ CanTwo (now w) (now ends) p q ⌝ }
+    ensures { λ r. ⌜ SameWritten (now (w .entry)) p q r ⌝ }
+{
+    same_set(
+        w,
+        ends,
+        p,
+        Piles {
+            first: Pile::Set(q, View::Plain),
+            second: Pile::Empty,
+            third: Pile::Empty,
+        },
+    )
+}
+
+// Rules 3 and 4: P same as Q with the right side for the identifier.
+pub fn same_replaced(w: &[u32], ends: &[u32], p: usize, q: usize, put: Put) -> bool
+    requires { ⌜ CanReplaced (now w) (now ends) p q put ⌝ }
+    ensures { λ r. ⌜ SameReplaced (now (w .entry)) p q put r ⌝ }
+{
+    same_set(
+        w,
+        ends,
+        p,
+        Piles {
+            first: Pile::Set(q, View::Replaced(put)),
+            second: Pile::Empty,
+            third: Pile::Empty,
+        },
+    )
+}
+
+// Rules 5 and 12: P same as Q under B.
+pub fn same_under(w: &[u32], ends: &[u32], p: usize, q: usize, b: usize) -> bool
+    requires { ⌜ CanUnder (now w) (now ends) p q b ⌝ }
+    ensures { λ r. ⌜ SameUnder (now (w .entry)) p q b r ⌝ }
+{
+    same_set(
+        w,
+        ends,
+        p,
+        Piles {
+            first: Pile::Set(q, View::Under(b)),
+            second: Pile::Empty,
+            third: Pile::Empty,
+        },
+    )
+}
+
+// Rule 6: P same as S under B, T under ¬B and φ0 ⇒ B together; φ0 stands at f.
+pub fn same_branches(
+    w: &[u32],
+    ends: &[u32],
+    p: usize,
+    s: usize,
+    t: usize,
+    b: usize,
+    f: usize,
+) -> bool
+    requires { ⌜ CanBranches (now w) (now ends) p s t b f ⌝ }
+    ensures { λ r. ⌜ SameBranches (now (w .entry)) p s t b f r ⌝ }
+{
+    same_set(
+        w,
+        ends,
+        p,
+        Piles {
+            first: Pile::Set(s, View::Under(b)),
+            second: Pile::Set(t, View::Unless(b)),
+            third: Pile::One(f, b),
+        },
+    )
+}
+
+// Rules 9 and 16: P same as S ∪ T.
+pub fn same_union(w: &[u32], ends: &[u32], p: usize, s: usize, t: usize) -> bool
+    requires { ⌜ CanThree (now w) (now ends) p s t ⌝ }
+    ensures { λ r. ⌜ SameUnion (now (w .entry)) p s t r ⌝ }
+{
+    same_set(
+        w,
+        ends,
+        p,
+        Piles {
+            first: Pile::Set(s, View::Plain),
+            second: Pile::Set(t, View::Plain),
+            third: Pile::Empty,
+        },
+    )
+}
+
+// Set rule 17: P same as (T without S') ∪ S; S' stands at l.
+pub fn same_rest(w: &[u32], ends: &[u32], p: usize, t: usize, l: usize, s: usize) -> bool
+    requires { ⌜ CanRest (now w) (now ends) p t l s ⌝ }
+    ensures { λ r. ⌜ SameRest (now (w .entry)) p t l s r ⌝ }
+{
+    same_set(
+        w,
+        ends,
+        p,
+        Piles {
+            first: Pile::Without(t, l),
+            second: Pile::Set(s, View::Plain),
+            third: Pile::Empty,
+        },
+    )
+}
+
+// Set rule 13: each of Q stands in P.
+pub fn all_stand(w: &[u32], ends: &[u32], p: usize, q: usize) -> bool
+    requires { ⌜ CanTwo (now w) (now ends) p q ⌝ }
+    ensures { λ r. ⌜ AllStand (now (w .entry)) p q r ⌝ }
+{
+    let k = count(w, p);
+    let j = count(w, q);
+    seen_in(w, ends, j, q + 1, View::Plain, k, p + 1)
+}
+
+// Rule 13: true ⇒ B stands in P.
+pub fn test_stands(w: &[u32], ends: &[u32], p: usize, b: usize) -> bool
+    requires { ⌜ CanTest (now w) (now ends) p b ⌝ }
+    ensures { λ r. ⌜ TestStands (now (w .entry)) p b r ⌝ }
+{
+    let k = count(w, p);
+    has_item(w, ends, k, p + 1, Item::Certain(b))
+}
+
+// Kinds 3, 8, 10 and 11: operator, comparison, and, or.
+fn has_two(kind: u32) -> bool
+    ensures { λ r. ⌜ r ≡ hasTwo kind ⌝ }
+{
+    if kind == 3 {
+        return true;
+    }
+    if kind == 8 {
+        return true;
+    }
+    if kind == 10 {
+        return true;
+    }
+    kind == 11
+}
+
+// Set rule 19: P same as φ ⇒ each operand of E; φ stands at f, E at b. Kind 12, not, has one operand.
+pub fn same_operands(w: &[u32], ends: &[u32], p: usize, f: usize, b: usize) -> bool
+    requires { ⌜ CanOperands (now w) (now ends) p f b ⌝ }
+    ensures { λ r. ⌜ SameOperands (now (w .entry)) p f b r ⌝ }
+{
+    let kind = w[b] / 67108864;
+    let first = b + 1;
+    if kind == 12 {
+        return same_set(
+            w,
+            ends,
+            p,
+            Piles {
+                first: Pile::One(f, first),
+                second: Pile::Empty,
+                third: Pile::Empty,
+            },
+        );
+    }
+    if !has_two(kind) {
+        return false;
+    }
+    let second = end_at(ends, first);
+    same_set(
+        w,
+        ends,
+        p,
+        Piles {
+            first: Pile::One(f, first),
+            second: Pile::One(f, second),
+            third: Pile::Empty,
+        },
+    )
+}
+
+// Rules 11 and 18: P and Q have one member each, with the same consequent.
+pub fn same_single(w: &[u32], ends: &[u32], p: usize, q: usize) -> bool
+    requires { ⌜ CanTwo (now w) (now ends) p q ⌝ }
+    ensures { λ r. ⌜ SameSingle (now (w .entry)) p q r ⌝ }
+{
+    if count(w, p) != 1 {
+        return false;
+    }
+    if count(w, q) != 1 {
+        return false;
+    }
+    let x = end_at(ends, p + 1);
+    let y = end_at(ends, q + 1);
+    same_expression(w, ends, x, y)
+}
