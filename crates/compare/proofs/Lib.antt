@@ -6,9 +6,6 @@
 --     Numbers     numbers spell words, and words spell one tree
 --     Replaced    the numbers of an expression with another in the place of an identifier
 --     Whole       a cursor that passes all of a part finds the same numbers there
---     Equal       equality of numbers as a test
---     Trees       the numbers of a part are those of the tree that stands there
---     Assertions  assertions compared by what the rules make of them
 pub mod Ranges
 pub mod Matching
 pub mod Operands
@@ -16,6 +13,3 @@ pub mod Exchange
 pub mod Numbers
 pub mod Replaced
 pub mod Whole
-pub mod Equal
-pub mod Trees
-pub mod Assertions

@@ -5,10 +5,8 @@
 --     matched-append                           one list after the other
 --     range-step, range-done                   the numbers between two places, one by one
 --     head-put, head-word                      a word or what is put for it
---     reached-not, reached-is                  a place is reached
---     Step, step-then, step-word               a cursor after one list, then another
 use mathlib.Core.Path.{_≡_, refl, sym, ap, _∙_}
-use mathlib.Core.Bool.{Bool, true, false, _&&_, cond}
+use mathlib.Core.Bool.{Bool, true, false, cond}
 use mathlib.Core.List.{List, [], _∷_, _++_}
 use Prim.Native.Nat.{ℕ, _+_, _<_, _≤_}
 use borrow.Author.Tests.{eq-eqb, ne-eqb, lt-ltb, le-ltb}
@@ -69,23 +67,3 @@ module _ (file : List ℕ) where
       matchedWord file m x ≡ matched file m (putFor file put x)
   unfolding matched putFor
   head-word m x put h = simp (ne-eqb x (put .word) h)
-
--- all was there, and a place is reached
-pub reached-not : (a b : Bool) → a ≡ false → false ≡ (a && b)
-reached-not a b h = rw h
-
-pub reached-is : (a b : Bool) → a ≡ true → b ≡ (a && b)
-reached-is a b h = rw h
-
--- a cursor after numbers
-pub record Step (file : List ℕ) (m : Match) (l : List ℕ) (n : Match) : Type 0 where
-  pub is : n ≡ matched file m l
-
-module _ {file : List ℕ} where
-  pub step-then : {m n r : Match} {k l : List ℕ} → Step file m k n → Step file n l r → Step file m (k ++ l) r
-  step-then {m} {n} {r} {k} {l} x y =
-      record { is = y .is ∙ ap (λ c. matched file c l) (x .is) ∙ sym (matched-append file m k l) }
-
-  pub step-word : {m n : Match} {x : ℕ} → n ≡ matchedWord file m x → Step file m (x ∷ []) n
-  unfolding matched
-  step-word e = record { is = e }

@@ -3,8 +3,7 @@
 --     numbers, between        the numbers of words; of a file from a place up to another
 --     matchedWord, matched    a cursor after one number, after a list of them
 --     putFor, exchanged       what is put for a word; for each of a list
---     sameNumbers             equality, as a test
-use mathlib.Core.Bool.{Bool, true, false, _&&_, cond}
+use mathlib.Core.Bool.{true, false, _&&_, cond}
 use mathlib.Core.List.{List, [], _∷_, _++_}
 use Prim.Native.Nat.{ℕ, _+_}
 use lib.Dec.{eqb, ltb}
@@ -39,9 +38,3 @@ putFor file put x = cond (eqb x (put .word)) (between file (put .from) (put .to)
 unfoldable pub exchanged : List ℕ → Put → List ℕ → List ℕ
 exchanged file put [] = []
 exchanged file put (x ∷ l) = putFor file put x ++ exchanged file put l
-
-unfoldable pub sameNumbers : List ℕ → List ℕ → Bool
-sameNumbers [] [] = true
-sameNumbers [] (y ∷ l) = false
-sameNumbers (x ∷ k) [] = false
-sameNumbers (x ∷ k) (y ∷ l) = eqb x y && sameNumbers k l

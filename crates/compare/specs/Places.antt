@@ -1,9 +1,8 @@
 -- An expression stands at a place of a file, and its end is in the list of ends.
 -- Working. Assumes nothing.
---     endAt, part                 the place past the part that starts at a place; its numbers
+--     endAt                       the place past the part that starts at a place
 --     ExpressionTo, ExpressionAt  an expression of a sort stands from a place up to another; up to its end in the list
 --     AnyAt, Chained              one of any sort; so many of them, one after the other
---     CanPass                     an expression is passed by its words
 --     CanMatch, CanMatchAny       what the functions that walk an expression ask for
 --     Matched                     what they promise: the cursor after its numbers, with others in the place of a word
 use mathlib.Core.Path.{_≡_}
@@ -27,10 +26,6 @@ pub record ExpressionTo (file : List ℕ) (k : Sort) (at p : ℕ) : Type 0 where
   pub stands : PartStands file (expressionPart tree) levels at p
 
 module _ (file ends : List ℕ) where
-  -- the numbers of the part that starts at a place
-  abbrev pub part : ℕ → List ℕ
-  part at = between file at (endAt ends at)
-
   abbrev pub ExpressionAt : Sort → ℕ → Type 0
   ExpressionAt k at = ExpressionTo file k at (endAt ends at)
 
@@ -41,11 +36,6 @@ module _ (file ends : List ℕ) where
   abbrev pub Chained : ℕ → ℕ → ℕ → Type 0
   Chained zero at p = at ≡ p
   Chained (suc n) at p = AnyAt at × Chained n (endAt ends at) p
-
-  -- an expression of any sort is passed by its words
-  pub record CanPass (at : ℕ) : Type 0 where
-    pub ends-of : EndsOf file ends
-    pub any : AnyAt at
 
   pub record CanMatch (k : Sort) (at : ℕ) (put : Put) : Type 0 where
     pub ends-of : EndsOf file ends

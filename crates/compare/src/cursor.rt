@@ -1,7 +1,5 @@
 ghost use mathlib.Core.Path.{_≡_};
 ghost use Prim.Native.Nat.{_<_, _≤_};
-ghost use mathlib.Core.Bool.{_&&_};
-ghost use lib.Dec.{eqb};
 ghost use lib.ListN.{length, getD};
 ghost use Rattle.compare.specs.Matching.{matchedWord, matched, between, putFor};
 
@@ -64,18 +62,6 @@ pub fn match_range(w: &[u32], m: Match, from: usize, to: usize) -> Match
         i += 1;
     }
     r
-}
-
-// All was there, and the place past it is `to`.
-pub fn reached(m: Match, to: usize) -> bool
-    ensures { λ r. ⌜ r ≡ (m .same && eqb (m .at) to) ⌝ }
-{
-    let same = m.same;
-    if !same {
-        return false;
-    }
-    let at = m.at;
-    at == to
 }
 
 // The word x, or what is put for it.

@@ -1,4 +1,3 @@
 // Written expressions compared by words, also with one expression in the place of an identifier.
 pub mod cursor; // a place that moves along a file while the words from it on are the ones asked for
 pub mod expression; // the words of an expression, with another in the place of an identifier
-pub mod assertion; // assertions compared as the rules on necessary preconditions need them

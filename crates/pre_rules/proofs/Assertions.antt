@@ -6,14 +6,13 @@
 --     true-at        rule 29
 use mathlib.Core.Path.{_≡_, refl, sym, ap, _∙_}
 use mathlib.Core.Bool.{Bool, true}
-use mathlib.Core.List.{List, [], _∷_, _++_}
-use Prim.Native.Nat.{ℕ, _+_, _*_, _≤_}
+use mathlib.Core.List.{List, _∷_}
+use Prim.Native.Nat.{ℕ}
 use native.Mathlib.Omega.{arith}
 use lib.IntN.{pos}
-use Rattle.language.specs.Syntax.{Sort, Boolean, Expr, truth, and, or, neg, toScalar, toArray}
-use Rattle.rules.specs.Words.{Word, word, words, sameWords}
+use Rattle.language.specs.Syntax.{Sort, Boolean, Expr, and, neg, toScalar, toArray}
+use Rattle.rules.specs.Words.{word, words, sameWords}
 use Rattle.rules.specs.Replace.{Replacement, replacement, replace}
-use Rattle.layout.specs.Spelling.{encode}
 use Rattle.compare.specs.Matching.{between, numbers, matchedWord, matched, exchanged}
 use Rattle.compare.specs.Places.{endAt, Matched}
 use Rattle.compare.specs.declared.cursor.Match.{Match}
@@ -23,7 +22,7 @@ use Rattle.compare.proofs.Replaced.{Replaces, replaces, scalar-replaces, array-
 use Rattle.compare.proofs.Whole.{cursor}
 use Rattle.rule_laws.specs.Places.{WrittenAt}
 use Rattle.rule_laws.specs.Sameness.{came}
-use Rattle.rule_laws.proofs.Passing.{Passes, then, passes-word, passes-part, same-expression}
+use Rattle.rule_laws.proofs.Passing.{then, passes-word, passes-part, same-expression}
 use Rattle.pre_rules.specs.Conditions.{SplitAt, JoinAt, ReplacedAt, TrueAt}
 
 module _ {file ends : List ℕ} where
@@ -42,7 +41,7 @@ module _ {file ends : List ℕ} where
           h
           ∙ same-expression x (
             omega arith,
-            fits-append (word 10 (pos 0) ∷ (words φ₁ ++ words t)) (word 10 (pos 0) ∷ (words φ₂ ++ (word 12 (pos 0) ∷ words t)))
+            fits-append (words (and φ₁ t)) (words (and φ₂ (neg t)))
                 (omega arith, fits-append (words φ₁) (words t) (fits z) (fits y))
                 (omega arith, fits-append (words φ₂) (word 12 (pos 0) ∷ words t) (fits v) (omega arith, fits y)),
           )
@@ -72,8 +71,8 @@ module _ {file ends : List ℕ} where
     is = λ φ x. h ∙ same-expression x (omega arith, tt) (passes-word (word 9 (pos 1)) e refl);
   }
 
-  module _ {f g a w to : ℕ} (m : Match) (e : Matched file ends (cursor true f) g (record { word = w; from = a; to = to }) m)
-      (k : to ≡ endAt ends a) where
+  module _ {f g a w to : ℕ} (m : Match)
+      (e : Matched file ends (cursor true f) g (record { word = w; from = a; to = to }) m) (k : to ≡ endAt ends a) where
     abbrev put : Put
     put = record { word = w; from = a; to = to }
 
@@ -89,7 +88,8 @@ module _ {file ends : List ℕ} where
         ∙ same-expression x (t .fit) (record {
           is =
               e .is
-              ∙ ap (λ l. matched file (cursor true f) (exchanged file put l)) (stands-between file g (words φ′) (endAt ends g) (y .stands .stand))
+              ∙ ap (λ l. matched file (cursor true f) (exchanged file put l))
+              (stands-between file g (words φ′) (endAt ends g) (y .stands .stand))
               ∙ ap (matched file (cursor true f)) (sym (t .same));
         })
 

@@ -6,15 +6,16 @@
 --     OneAt, PairAt, BothAt     one assertion and a child; one and two children; two and two children
 --     CommandOneAt              a command and a child
 --     of-20 .. of-30            evidence by the payload of its word
-use mathlib.Core.Path.{_≡_, refl, sym, ap, subst, _∙_}
+use mathlib.Core.Path.{_≡_, sym, ap, subst, _∙_}
 use mathlib.Core.List.{List, [], _∷_}
-use Prim.Native.Nat.{ℕ, zero, suc, _+_, _<_, _≤_}
+use Prim.Native.Nat.{ℕ, suc, _+_, _≤_}
 use native.Mathlib.Omega.{arith}
 use lib.IntN.{pos}
 use Rattle.language.specs.Syntax.{Boolean, Expr, Command}
-use Rattle.rules.specs.Evidence.{PreEvidence, pre20, pre21, pre22, pre23, pre24, pre25, pre26, pre27, pre28, pre29, pre30}
+use Rattle.rules.specs.Evidence.{PreEvidence, pre20, pre21, pre22, pre23, pre24, pre25, pre26, pre27, pre28, pre29}
+use Rattle.rules.specs.Evidence.{pre30}
 use Rattle.layout.specs.Bytes.{payloadAt}
-use Rattle.layout.specs.EvidenceWords.{Part, joined, EachFits, expressionPart, commandPart, preNode, prePart}
+use Rattle.layout.specs.EvidenceWords.{Part, expressionPart, commandPart, preNode, prePart}
 use Rattle.layout.specs.Standing.{PartStands, Chain}
 use Rattle.layout.proofs.Stands.{stands-chain}
 use Rattle.layout.proofs.Words.{payload-of-word}
@@ -82,7 +83,8 @@ module _ {file : List ℕ} {k : PreEvidence} {d at end : ℕ} (s : EvidenceAt fi
   ruled e = subst (λ n. Rule n k) (sym payload-is ∙ e) (by-rule k)
 
 -- at the same place by another name
-pub evidence-from : {file : List ℕ} {k : PreEvidence} {d i j end : ℕ} → j ≡ i → EvidenceAt file k d i end → EvidenceAt file k d j end
+pub evidence-from : {file : List ℕ} {k : PreEvidence} {d i j end : ℕ} → j ≡ i → EvidenceAt file k d i end →
+    EvidenceAt file k d j end
 evidence-from {file} {k} {d} {end = end} h x = subst (λ n. EvidenceAt file k d n end) (sym h) x
 
 -- what follows the word of evidence, at its places
@@ -129,8 +131,8 @@ module _ (file ends : List ℕ) (d at end : ℕ) where
 
 module _ {file ends : List ℕ} (o : EndsOf file ends) where
   -- a carried assertion, then the others; a carried command
-  carried-expression : (φ : Expr Boolean) (l : List Part) (d at p : ℕ) → d ≤ 256 → Chain file (expressionPart φ ∷ l) d at p →
-      WrittenAt file ends φ at × Chain file l d (endAt ends at) p
+  carried-expression : (φ : Expr Boolean) (l : List Part) (d at p : ℕ) → d ≤ 256 →
+      Chain file (expressionPart φ ∷ l) d at p → WrittenAt file ends φ at × Chain file l d (endAt ends at) p
   carried-expression φ l d at p h c = (
     written o φ d at (c .0) h (c .1),
     subst (λ q. Chain file l d q p) (expression-past o φ d at (c .0) (c .1)) (c .2),
@@ -234,7 +236,8 @@ module _ {file ends : List ℕ} (o : EndsOf file ends) where
           second-at = last-child m d (e .1 .0) end (e .1 .2);
         }
 
-    go30 : {k : PreEvidence} → d ≤ 256 → Rule 30 k → EvidenceAt file k (suc d) at end → CommandOneAt file ends d at end k
+    go30 : {k : PreEvidence} → d ≤ 256 → Rule 30 k → EvidenceAt file k (suc d) at end →
+        CommandOneAt file ends d at end k
     unfolding preNode
     go30 l (rule30 {c = e} {n = n}) s =
         let c = carried-command e (prePart n ∷ []) d (at + 1) end l (chain s) in

@@ -9,7 +9,7 @@
 use mathlib.Core.Path.{_≡_, refl, sym, ap, subst, _∙_}
 use mathlib.Core.Bool.{Bool}
 use mathlib.Core.List.{List}
-use Prim.Native.Nat.{ℕ, suc, _+_, _<_, _≤_}
+use Prim.Native.Nat.{ℕ, suc, _<_, _≤_}
 use native.Mathlib.Omega.{arith}
 use lib.ListN.{length}
 use Rattle.language.specs.Syntax.{Boolean, Expr, Command}
@@ -18,7 +18,6 @@ use Rattle.rules.specs.Condition.{test}
 use Rattle.rules.specs.Evidence.{PreEvidence}
 use Rattle.rules.specs.Judge.{Verdict, judgePre, judgeLeaf}
 use Rattle.ends.specs.Ends.{EndsOf}
-use Rattle.compare.specs.Places.{endAt}
 use Rattle.goals.specs.Goals.{TreeGoal, pre, verdict, GoalStands, pre-stands, Comes}
 use Rattle.goals.specs.declared.Goal.the-variants.{Pre}
 use Rattle.goals.specs.declared.Step.{Step}
@@ -82,14 +81,15 @@ module _ {file ends : List ℕ} {rule f c g at : ℕ} (p : CanTry file ends rule
   command-known = places.command-known (p .ends-of) (here .command-at)
 
 module _ {file ends : List ℕ} {f c g : ℕ} {t : TreeGoal} {d at end : ℕ} where
-  pub verdict-is : (Γ : Context) (x : GoalAt file ends f c g t d at end) {k : PreEvidence} {v : Verdict} → x .evidence ≡ k →
-      judgePre Γ k (x .φ) (x .command) (x .φ′) ≡ v → verdict Γ t ≡ v
+  pub verdict-is : (Γ : Context) (x : GoalAt file ends f c g t d at end) {k : PreEvidence} {v : Verdict} →
+      x .evidence ≡ k → judgePre Γ k (x .φ) (x .command) (x .φ′) ≡ v → verdict Γ t ≡ v
   verdict-is Γ x e h =
       ap (verdict Γ) (x .is) ∙ ap (λ k. judgePre Γ k (x .φ) (x .command) (x .φ′)) e ∙ h
 
 module _ {file ends : List ℕ} {f c g at : ℕ} (o : EndsOf file ends) where
   pub tried : {r : Step} →
-      ((limits : Limits) (t : TreeGoal) (d end : ℕ) → d ≤ 256 → GoalAt file ends f c g t d at end → Comes limits file t d at end r) →
+      ((limits : Limits) (t : TreeGoal) (d end : ℕ) → d ≤ 256 → GoalAt file ends f c g t d at end →
+      Comes limits file t d at end r) →
       Tried file f c g at r
   tried h = record { comes = λ limits t d end l s. h limits t d end l (goal-at o s) }
 

@@ -1,23 +1,23 @@
 -- The rules of necessary preconditions that have implications (document 01, rules 21 and 28).
 -- Assumes nothing.
---     RepeatPlaces, can-first, can-second      calls of `implies` for the two conditions of rule 21
+--     can-first, can-second                    calls of `implies` for the two conditions of rule 21
 --     repeats-first, repeats-both              what they answer
+--     fails-first, large-first                 a first condition that does not pass settles
 --     while-stops, while-steps                 rule 21
 --     weaker-steps                             rule 28
 --     while-conditions, weaker-conditions      what the code asks for
 --     while-known, carried-21, carried-28
 use mathlib.Core.Path.{_≡_, refl, sym, ap, subst, _∙_}
 use mathlib.Core.List.{List}
-use Prim.Native.Nat.{ℕ, suc, _+_, _≤_}
+use Prim.Native.Nat.{ℕ, _+_, _≤_}
 use native.Mathlib.Omega.{arith}
-use lib.ListN.{length}
 use Rattle.language.specs.Syntax.{Boolean, Expr, and, neg, Command, while}
 use Rattle.rules.specs.Context.{Limits, Context}
-use Rattle.rules.specs.Condition.{Result, passes, fails, tooLarge, _then_, byForm}
+use Rattle.rules.specs.Condition.{Result, passes, _then_, byForm}
 use Rattle.rules.specs.Condition.{implication}
 use Rattle.rules.specs.Evidence.{PreEvidence, pre21, pre28}
 use Rattle.rules.specs.Judge.{refused, judgePre, judgeWord}
-use Rattle.layout.specs.Bytes.{kindAt, payloadAt}
+use Rattle.layout.specs.Bytes.{kindAt}
 use Rattle.ends.specs.Ends.{EndsOf}
 use Rattle.compare.specs.Places.{endAt}
 use Rattle.implication.specs.Sides.{resultOf, CanImply, Implied}
@@ -28,8 +28,8 @@ use Rattle.goals.specs.Goals.{TreeGoal, Comes, StepOf}
 use Rattle.goals.specs.declared.Goal.the-variants.{Nothing, Pre}
 use Rattle.goals.specs.declared.Step.{Step}
 use Rattle.goals.specs.declared.Step.the-variants.{Stop, Go}
-use Rattle.rule_laws.specs.Places.{WrittenAt, CommandAt, PartKnown}
-use Rattle.rule_laws.specs.Implications.{AssertionAt, CanImplyAt, ImpliesAt}
+use Rattle.rule_laws.specs.Places.{WrittenAt, PartKnown}
+use Rattle.rule_laws.specs.Implications.{CanImplyAt, ImpliesAt}
 use Rattle.rule_laws.specs.Steps.{settledStep}
 use Rattle.rule_laws.proofs.Places.{command-to, written-known}
 use Rattle.rule_laws.proofs.Commands.{kindOf, is-while, other-kind, other-than-while}
@@ -77,7 +77,8 @@ module _ {file ends : List ℕ} {limit a b f p q to : ℕ} (e : p ≡ endAt ends
     repeats-first r k stop = record {
       is = λ φ₀ t φ′ φ u v y z Γ l.
           sym (stop (implication Γ (and φ′ (neg t)) φ))
-          ∙ ap (λ (j : Result). j then implication Γ (and φ′ (neg t)) φ) (ap resultOf (sym k) ∙ answer φ₀ t φ u v z Γ l);
+          ∙ ap (λ (j : Result). j then implication Γ (and φ′ (neg t)) φ)
+          (ap resultOf (sym k) ∙ answer φ₀ t φ u v z Γ l);
     }
 
     module _ {g past : ℕ} (j : past ≡ endAt ends g) where
@@ -108,7 +109,8 @@ module _ {file ends : List ℕ} {limit a b f p q to : ℕ} (e : p ≡ endAt ends
             y .is (and φ′ (neg t)) φ 256 256
             (record { first = φ′; second = t; is = refl; left = deep j w; right = deep h v })
             (deep i z) Γ l
-            ∙ ap (λ (s : Result). s then implication Γ (and φ′ (neg t)) φ) (ap resultOf (sym k) ∙ answer φ₀ t φ u v z Γ l);
+            ∙ ap (λ (s : Result). s then implication Γ (and φ′ (neg t)) φ)
+            (ap resultOf (sym k) ∙ answer φ₀ t φ u v z Γ l);
       }
 
 -- failure and size absorb what follows
@@ -138,28 +140,30 @@ module _ (Γ : Context) (i : ℕ) (φ φ′ : Expr Boolean) (c : Command) (φ₁
   unfolding judgePre
   judged-28 s = ap (λ y. judgeWord i y (judgePre Γ k φ₁ c φ′)) (sym s)
 
-module _ {file ends : List ℕ} {limit f c g at : ℕ} (o : EndsOf file ends) where
+module _ {file ends : List ℕ} {limit f c g at : ℕ} where
   -- a step for every tree, under limits with so many comparisons
-  stepped : {r : Step} →
+  stepped : EndsOf file ends → {r : Step} →
       ((limits : Limits) → limits .comparisons ≡ limit → (t : TreeGoal) (d end : ℕ) → d ≤ 256 →
       GoalAt file ends f c g t d at end → Comes limits file t d at end r) → StepOf file limit (Pre f c g) at r
-  stepped h = record { comes = λ limits m t d end l s. h limits m t d end l (goal-at o s) }
+  stepped o h = record { comes = λ limits m t d end l s. h limits m t d end l (goal-at o s) }
 
-  module _ (r : payloadAt file at ≡ 21) where
+  module _ (p : CanTry file ends 21 f c g at) where
     pub while-stops : (kindAt file c ≡ 30 → ⊥) → StepOf file limit (Pre f c g) at (Stop 8)
-    while-stops h = stepped λ limits m t d end l x.
-        let k = of-21 o l (x .evidence-at) r in
+    while-stops h = stepped (p .ends-of) λ limits m t d end l x.
+        let k = of-21 (p .ends-of) l (x .evidence-at) (p .rule-is) in
         verdict-is (under limits) x (k .is)
         (other-21 (under limits) at (x .φ) (x .φ′) (x .command) (k .carried) (k .child) (other-kind (x .command-at) h))
 
     pub while-steps : kindAt file c ≡ 30 → {s : Condition} → RepeatsAt file ends limit (at + 1) (c + 1) g f s →
         {body next : ℕ} → body ≡ endAt ends (c + 1) → next ≡ endAt ends (at + 1) →
-        {u : Step} → u ≡ settledStep s (Go next (Pre (at + 1) body f) Nothing Nothing) → StepOf file limit (Pre f c g) at u
+        {u : Step} → u ≡ settledStep s (Go next (Pre (at + 1) body f) Nothing Nothing) →
+        StepOf file limit (Pre f c g) at u
     while-steps h {s} v e₁ e₂ e = subst (λ u. StepOf file limit (Pre f c g) at u) (sym e)
-        (stepped λ limits m t d end l x.
-        let k = of-21 o l (x .evidence-at) r in
-        let i = is-while o (x .command-at) h in
-        let result = v .is (k .carried) (i .test) (x .φ′) (x .φ) (k .carried-at) (i .test-at) (x .second-at) (x .first-at) (under limits) m in
+        (stepped (p .ends-of) λ limits m t d end l x.
+        let k = of-21 (p .ends-of) l (x .evidence-at) (p .rule-is) in
+        let i = is-while (p .ends-of) (x .command-at) h in
+        let result = v .is (k .carried) (i .test) (x .φ′) (x .φ) (k .carried-at) (i .test-at) (x .second-at)
+        (x .first-at) (under limits) m in
         settled-comes limits file t d at end s _ (judgePre (under limits) (k .child) (k .carried) (i .body) (x .φ))
         (verdict-is (under limits) x (k .is)
         (judged-21 (under limits) at (x .φ) (x .φ′) (x .command) (k .carried) (k .child) (i .is) result))
@@ -168,12 +172,12 @@ module _ {file ends : List ℕ} {limit f c g at : ℕ} (o : EndsOf file ends) wh
         (child-stands (k .carried-at) (command-to e₁ (i .body-at)) (x .first-at) (evidence-from e₂ (k .child-at)))
         judged)
 
-  pub weaker-steps : payloadAt file at ≡ 28 → {s : Condition} → ImpliesAt file ends limit (at + 1) f s →
+  pub weaker-steps : CanTry file ends 28 f c g at → {s : Condition} → ImpliesAt file ends limit (at + 1) f s →
       {next : ℕ} → next ≡ endAt ends (at + 1) →
       {u : Step} → u ≡ settledStep s (Go next (Pre (at + 1) c g) Nothing Nothing) → StepOf file limit (Pre f c g) at u
-  weaker-steps r {s} v e₂ e = subst (λ u. StepOf file limit (Pre f c g) at u) (sym e)
-      (stepped λ limits m t d end l x.
-      let k = of-28 o l (x .evidence-at) r in
+  weaker-steps p {s} v e₂ e = subst (λ u. StepOf file limit (Pre f c g) at u) (sym e)
+      (stepped (p .ends-of) λ limits m t d end l x.
+      let k = of-28 (p .ends-of) l (x .evidence-at) (p .rule-is) in
       let result = v .is (k .carried) (x .φ) (k .carried-at) (x .first-at) (under limits) m in
       settled-comes limits file t d at end s _ (judgePre (under limits) (k .child) (k .carried) (x .command) (x .φ′))
       (verdict-is (under limits) x (k .is)

@@ -41,7 +41,8 @@ module _ {file ends : List ℕ} {limit f c g at : ℕ} (p : CanStep file ends li
   pub rule-range : (20 ≤ payloadAt file at) × (payloadAt file at ≤ 30)
   rule-range = rule-between (goal-at (p .ends-of) (p .goal-stands) .evidence-at)
 
-pub step-of : {file : List ℕ} {limit f c g at : ℕ} {r : Step} → Tried file f c g at r → StepOf file limit (Pre f c g) at r
+pub step-of : {file : List ℕ} {limit f c g at : ℕ} {r : Step} → Tried file f c g at r →
+    StepOf file limit (Pre f c g) at r
 step-of x = record { comes = λ limits m t d end l s. x .comes limits t d end l s }
 
 -- a number that is none of those before the last

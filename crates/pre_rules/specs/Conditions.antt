@@ -52,8 +52,8 @@ module _ (file ends : List ℕ) where
     pub right : PartKnown file ends a
 
   pub record ReplacedAt (f g word a : ℕ) (r : Bool) : Type 0 where
-    pub scalars : (φ φ′ : Expr Boolean) (x : ℕ) (e : Expr Arithmetic) → WrittenAt file ends φ f → WrittenAt file ends φ′ g →
-        WrittenAt file ends e a → x ≤ 31 → word ≡ 2 * 67108864 + x →
+    pub scalars : (φ φ′ : Expr Boolean) (x : ℕ) (e : Expr Arithmetic) → WrittenAt file ends φ f →
+        WrittenAt file ends φ′ g → WrittenAt file ends e a → x ≤ 31 → word ≡ 2 * 67108864 + x →
         r ≡ sameAntecedent φ (replace φ′ (replacement (toScalar x e)))
     pub arrays : (φ φ′ : Expr Boolean) (x : ℕ) (e : Expr Array) → WrittenAt file ends φ f → WrittenAt file ends φ′ g →
         WrittenAt file ends e a → x ≤ 31 → word ≡ 16 * 67108864 + x →
@@ -73,6 +73,6 @@ module _ (file ends : List ℕ) where
     pub whole : AssertionAt file ends f
 
   pub record RepeatsAt (limit a b g f : ℕ) (r : Condition) : Type 0 where
-    pub is : (φ₀ t φ′ φ : Expr Boolean) → WrittenAt file ends φ₀ a → WrittenAt file ends t b → WrittenAt file ends φ′ g →
-        WrittenAt file ends φ f → (Γ : Context) → Γ .limits .comparisons ≡ limit →
+    pub is : (φ₀ t φ′ φ : Expr Boolean) → WrittenAt file ends φ₀ a → WrittenAt file ends t b →
+        WrittenAt file ends φ′ g → WrittenAt file ends φ f → (Γ : Context) → Γ .limits .comparisons ≡ limit →
         resultOf r ≡ (implication Γ (and φ₀ t) φ then implication Γ (and φ′ (neg t)) φ)

@@ -25,8 +25,8 @@ pub record CanTry (file ends : List ℕ) (rule f c g at : ℕ) : Type 0 where
   pub goal-stands : GoalStands limits file (Pre f c g) tree (suc levels) at end
 
 pub record Tried (file : List ℕ) (f c g at : ℕ) (r : Step) : Type 0 where
-  pub comes : (limits : Limits) (t : TreeGoal) (d end : ℕ) → d ≤ 256 → GoalStands limits file (Pre f c g) t (suc d) at end →
-      Comes limits file t d at end r
+  pub comes : (limits : Limits) (t : TreeGoal) (d end : ℕ) → d ≤ 256 →
+      GoalStands limits file (Pre f c g) t (suc d) at end → Comes limits file t d at end r
 
 -- a rule with an implication, of at most so many comparisons
 pub record CanTryWithin (file ends : List ℕ) (limit rule f c g at : ℕ) : Type 0 where

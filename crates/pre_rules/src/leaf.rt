@@ -1,5 +1,5 @@
-// The rules with no children. Each is tried at the evidence word at `at`, for the assertion at f, the command at c and the
-// assertion at g.
+// The rules with no children. Each is tried at the evidence word at `at`, for the assertion at f, the command at c and
+// the assertion at g.
 use super::condition::is_join;
 use super::condition::is_replaced;
 use super::condition::is_true;

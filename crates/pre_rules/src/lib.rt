@@ -19,8 +19,8 @@ use node::rule_30;
 ghost use Rattle.goals.specs.Goals.{CanStep, StepOf};
 ghost use Rattle.goals.specs.declared.Goal.the-variants.{Pre};
 
-// What the evidence word at `at` comes to, for the assertion at f, the command at c and the assertion at g. An implication over
-// more than `limit` comparisons is too large.
+// What the evidence word at `at` comes to, for the assertion at f, the command at c and the assertion at g. An
+// implication over more than `limit` comparisons is too large.
 pub fn pre_step(
     w: &[u32],
     ends: &[u32],

@@ -1,5 +1,5 @@
-// The rules with children and no implication. Each is tried at the evidence word at `at`, for the assertion at f, the command
-// at c and the assertion at g.
+// The rules with children and no implication. Each is tried at the evidence word at `at`, for the assertion at f, the
+// command at c and the assertion at g.
 use super::condition::is_split;
 use compare::cursor::end_at;
 use goals::Goal;

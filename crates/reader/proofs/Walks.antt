@@ -246,7 +246,8 @@ module _
         x ≡ walkOf (after (meaning b u) at q) → x ≡ walk
     arm {q} {b} e word g h =
         h ∙ ap (λ (y : Word). walkOf (after (meaning b y) at q)) (sym g ∙ word)
-        ∙ ap (λ (y : Due). onDue y (λ k p q b. walkOf (after (meaning b (of k p)) at q))) (sym e ∙ due) ∙ sym (law .goes)
+        ∙ ap (λ (y : Due). onDue y (λ k p q b. walkOf (after (meaning b (of k p)) at q))) (sym e ∙ due)
+        ∙ sym (law .goes)
 
     pub none-arm : {k p q b : ℕ} {v : Word} → r ≡ There k p q b → v ≡ of k p → meaning b v ≡ none → Refused 5 at ≡ walk
     none-arm {q} e word g = arm e word refl (ap (λ (o : Option (Reader A)). walkOf (after o at q)) (sym g))

@@ -11,7 +11,7 @@ use lib.Dec.{eqb, ltb}
 use Rattle.rules.specs.Context.{Limits}
 use Rattle.layout.specs.Bytes.{wordCount, numberAt}
 use Rattle.layout.specs.Reading.{Reading, read, fault, onRead}
-use Rattle.layout.specs.Read.{command, set}
+use Rattle.layout.specs.Read.{set}
 use Rattle.layout.specs.ReadEvidence.{flowEvidence}
 use Rattle.layout.specs.File as file
 use Rattle.reader.specs.Walk.{walkOf}

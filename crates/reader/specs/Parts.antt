@@ -1,5 +1,5 @@
 -- The parts of evidence, by rule: what it carries, then its children (document 01, "Rules").
--- Working: proofs/Evidence.antt ties the tables to the layout's.
+-- Working: proofs/RuleParts.antt ties the tables to the layout's.
 --     preTable, implicationTable, flowTable    by rule
 --     partWalk, partsWalk                      the walk of a part, of all parts one after the other
 use mathlib.Core.List.{List}
@@ -18,7 +18,7 @@ use Rattle.words.specs.declared.PreRule.the-variants.{Pre20, Pre21, Pre22, Pre2
 use Rattle.words.specs.declared.PreRule.the-variants.{Pre29, Pre30}
 use Rattle.reader.specs.Walk.{walkOf, onward}
 use Rattle.reader.specs.declared.Walk.{Walk}
-use Rattle.reader.specs.declared.Walk.the-variants.{Next, Refused}
+use Rattle.reader.specs.declared.Walk.the-variants.{Next}
 use Rattle.reader.specs.declared.Part.{Part}
 use Rattle.reader.specs.declared.Part.the-variants.{Nothing, Boolean, Command, Set, Precondition, Implication}
 use Rattle.reader.specs.declared.Part.the-variants.{Flow}

@@ -11,7 +11,7 @@ use mathlib.Core.List.{List}
 use Prim.Native.Nat.{ℕ, _+_}
 use native.Mathlib.Omega.{arith}
 use Rattle.rules.specs.Context.{Limits}
-use Rattle.rules.specs.Condition.{Result, passes, fails, tooLarge, test, _then_}
+use Rattle.rules.specs.Condition.{test, _then_}
 use Rattle.rules.specs.Judge.{Verdict, accepted, refused, oneMore, _also_, judgeWord, judgeLeaf}
 use Rattle.goals.specs.Goals.{TreeGoal, nothing, verdict, GoalStands, nothing-stands, ChildrenOf, Comes}
 use Rattle.goals.specs.declared.Goal.{Goal}
@@ -47,7 +47,8 @@ abbrev pub under : Limits → TreeGoal → Verdict
 under limits t = verdict (record { limits = limits }) t
 
 module _ {limits : Limits} {file : List ℕ} {g : TreeGoal} {d end next : ℕ} where
-  pub no-children : next ≡ end → under limits g ≡ oneMore (accepted 0) → ChildrenOf limits file g d end next Nothing Nothing Nothing
+  pub no-children : next ≡ end → under limits g ≡ oneMore (accepted 0) →
+      ChildrenOf limits file g d end next Nothing Nothing Nothing
   unfolding _also_
   no-children e h = record {
     first = nothing;
@@ -61,7 +62,8 @@ module _ {limits : Limits} {file : List ℕ} {g : TreeGoal} {d end next : ℕ} w
     judged = h;
   }
 
-  pub one-child : {a : Goal} {t : TreeGoal} → GoalStands limits file a t d next end → under limits g ≡ oneMore (under limits t) →
+  pub one-child : {a : Goal} {t : TreeGoal} → GoalStands limits file a t d next end →
+      under limits g ≡ oneMore (under limits t) →
       ChildrenOf limits file g d end next a Nothing Nothing
   unfolding _also_
   one-child {t = t} s h = record {
@@ -93,7 +95,8 @@ module _ {limits : Limits} {file : List ℕ} {g : TreeGoal} {d end next : ℕ} w
 
   pub three-children : {a b c : Goal} {t u v : TreeGoal} {middle last : ℕ} → GoalStands limits file a t d next middle →
       GoalStands limits file b u d middle last → GoalStands limits file c v d last end →
-      under limits g ≡ oneMore (under limits t also (under limits u also under limits v)) → ChildrenOf limits file g d end next a b c
+      under limits g ≡ oneMore (under limits t also (under limits u also under limits v)) →
+      ChildrenOf limits file g d end next a b c
   three-children {t = t} {u = u} {v = v} {middle} {last} s r q h = record {
     first = t;
     second = u;
@@ -114,7 +117,8 @@ leaf-comes limits file g d at end true e h = no-children e (h ∙ word-passes at
 leaf-comes limits file g d at end false e h = h ∙ word-fails at (accepted 0) refl
 
 -- a rule whose condition has three results
-pub settled-comes : (limits : Limits) (file : List ℕ) (g : TreeGoal) (d at end : ℕ) (r : Condition) (s : Step) (v : Verdict) →
+pub settled-comes :
+    (limits : Limits) (file : List ℕ) (g : TreeGoal) (d at end : ℕ) (r : Condition) (s : Step) (v : Verdict) →
     under limits g ≡ judgeWord at (resultOf r) v → (under limits g ≡ oneMore v → Comes limits file g d at end s) →
     Comes limits file g d at end (settledStep r s)
 unfolding settledStep judgeWord

@@ -1,23 +1,24 @@
 -- The form of a written command by the kind of its first word, and where its parts stand (document 01, "Layout").
 -- Assumes nothing.
 --     kindOf, command-kind                                the kind of a command's first word
---     SequenceAt, AssertAt, AssignAt, IfAt, WhileAt, ForAt, ForParts
+--     SequenceAt, AssertAt, AssignAt, IfAt, WhileAt, ForAt
 --                                                         a command of that form, and its parts at their places
+--     AssignParts, ForParts, parts-of-for                 an assignment, a `for`: payload and parts
 --     is-skip, is-sequence .. is-for                      a command has the form that its kind says
---     not-skip, not-sequence .. not-for                   or is as all the others
-use mathlib.Core.Path.{_≡_, refl, sym, ap, subst, _∙_}
-use mathlib.Core.List.{List, [], _∷_, _++_}
-use Prim.Native.Nat.{ℕ, zero, suc, _+_, _*_, _<_, _≤_}
+--     other-than-skip .. other-than-for, other-kind       or is as all the others
+use mathlib.Core.Path.{_≡_, refl, sym, subst, _∙_}
+use mathlib.Core.List.{List, _∷_, _++_}
+use Prim.Native.Nat.{ℕ, zero, suc, _+_, _*_, _≤_}
 use native.Mathlib.Omega.{arith}
 use lib.IntN.{pos}
 use Rattle.language.specs.Syntax.{Sort, Boolean, Arithmetic, Array, Expr, Assignment, toScalar, toArray}
 use Rattle.language.specs.Syntax.{Command, skip, sequence, assert, assign, ifElse, while, for}
-use Rattle.rules.specs.Words.{words, commandWords}
+use Rattle.rules.specs.Words.{word, words, commandWords}
 use Rattle.rules.specs.Condition.{byForm, onSkip, onSequence, onAssert, onScalar, onArray, onIf, onWhile, onFor}
 use Rattle.layout.specs.Bytes.{numberAt, kindAt, payloadAt}
 use Rattle.layout.specs.Spelling.{FitsExpression, FitsCommand}
 use Rattle.layout.specs.EvidenceWords.{commandPart}
-use Rattle.layout.specs.Standing.{PartStands}
+use Rattle.layout.specs.Standing.{Stands, PartStands}
 use Rattle.layout.proofs.Stands.{parted}
 use Rattle.layout.proofs.Words.{quotient, remainder, kind-of-word, payload-of-word}
 use Rattle.ends.specs.Ends.{EndsOf}
@@ -56,6 +57,12 @@ form (ifElse b c d) = form-if
 form (while b c) = form-while
 form (for q m c) = form-for
 
+-- an assignment: its payload, and its right side at its place
+pub record AssignParts {k : Sort} (file ends : List ℕ) (at x : ℕ) (right : Expr k) : Type 0 where
+  pub small : x ≤ 31
+  pub payload : payloadAt file at ≡ x
+  pub right-at : WrittenAt file ends right (at + 1)
+
 -- a `for` over q up to m: its payload, and its body at its place
 pub record ForParts (file ends : List ℕ) (at q m : ℕ) (body : Command) : Type 0 where
   pub counter-small : q ≤ 31
@@ -82,9 +89,7 @@ module _ (file ends : List ℕ) (at : ℕ) (c : Command) where
     pub name : ℕ
     pub right : Expr k
     pub is : c ≡ assign (to name right)
-    pub small : name ≤ 31
-    pub payload : payloadAt file at ≡ name
-    pub right-at : WrittenAt file ends right (at + 1)
+    pub parts : AssignParts file ends at name right
 
   pub record IfAt : Type 0 where
     pub test : Expr Boolean
@@ -150,14 +155,14 @@ module _ {file : List ℕ} where
         moved {q} c e s = subst (λ i. CommandAt file ends c i) e (commanded o c d q p l s)
 
         sequence-parts : (c₁ c₂ : Command) →
-            PartStands file (record { spelling = commandWords c₁ ++ commandWords c₂; fits = λ n i. FitsCommand c₁ n × FitsCommand c₂ n }) d at p →
+            Stands file (commandWords c₁ ++ commandWords c₂) (FitsCommand c₁ d × FitsCommand c₂ d) at p →
             CommandAt file ends c₁ at × CommandAt file ends c₂ (endAt ends at)
         sequence-parts c₁ c₂ s =
             parted (commandWords c₁) (commandWords c₂) s λ q x y.
             (commanded o c₁ d at q l x, moved c₂ (command-past o c₁ d at q x) y)
 
         while-parts : (b : Expr Boolean) (c : Command) →
-            PartStands file (record { spelling = words b ++ commandWords c; fits = λ n i. FitsExpression b n × FitsCommand c n }) d at p →
+            Stands file (words b ++ commandWords c) (FitsExpression b d × FitsCommand c d) at p →
             WrittenAt file ends b at × CommandAt file ends c (endAt ends at)
         while-parts b c s =
             parted (words b) (commandWords c) s λ q x y.
@@ -171,7 +176,8 @@ module _ {file : List ℕ} where
           let x = sequence-parts (at + 1) p d (omega arith) c e (record { stand = s .stand .2; fit = s .fit }) in
           record { first = c; second = e; is = refl; first-at = x .0; second-at = x .1 }
 
-      pub is-sequence : {c : Command} {at : ℕ} → CommandAt file ends c at → kindAt file at ≡ 25 → SequenceAt file ends at c
+      pub is-sequence : {c : Command} {at : ℕ} → CommandAt file ends c at → kindAt file at ≡ 25 →
+          SequenceAt file ends at c
       is-sequence x k = sequence-go (x .levels) (formed x k) (x .low) (x .stands)
 
       assert-go : {c : Command} {at p : ℕ} (d : ℕ) → Form 26 c → d ≤ 256 → PartStands file (commandPart c) d at p →
@@ -187,20 +193,25 @@ module _ {file : List ℕ} where
       pub is-assert : {c : Command} {at : ℕ} → CommandAt file ends c at → kindAt file at ≡ 26 → AssertAt file ends at c
       is-assert x k = assert-go (x .levels) (formed x k) (x .low) (x .stands)
 
+      -- n is the kind of its word
+      assign-parts : {k : Sort} (n x : ℕ) (e : Expr k) {at p : ℕ} (d : ℕ) → d ≤ 256 → x ≤ 31 →
+          Stands file (word n (pos x) ∷ words e) (FitsExpression e d) at p → AssignParts file ends at x e
+      assign-parts n x e {at} {p} d l h s = record {
+        small = h;
+        payload = payload-of-word file at n (pos x) (s .stand .1) (omega arith);
+        right-at = written o e d (at + 1) p l (record { stand = s .stand .2; fit = s .fit });
+      }
+
       scalar-go : {c : Command} {at p : ℕ} (d : ℕ) → Form 27 c → d ≤ 256 → PartStands file (commandPart c) d at p →
           AssignAt file ends at c Arithmetic toScalar
       unfolding commandWords FitsCommand
       scalar-go zero f l s = absurd (s .fit)
-      scalar-go {at = at} {p} (suc d) (form-scalar {x} {e}) l s =
-          let f : x ≤ 31 = s .fit .0 in
-          record {
-            name = x;
-            right = e;
-            is = refl;
-            small = f;
-            payload = payload-of-word file at 27 (pos x) (s .stand .1) (omega arith);
-            right-at = written o e d (at + 1) p (omega arith) (record { stand = s .stand .2; fit = s .fit .1 });
-          }
+      scalar-go (suc d) (form-scalar {x} {e}) l s = record {
+        name = x;
+        right = e;
+        is = refl;
+        parts = assign-parts 27 x e d (omega arith) (s .fit .0) (record { stand = s .stand; fit = s .fit .1 });
+      }
 
       pub is-scalar : {c : Command} {at : ℕ} → CommandAt file ends c at → kindAt file at ≡ 27 →
           AssignAt file ends at c Arithmetic toScalar
@@ -210,16 +221,12 @@ module _ {file : List ℕ} where
           AssignAt file ends at c Array toArray
       unfolding commandWords FitsCommand
       array-go zero f l s = absurd (s .fit)
-      array-go {at = at} {p} (suc d) (form-array {x} {e}) l s =
-          let f : x ≤ 31 = s .fit .0 in
-          record {
-            name = x;
-            right = e;
-            is = refl;
-            small = f;
-            payload = payload-of-word file at 28 (pos x) (s .stand .1) (omega arith);
-            right-at = written o e d (at + 1) p (omega arith) (record { stand = s .stand .2; fit = s .fit .1 });
-          }
+      array-go (suc d) (form-array {x} {e}) l s = record {
+        name = x;
+        right = e;
+        is = refl;
+        parts = assign-parts 28 x e d (omega arith) (s .fit .0) (record { stand = s .stand; fit = s .fit .1 });
+      }
 
       pub is-array : {c : Command} {at : ℕ} → CommandAt file ends c at → kindAt file at ≡ 28 →
           AssignAt file ends at c Array toArray
@@ -308,44 +315,55 @@ module _ {A : Type 0} (other : A) where
   pub other-than-skip : (c : Command) (g : A) → (kindOf c ≡ 24 → ⊥) → onSkip c other g ≡ other
   other-than-skip c g n =
       by-form _ _ _ _ _ _ _ _ c
-      (λ k. absurd (n k)) (λ _ _ k. refl) (λ _ k. refl) (λ _ _ k. refl) (λ _ _ k. refl) (λ _ _ _ k. refl) (λ _ _ k. refl) (λ _ _ _ k. refl)
+      (λ k. absurd (n k)) (λ _ _ k. refl) (λ _ k. refl) (λ _ _ k. refl)
+      (λ _ _ k. refl) (λ _ _ _ k. refl) (λ _ _ k. refl) (λ _ _ _ k. refl)
 
-  pub other-than-sequence : (c : Command) (g : Command → Command → A) → (kindOf c ≡ 25 → ⊥) → onSequence c other g ≡ other
+  pub other-than-sequence : (c : Command) (g : Command → Command → A) → (kindOf c ≡ 25 → ⊥) →
+      onSequence c other g ≡ other
   other-than-sequence c g n =
       by-form _ _ _ _ _ _ _ _ c
-      (λ k. refl) (λ _ _ k. absurd (n k)) (λ _ k. refl) (λ _ _ k. refl) (λ _ _ k. refl) (λ _ _ _ k. refl) (λ _ _ k. refl) (λ _ _ _ k. refl)
+      (λ k. refl) (λ _ _ k. absurd (n k)) (λ _ k. refl) (λ _ _ k. refl)
+      (λ _ _ k. refl) (λ _ _ _ k. refl) (λ _ _ k. refl) (λ _ _ _ k. refl)
 
   pub other-than-assert : (c : Command) (g : Expr Boolean → A) → (kindOf c ≡ 26 → ⊥) → onAssert c other g ≡ other
   other-than-assert c g n =
       by-form _ _ _ _ _ _ _ _ c
-      (λ k. refl) (λ _ _ k. refl) (λ _ k. absurd (n k)) (λ _ _ k. refl) (λ _ _ k. refl) (λ _ _ _ k. refl) (λ _ _ k. refl) (λ _ _ _ k. refl)
+      (λ k. refl) (λ _ _ k. refl) (λ _ k. absurd (n k)) (λ _ _ k. refl)
+      (λ _ _ k. refl) (λ _ _ _ k. refl) (λ _ _ k. refl) (λ _ _ _ k. refl)
 
   pub other-than-scalar : (c : Command) (g : ℕ → Expr Arithmetic → A) → (kindOf c ≡ 27 → ⊥) → onScalar c other g ≡ other
   other-than-scalar c g n =
       by-form _ _ _ _ _ _ _ _ c
-      (λ k. refl) (λ _ _ k. refl) (λ _ k. refl) (λ _ _ k. absurd (n k)) (λ _ _ k. refl) (λ _ _ _ k. refl) (λ _ _ k. refl) (λ _ _ _ k. refl)
+      (λ k. refl) (λ _ _ k. refl) (λ _ k. refl) (λ _ _ k. absurd (n k))
+      (λ _ _ k. refl) (λ _ _ _ k. refl) (λ _ _ k. refl) (λ _ _ _ k. refl)
 
   pub other-than-array : (c : Command) (g : ℕ → Expr Array → A) → (kindOf c ≡ 28 → ⊥) → onArray c other g ≡ other
   other-than-array c g n =
       by-form _ _ _ _ _ _ _ _ c
-      (λ k. refl) (λ _ _ k. refl) (λ _ k. refl) (λ _ _ k. refl) (λ _ _ k. absurd (n k)) (λ _ _ _ k. refl) (λ _ _ k. refl) (λ _ _ _ k. refl)
+      (λ k. refl) (λ _ _ k. refl) (λ _ k. refl) (λ _ _ k. refl)
+      (λ _ _ k. absurd (n k)) (λ _ _ _ k. refl) (λ _ _ k. refl) (λ _ _ _ k. refl)
 
-  pub other-than-if : (c : Command) (g : Expr Boolean → Command → Command → A) → (kindOf c ≡ 29 → ⊥) → onIf c other g ≡ other
+  pub other-than-if : (c : Command) (g : Expr Boolean → Command → Command → A) → (kindOf c ≡ 29 → ⊥) →
+      onIf c other g ≡ other
   other-than-if c g n =
       by-form _ _ _ _ _ _ _ _ c
-      (λ k. refl) (λ _ _ k. refl) (λ _ k. refl) (λ _ _ k. refl) (λ _ _ k. refl) (λ _ _ _ k. absurd (n k)) (λ _ _ k. refl) (λ _ _ _ k. refl)
+      (λ k. refl) (λ _ _ k. refl) (λ _ k. refl) (λ _ _ k. refl)
+      (λ _ _ k. refl) (λ _ _ _ k. absurd (n k)) (λ _ _ k. refl) (λ _ _ _ k. refl)
 
-  pub other-than-while : (c : Command) (g : Expr Boolean → Command → A) → (kindOf c ≡ 30 → ⊥) → onWhile c other g ≡ other
+  pub other-than-while : (c : Command) (g : Expr Boolean → Command → A) → (kindOf c ≡ 30 → ⊥) →
+      onWhile c other g ≡ other
   other-than-while c g n =
       by-form _ _ _ _ _ _ _ _ c
-      (λ k. refl) (λ _ _ k. refl) (λ _ k. refl) (λ _ _ k. refl) (λ _ _ k. refl) (λ _ _ _ k. refl) (λ _ _ k. absurd (n k)) (λ _ _ _ k. refl)
+      (λ k. refl) (λ _ _ k. refl) (λ _ k. refl) (λ _ _ k. refl)
+      (λ _ _ k. refl) (λ _ _ _ k. refl) (λ _ _ k. absurd (n k)) (λ _ _ _ k. refl)
 
   pub other-than-for : (c : Command) (g : ℕ → ℕ → Command → A) → (kindOf c ≡ 31 → ⊥) → onFor c other g ≡ other
   other-than-for c g n =
       by-form _ _ _ _ _ _ _ _ c
-      (λ k. refl) (λ _ _ k. refl) (λ _ k. refl) (λ _ _ k. refl) (λ _ _ k. refl) (λ _ _ _ k. refl) (λ _ _ k. refl) (λ _ _ _ k. absurd (n k))
+      (λ k. refl) (λ _ _ k. refl) (λ _ k. refl) (λ _ _ k. refl)
+      (λ _ _ k. refl) (λ _ _ _ k. refl) (λ _ _ k. refl) (λ _ _ _ k. absurd (n k))
 
 -- a command of another kind
-module _ {file ends : List ℕ} {c : Command} {at : ℕ} (x : CommandAt file ends c at) {n : ℕ} (h : kindAt file at ≡ n → ⊥) where
-  pub other-kind : kindOf c ≡ n → ⊥
-  other-kind e = h (command-kind x ∙ e)
+pub other-kind : {file ends : List ℕ} {c : Command} {at n : ℕ} → CommandAt file ends c at → (kindAt file at ≡ n → ⊥) →
+    kindOf c ≡ n → ⊥
+other-kind x h e = h (command-kind x ∙ e)

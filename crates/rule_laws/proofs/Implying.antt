@@ -1,13 +1,14 @@
 -- Sides of an implication by their places: written assertions, no deeper than the table's stack has room for.
 -- Assumes nothing.
---     fits-more, deep       what fits, fits with more levels left; a written expression with as many as can be
---     can-imply             a call of `implies` for two assertions
---     implies-at            what it answers
-use mathlib.Core.Path.{_≡_, refl, sym, ap, subst, _∙_}
+--     fits-more, deep        what fits, fits with more levels left; a written expression with as many as can be
+--     assertion-known        an assertion's place is in the list of ends
+--     can-imply              a call of `implies` for two assertions
+--     implies-at             what it answers
+use mathlib.Core.Path.{_≡_, sym, subst}
 use mathlib.Core.List.{List}
 use Prim.Native.Nat.{ℕ, zero, suc, _≤_}
 use native.Mathlib.Omega.{arith}
-use Rattle.language.specs.Syntax.{Sort, Boolean, Expr, constant, scalar, operation, select, compare, truth, and, or, neg}
+use Rattle.language.specs.Syntax.{Sort, Expr, constant, scalar, operation, select, compare, truth, and, or, neg}
 use Rattle.language.specs.Syntax.{array, zeros, update}
 use Rattle.layout.specs.Spelling.{FitsExpression}
 use Rattle.layout.specs.EvidenceWords.{expressionPart}
@@ -29,7 +30,8 @@ fits-more (constant z) (suc d) (suc n) l f = f
 fits-more (scalar x) (suc d) (suc n) l f = f
 fits-more (operation o a b) (suc d) (suc n) l f =
     (fits-more a d n (omega arith) (f .0), fits-more b d n (omega arith) (f .1))
-fits-more (select h i) (suc d) (suc n) l f = (fits-more h d n (omega arith) (f .0), fits-more i d n (omega arith) (f .1))
+fits-more (select h i) (suc d) (suc n) l f =
+    (fits-more h d n (omega arith) (f .0), fits-more i d n (omega arith) (f .1))
 fits-more (compare r a b) (suc d) (suc n) l f =
     (fits-more a d n (omega arith) (f .0), fits-more b d n (omega arith) (f .1))
 fits-more (truth t) (suc d) (suc n) l f = tt

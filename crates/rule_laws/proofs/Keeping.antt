@@ -1,12 +1,10 @@
 -- A scan for what a command modifies, by the places of the command and of an expression or set.
 -- Assumes nothing.
 --     kept-at    what the scans say of what stands at the places
-use mathlib.Core.Path.{_≡_, sym, subst}
+use mathlib.Core.Path.{_≡_, subst}
 use mathlib.Core.Bool.{Bool}
 use mathlib.Core.List.{List}
 use Prim.Native.Nat.{ℕ}
-use Rattle.layout.specs.EvidenceWords.{expressionPart, commandPart, setPart}
-use Rattle.layout.specs.Standing.{PartStands}
 use Rattle.scan.specs.Scan.{Modified, Unmarked}
 use Rattle.compare.specs.Places.{endAt}
 use Rattle.rule_laws.specs.Sameness.{KeptAt}

@@ -3,6 +3,7 @@
 --     Commands    the form of a written command by the kind of its first word, and its parts
 --     Sets        a written set with no member, with one
 --     Passing     a cursor that passes words decides sameness with what stands there
+--     Meaning     the words of what a `for` means
 --     Keeping     a scan for what a command modifies
 --     Implying    sides of an implication by their places
 --     Children    what the word of a rule comes to, from its verdict
@@ -10,6 +11,7 @@ pub mod Places
 pub mod Commands
 pub mod Sets
 pub mod Passing
+pub mod Meaning
 pub mod Keeping
 pub mod Implying
 pub mod Children

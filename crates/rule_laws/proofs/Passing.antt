@@ -2,34 +2,29 @@
 -- Assumes nothing.
 --     Passes, passes-word, passes-part, then        a cursor after words, one after the other
 --     InRange, in-range-append                      words whose payloads are in range, also those of a `for`
---     command-in-range                              those of a command that fits
+--     command-range                                 those of a command that fits
 --     numbers-tell                                  their numbers tell them
 --     same-words                                    sameness by words, found by a cursor
 --     same-expression                               of a written expression with words in range
 --     same-command                                  of a written command with words in range
-use mathlib.Core.Path.{_≡_, refl, sym, ap, ap₂, subst, _∙_}
-use mathlib.Core.Bool.{Bool, true, false, _&&_}
+use mathlib.Core.Path.{_≡_, refl, sym, ap, ap₂, _∙_}
+use mathlib.Core.Bool.{Bool, true, false}
 use mathlib.Core.List.{List, [], _∷_, _++_, head-eq-of-cons-eq, tail-eq-of-cons-eq, cons≢nil, nil≢cons}
-use Prim.Native.Nat.{ℕ, zero, suc, _+_, _*_, _/_, _%_, _<_, _≤_}
+use Prim.Native.Nat.{ℕ, zero, suc, _+_, _≤_}
 use native.Mathlib.Omega.{arith}
 use borrow.Author.Tests.{eqb-true, eq-eqb}
 use lib.Dec.{eqb}
-use lib.IntN.{ℤ, pos}
-use lib.ListN.{length}
 use Rattle.laws.proofs.Bools.{and-left, and-right, and-both, clash}
 use Rattle.laws.proofs.Decides.{Decides}
-use Rattle.language.specs.Syntax.{Operator, Comparison, Sort, Expr, constant, scalar, operation, select, compare, truth}
+use Rattle.language.specs.Syntax.{Sort, Expr, constant, scalar, operation, select, compare, truth}
 use Rattle.language.specs.Syntax.{and, or, neg, array, zeros, update, toScalar, toArray}
 use Rattle.language.specs.Syntax.{Command, skip, sequence, assert, assign, ifElse, while, for}
-use Rattle.language.specs.Runs.{meaning}
 use Rattle.rules.specs.Words.{Word, word, forWord, words, commandWords, sameWords}
-use Rattle.rules.specs.Words.{operatorPayload, comparisonPayload, truthPayload}
 use Rattle.rules.proofs.Decides.{sameWords-decides}
-use Rattle.layout.specs.Bytes.{payloadAt, signed}
+use Rattle.layout.specs.Bytes.{signed}
 use Rattle.layout.specs.Spelling.{encode, payloadOf, FitsConstant, FitsExpression, FitsCommand}
 use Rattle.layout.specs.Standing.{StandsTo}
 use Rattle.layout.proofs.Words.{payload-small, signed-payload}
-use Rattle.ends.specs.Ends.{EndsOf}
 use Rattle.compare.specs.Matching.{between, numbers, matchedWord, matched}
 use Rattle.compare.specs.Places.{endAt}
 use Rattle.compare.specs.declared.cursor.Match.{Match}
@@ -39,9 +34,8 @@ use Rattle.compare.proofs.Numbers.{stands-between, numbers-append, FitsWords, f
 use Rattle.compare.proofs.Numbers.{operator-fits, comparison-fits, truth-fits}
 use Rattle.compare.proofs.Whole.{cursor, whole-sound, whole-complete}
 use Rattle.rule_laws.specs.Places.{WrittenAt, CommandAt}
-use Rattle.rule_laws.specs.Sameness.{came, startNumbers, nextNumbers, SameAt, MeaningAt}
+use Rattle.rule_laws.specs.Sameness.{came, SameAt}
 use Rattle.rule_laws.proofs.Places.{written-inside, command-inside}
-use Rattle.rule_laws.proofs.Commands.{ForParts, parts-of-for}
 
 -- a cursor after words
 pub record Passes (file : List ℕ) (m : Match) (l : List Word) (n : Match) : Type 0 where
@@ -57,20 +51,22 @@ module _ {file : List ℕ} where
         ∙ ap (matched file m) (sym (numbers-append k l));
   }
 
-  pub passes-word : {m n : Match} {x : ℕ} (v : Word) → n ≡ matchedWord file m x → x ≡ encode v → Passes file m (v ∷ []) n
+  pub passes-word : {m n : Match} {x : ℕ} (v : Word) → n ≡ matchedWord file m x → x ≡ encode v →
+      Passes file m (v ∷ []) n
   unfolding matched numbers
   passes-word {m} v e h = record { is = e ∙ ap (matchedWord file m) h }
 
   module _ {ends : List ℕ} where
-    pub passes-part : {m n : Match} {k : Sort} {e : Expr k} {a : ℕ} → n ≡ matched file m (between file a (endAt ends a)) →
-        WrittenAt file ends e a → Passes file m (words e) n
+    pub passes-part : {m n : Match} {k : Sort} {e : Expr k} {a : ℕ} →
+        n ≡ matched file m (between file a (endAt ends a)) → WrittenAt file ends e a → Passes file m (words e) n
     passes-part {m} {e = e} {a} h x =
         record { is = h ∙ ap (matched file m) (stands-between file a (words e) (endAt ends a) (x .stands .stand)) }
 
     pub passes-command : {m n : Match} {c : Command} {a : ℕ} → n ≡ matched file m (between file a (endAt ends a)) →
         CommandAt file ends c a → Passes file m (commandWords c) n
-    passes-command {m} {c = c} {a} h x =
-        record { is = h ∙ ap (matched file m) (stands-between file a (commandWords c) (endAt ends a) (x .stands .stand)) }
+    passes-command {m} {c = c} {a} h x = record {
+      is = h ∙ ap (matched file m) (stands-between file a (commandWords c) (endAt ends a) (x .stands .stand));
+    }
 
 -- payloads are in range, and kind 31 is that of a `for` alone
 abbrev pub InRange : Word → Type 0
@@ -85,48 +81,71 @@ pub in-range-append : (k l : List Word) → AllInRange k → AllInRange l → Al
 in-range-append [] l f g = g
 in-range-append (v ∷ k) l f g = (f .0, in-range-append k l (f .1) g)
 
-expression-in-range : {k : Sort} (d : ℕ) (e : Expr k) → FitsExpression e d → AllInRange (words e)
-unfolding words FitsExpression
-expression-in-range zero e f = absurd f
-expression-in-range (suc d) (constant z) f = ((f, λ k. omega arith), tt)
-expression-in-range (suc d) (scalar x) f = let h : x ≤ 31 = f in ((omega arith, λ k. omega arith), tt)
-expression-in-range (suc d) (operation o a b) f =
-    ((operator-fits o, λ k. omega arith), in-range-append (words a) (words b) (expression-in-range d a (f .0)) (expression-in-range d b (f .1)))
-expression-in-range (suc d) (select h i) f =
-    ((omega arith, λ k. omega arith), in-range-append (words h) (words i) (expression-in-range d h (f .0)) (expression-in-range d i (f .1)))
-expression-in-range (suc d) (compare r a b) f =
-    ((comparison-fits r, λ k. omega arith), in-range-append (words a) (words b) (expression-in-range d a (f .0)) (expression-in-range d b (f .1)))
-expression-in-range (suc d) (truth t) f = ((truth-fits t, λ k. omega arith), tt)
-expression-in-range (suc d) (and b c) f =
-    ((omega arith, λ k. omega arith), in-range-append (words b) (words c) (expression-in-range d b (f .0)) (expression-in-range d c (f .1)))
-expression-in-range (suc d) (or b c) f =
-    ((omega arith, λ k. omega arith), in-range-append (words b) (words c) (expression-in-range d b (f .0)) (expression-in-range d c (f .1)))
-expression-in-range (suc d) (neg b) f = ((omega arith, λ k. omega arith), expression-in-range d b f)
-expression-in-range (suc d) (array a) f = let h : a ≤ 31 = f in ((omega arith, λ k. omega arith), tt)
-expression-in-range (suc d) zeros f = ((omega arith, λ k. omega arith), tt)
-expression-in-range (suc d) (update h i a) f =
-    let indexed = in-range-append (words i) (words a) (expression-in-range d i (f .1 .0)) (expression-in-range d a (f .1 .1)) in
-    ((omega arith, λ k. omega arith), in-range-append (words h) (words i ++ words a) (expression-in-range d h (f .0)) indexed)
+-- of two expressions one after the other
+pair : {j k : Sort} (a : Expr j) (b : Expr k) → AllInRange (words a) → AllInRange (words b) →
+    AllInRange (words a ++ words b)
+pair a b f g = in-range-append (words a) (words b) f g
 
-pub command-in-range : (d : ℕ) (c : Command) → FitsCommand c d → AllInRange (commandWords c)
+expression-range : {k : Sort} (d : ℕ) (e : Expr k) → FitsExpression e d → AllInRange (words e)
+unfolding words FitsExpression
+expression-range zero e f = absurd f
+expression-range (suc d) (constant z) f = ((f, λ k. omega arith), tt)
+expression-range (suc d) (scalar x) f = let h : x ≤ 31 = f in ((omega arith, λ k. omega arith), tt)
+expression-range (suc d) (operation o a b) f = (
+  (operator-fits o, λ k. omega arith),
+  pair a b (expression-range d a (f .0)) (expression-range d b (f .1)),
+)
+expression-range (suc d) (select h i) f = (
+  (omega arith, λ k. omega arith),
+  pair h i (expression-range d h (f .0)) (expression-range d i (f .1)),
+)
+expression-range (suc d) (compare r a b) f = (
+  (comparison-fits r, λ k. omega arith),
+  pair a b (expression-range d a (f .0)) (expression-range d b (f .1)),
+)
+expression-range (suc d) (truth t) f = ((truth-fits t, λ k. omega arith), tt)
+expression-range (suc d) (and b c) f = (
+  (omega arith, λ k. omega arith),
+  pair b c (expression-range d b (f .0)) (expression-range d c (f .1)),
+)
+expression-range (suc d) (or b c) f = (
+  (omega arith, λ k. omega arith),
+  pair b c (expression-range d b (f .0)) (expression-range d c (f .1)),
+)
+expression-range (suc d) (neg b) f = ((omega arith, λ k. omega arith), expression-range d b f)
+expression-range (suc d) (array a) f = let h : a ≤ 31 = f in ((omega arith, λ k. omega arith), tt)
+expression-range (suc d) zeros f = ((omega arith, λ k. omega arith), tt)
+expression-range (suc d) (update h i a) f = (
+  (omega arith, λ k. omega arith),
+  in-range-append (words h) (words i ++ words a) (expression-range d h (f .0))
+      (pair i a (expression-range d i (f .1 .0)) (expression-range d a (f .1 .1))),
+)
+
+pub command-range : (d : ℕ) (c : Command) → FitsCommand c d → AllInRange (commandWords c)
 unfolding commandWords FitsCommand
-command-in-range zero c f = absurd f
-command-in-range (suc d) skip f = ((omega arith, λ k. omega arith), tt)
-command-in-range (suc d) (sequence c e) f =
-    ((omega arith, λ k. omega arith), in-range-append (commandWords c) (commandWords e) (command-in-range d c (f .0)) (command-in-range d e (f .1)))
-command-in-range (suc d) (assert b) f = ((omega arith, λ k. omega arith), expression-in-range d b f)
-command-in-range (suc d) (assign (toScalar x e)) f =
+command-range zero c f = absurd f
+command-range (suc d) skip f = ((omega arith, λ k. omega arith), tt)
+command-range (suc d) (sequence c e) f = (
+  (omega arith, λ k. omega arith),
+  in-range-append (commandWords c) (commandWords e) (command-range d c (f .0)) (command-range d e (f .1)),
+)
+command-range (suc d) (assert b) f = ((omega arith, λ k. omega arith), expression-range d b f)
+command-range (suc d) (assign (toScalar x e)) f =
     let h : x ≤ 31 = f .0 in
-    ((omega arith, λ k. omega arith), expression-in-range d e (f .1))
-command-in-range (suc d) (assign (toArray x e)) f =
+    ((omega arith, λ k. omega arith), expression-range d e (f .1))
+command-range (suc d) (assign (toArray x e)) f =
     let h : x ≤ 31 = f .0 in
-    ((omega arith, λ k. omega arith), expression-in-range d e (f .1))
-command-in-range (suc d) (ifElse b c e) f =
-    let parts = in-range-append (commandWords c) (commandWords e) (command-in-range d c (f .1 .0)) (command-in-range d e (f .1 .1)) in
-    ((omega arith, λ k. omega arith), in-range-append (words b) (commandWords c ++ commandWords e) (expression-in-range d b (f .0)) parts)
-command-in-range (suc d) (while b c) f =
-    ((omega arith, λ k. omega arith), in-range-append (words b) (commandWords c) (expression-in-range d b (f .0)) (command-in-range d c (f .1)))
-command-in-range (suc d) (for q m c) f = (f .0, command-in-range d c (f .1))
+    ((omega arith, λ k. omega arith), expression-range d e (f .1))
+command-range (suc d) (ifElse b c e) f = (
+  (omega arith, λ k. omega arith),
+  in-range-append (words b) (commandWords c ++ commandWords e) (expression-range d b (f .0))
+      (in-range-append (commandWords c) (commandWords e) (command-range d c (f .1 .0)) (command-range d e (f .1 .1))),
+)
+command-range (suc d) (while b c) f = (
+  (omega arith, λ k. omega arith),
+  in-range-append (words b) (commandWords c) (expression-range d b (f .0)) (command-range d c (f .1)),
+)
+command-range (suc d) (for q m c) f = (f .0, command-range d c (f .1))
 
 -- a word in range is told by its number
 encode-tells : (v w : Word) → InRange v → InRange w → encode v ≡ encode w → v ≡ w
@@ -173,7 +192,9 @@ module _ (file : List ℕ) (k l : List Word) (at to : ℕ) (m : Match) (s : Stan
       let within = i .within in
       let same = and-left (m .same) (eqb (m .at) to) h in
       let end = eqb-true (m .at) to (and-right (m .same) (eqb (m .at) to) h) in
-      let whole = whole-sound file (numbers l) at to (omega arith) (ap (λ (c : Match). c .same) (sym (x .is)) ∙ same) (ap (λ (c : Match). c .at) (sym (x .is)) ∙ end) in
+      let whole = whole-sound file (numbers l) at to (omega arith)
+      (ap (λ (c : Match). c .same) (sym (x .is)) ∙ same)
+      (ap (λ (c : Match). c .at) (sym (x .is)) ∙ end) in
       tell (sym (stands-between file at k to s) ∙ whole)
 
   reached : k ≡ l → m ≡ cursor true to
@@ -205,7 +226,7 @@ module _ {file ends : List ℕ} where
       AllInRange l → Passes file (cursor true at) l m → came m (endAt ends at) ≡ sameWords (commandWords c) l
   same-command {c} {at} {l} {m} x f p =
       same-words file (commandWords c) l at (endAt ends at) m (x .stands .stand) (command-inside x)
-      (numbers-tell (commandWords c) l (command-in-range (x .levels) c (x .stands .fit)) f) p
+      (numbers-tell (commandWords c) l (command-range (x .levels) c (x .stands .fit)) f) p
 
 -- the test in code
 pub came-lost : (m : Match) (to : ℕ) → m .same ≡ false → false ≡ came m to
@@ -225,84 +246,6 @@ module _ {file ends : List ℕ} {f g : ℕ} where
   }
 
 -- the same words by their end in the list
-pub part-matched : (file ends : List ℕ) (m r : Match) (a : ℕ) {to : ℕ} → to ≡ endAt ends a → r ≡ matched file m (between file a to) →
-    r ≡ matched file m (between file a (endAt ends a))
+pub part-matched : (file ends : List ℕ) (m r : Match) (a : ℕ) {to : ℕ} → to ≡ endAt ends a →
+    r ≡ matched file m (between file a to) → r ≡ matched file m (between file a (endAt ends a))
 part-matched file ends m r a e h = rw (← e) h
-
--- the meaning of a `for`
-module _ (file : List ℕ) (m : Match) where
-  pub start-matched : (q n : ℕ) (m₁ m₂ m₃ m₄ m₅ m₆ m₇ r : Match) → m₁ ≡ matchedWord file m 1677721600 →
-      m₂ ≡ matchedWord file m₁ (1811939328 + q) → m₃ ≡ matchedWord file m₂ 67108865 →
-      m₄ ≡ matchedWord file m₃ 2013265920 → m₅ ≡ matchedWord file m₄ 536870914 →
-      m₆ ≡ matchedWord file m₅ (134217728 + q) → m₇ ≡ matchedWord file m₆ (134217728 + n) →
-      r ≡ matchedWord file m₇ 1677721600 → r ≡ matched file m (startNumbers q n)
-  unfolding matched startNumbers
-  start-matched q n m₁ m₂ m₃ m₄ m₅ m₆ m₇ r e₁ e₂ e₃ e₄ e₅ e₆ e₇ e = cc
-
-  pub next-matched : (q : ℕ) (m₁ m₂ m₃ r : Match) → m₁ ≡ matchedWord file m (1811939328 + q) →
-      m₂ ≡ matchedWord file m₁ 201326592 → m₃ ≡ matchedWord file m₂ (134217728 + q) →
-      r ≡ matchedWord file m₃ 67108865 → r ≡ matched file m (nextNumbers q)
-  unfolding matched nextNumbers
-  next-matched q m₁ m₂ m₃ r e₁ e₂ e₃ e = cc
-
--- 25:0 27:q 1:1 30:0 8:2 2:q 2:m 25:0
-abbrev startWords : ℕ → ℕ → List Word
-startWords q m =
-    word 25 (pos 0) ∷ word 27 (pos q) ∷ word 1 (pos 1) ∷ word 30 (pos 0) ∷ word 8 (pos 2) ∷ word 2 (pos q) ∷ word 2 (pos m)
-    ∷ word 25 (pos 0) ∷ []
-
--- 27:q 3:0 2:q 1:1
-abbrev nextWords : ℕ → List Word
-nextWords q = word 27 (pos q) ∷ word 3 (pos 0) ∷ word 2 (pos q) ∷ word 1 (pos 1) ∷ []
-
-start-words : (q m : ℕ) → startNumbers q m ≡ numbers (startWords q m)
-unfolding numbers startNumbers
-start-words q m = refl
-
-next-words : (q : ℕ) → nextNumbers q ≡ numbers (nextWords q)
-unfolding numbers nextNumbers
-next-words q = refl
-
-meaning-words : (q m : ℕ) (c : Command) → commandWords (meaning q m c) ≡ startWords q m ++ (commandWords c ++ nextWords q)
-unfolding words commandWords
-meaning-words q m c = refl
-
-start-in-range : (q m : ℕ) → q ≤ 31 → m ≤ 31 → AllInRange (startWords q m)
-start-in-range q m g h = (
-  (omega arith, λ k. omega arith),
-  ((omega arith, λ k. omega arith), ((omega arith, λ k. omega arith), ((omega arith, λ k. omega arith), ((omega arith, λ k. omega arith), ((omega arith, λ k. omega arith), ((omega arith, λ k. omega arith), ((omega arith, λ k. omega arith), tt))))))),
-)
-
-next-in-range : (q : ℕ) → q ≤ 31 → AllInRange (nextWords q)
-next-in-range q g = ((omega arith, λ k. omega arith), ((omega arith, λ k. omega arith), ((omega arith, λ k. omega arith), ((omega arith, λ k. omega arith), tt))))
-
-low : (p q m : ℕ) → p ≡ q + 32 * m → q ≤ 31 → p % 32 ≡ q
-low p q m e h = omega arith
-
-high : (p q m : ℕ) → p ≡ q + 32 * m → q ≤ 31 → p / 32 ≡ m
-high p q m e h = omega arith
-
-module _ {file ends : List ℕ} {d c : ℕ} (o : EndsOf file ends) where
-  module _ (start body next : Match)
-      (s : start ≡ matched file (cursor true d) (startNumbers (payloadAt file c % 32) (payloadAt file c / 32)))
-      (b : body ≡ matched file start (between file (c + 1) (endAt ends (c + 1))))
-      (n : next ≡ matched file body (nextNumbers (payloadAt file c % 32))) where
-    means : (q m : ℕ) (e : Command) → ForParts file ends c q m e →
-        Passes file (cursor true d) (commandWords (meaning q m e)) next
-    means q m e x =
-        let i = low (payloadAt file c) q m (x .payload) (x .counter-small) in
-        let j = high (payloadAt file c) q m (x .payload) (x .counter-small) in
-        let first : Passes file (cursor true d) (startWords q m) start =
-        record { is = s ∙ ap₂ (λ y z. matched file (cursor true d) (startNumbers y z)) i j ∙ ap (matched file (cursor true d)) (start-words q m) } in
-        let last : Passes file body (nextWords q) next =
-        record { is = n ∙ ap (λ y. matched file body (nextNumbers y)) i ∙ ap (matched file body) (next-words q) } in
-        rw meaning-words (then first (then (passes-command b (x .body-at)) last))
-
-    pub meaning-at : {r : Bool} → r ≡ came next (endAt ends d) → MeaningAt file ends d c r
-    meaning-at h = record {
-      is = λ e q m a x y.
-          let parts = parts-of-for o y in
-          let range = in-range-append (startWords q m) (commandWords a ++ nextWords q) (start-in-range q m (parts .counter-small) (parts .bound-small))
-          (in-range-append (commandWords a) (nextWords q) (command-in-range (parts .body-at .levels) a (parts .body-at .stands .fit)) (next-in-range q (parts .counter-small))) in
-          h ∙ same-command x (rw meaning-words range) (means q m a parts);
-    }

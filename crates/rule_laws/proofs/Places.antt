@@ -10,7 +10,7 @@
 --     written-known, command-known, set-known    its place is in the list of ends
 use mathlib.Core.Path.{_≡_, refl, sym, subst}
 use mathlib.Core.List.{List, [], _∷_, _++_}
-use Prim.Native.Nat.{ℕ, zero, suc, _+_, _<_, _≤_}
+use Prim.Native.Nat.{ℕ, _+_, _≤_}
 use native.Mathlib.Omega.{arith}
 use lib.IntN.{pos}
 use lib.ListN.{length}
@@ -29,13 +29,15 @@ use Rattle.goals.specs.Goals.{At}
 use Rattle.rule_laws.specs.Places.{WrittenAt, CommandAt, SetAt, PartKnown}
 
 module _ {file ends : List ℕ} (o : EndsOf file ends) where
-  pub expression-past : {k : Sort} (e : Expr k) (d at p : ℕ) → PartStands file (expressionPart e) d at p → p ≡ endAt ends at
+  pub expression-past : {k : Sort} (e : Expr k) (d at p : ℕ) → PartStands file (expressionPart e) d at p →
+      p ≡ endAt ends at
   expression-past e d at p s = sym (o .expression-end e d at p s)
 
   pub command-past : (c : Command) (d at p : ℕ) → PartStands file (commandPart c) d at p → p ≡ endAt ends at
   command-past c d at p s = sym (o .command-end c d at p s)
 
-  pub set-past : (limits : Limits) (m : Members) (d at p : ℕ) → PartStands file (setPart limits m) d at p → p ≡ endAt ends at
+  pub set-past : (limits : Limits) (m : Members) (d at p : ℕ) → PartStands file (setPart limits m) d at p →
+      p ≡ endAt ends at
   set-past limits m d at p s = sym (o .set-end limits m d at p s)
 
   pub written : {k : Sort} (e : Expr k) (d at p : ℕ) → d ≤ 256 → PartStands file (expressionPart e) d at p →
@@ -46,7 +48,8 @@ module _ {file ends : List ℕ} (o : EndsOf file ends) where
     stands = subst (λ q. PartStands file (expressionPart e) d at q) (expression-past e d at p s) s;
   }
 
-  pub commanded : (c : Command) (d at p : ℕ) → d ≤ 256 → PartStands file (commandPart c) d at p → CommandAt file ends c at
+  pub commanded : (c : Command) (d at p : ℕ) → d ≤ 256 → PartStands file (commandPart c) d at p →
+      CommandAt file ends c at
   commanded c d at p l s = record {
     levels = d;
     low = l;
@@ -105,7 +108,8 @@ module _ {file ends : List ℕ} where
       stands-inside file at (y .0) (y .1) (endAt ends at)
       (subst (λ l. StandsTo file at l (endAt ends at)) (y .2) (x .stands .stand))
 
-  pub set-inside : {limits : Limits} {m : Members} {at : ℕ} → SetAt file ends limits m at → Inside file at (endAt ends at)
+  pub set-inside : {limits : Limits} {m : Members} {at : ℕ} → SetAt file ends limits m at →
+      Inside file at (endAt ends at)
   set-inside {limits} {m} {at} x =
       stands-inside file at (word 32 (pos (length m))) (membersWords m) (endAt ends at) (x .stands .stand)
 
@@ -116,7 +120,8 @@ module _ {file ends : List ℕ} where
   pub command-to : {c : Command} {i j : ℕ} → j ≡ i → CommandAt file ends c i → CommandAt file ends c j
   command-to {c} h x = subst (λ n. CommandAt file ends c n) (sym h) x
 
-  pub set-to : {limits : Limits} {m : Members} {i j : ℕ} → j ≡ i → SetAt file ends limits m i → SetAt file ends limits m j
+  pub set-to : {limits : Limits} {m : Members} {i j : ℕ} → j ≡ i → SetAt file ends limits m i →
+      SetAt file ends limits m j
   set-to {limits} {m} h x = subst (λ n. SetAt file ends limits m n) (sym h) x
 
   pub known-to : {i j : ℕ} → j ≡ i → PartKnown file ends i → PartKnown file ends j
@@ -125,7 +130,8 @@ module _ {file ends : List ℕ} where
   known : {at : ℕ} → EndsOf file ends → Inside file at (endAt ends at) → PartKnown file ends at
   known o i = let s = i .start in let w = i .within in let l = o .long in record { listed = omega arith; inside = w }
 
-  pub written-known : {k : Sort} {e : Expr k} {at : ℕ} → EndsOf file ends → WrittenAt file ends e at → PartKnown file ends at
+  pub written-known : {k : Sort} {e : Expr k} {at : ℕ} → EndsOf file ends → WrittenAt file ends e at →
+      PartKnown file ends at
   written-known o x = known o (written-inside x)
 
   pub command-known : {c : Command} {at : ℕ} → EndsOf file ends → CommandAt file ends c at → PartKnown file ends at

@@ -4,7 +4,7 @@
 --     is-empty, other-empty     a set with no members, or as all the others
 --     OneMemberAt, is-one       a set of one member, and its parts at their places
 --     other-one                 or as all the others
-use mathlib.Core.Path.{_≡_, refl, sym, ap, subst, _∙_}
+use mathlib.Core.Path.{_≡_, refl, sym, subst, _∙_}
 use mathlib.Core.List.{List, [], _∷_, append-nil}
 use Prim.Native.Nat.{ℕ, zero, suc, _+_, _≤_}
 use native.Mathlib.Omega.{arith}

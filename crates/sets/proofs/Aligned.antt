@@ -14,8 +14,8 @@ use lib.Dec.{eqb}
 use borrow.Author.Tests.{eqb-true}
 use Rattle.laws.proofs.Bools.{clash, and-both}
 use Rattle.laws.proofs.Decides.{Decides}
-use Rattle.compare.specs.Matching.{between, sameNumbers}
-use Rattle.sets.specs.Items.{pastMember, seenAs, itemNumbers}
+use Rattle.compare.specs.Matching.{between}
+use Rattle.sets.specs.Items.{pastMember, seenAs, itemNumbers, sameNumbers}
 use Rattle.sets.specs.Lists.{seenAll, written, standsIn, withinAll, sameAll}
 use Rattle.sets.specs.Standing.{MemberAt, MembersAt}
 use Rattle.sets.specs.Piles.{countAt, writtenSet, pileNumbers, pilesNumbers}
@@ -28,7 +28,7 @@ use Rattle.sets.specs.declared.pile.Pile.{Pile}
 use Rattle.sets.specs.declared.pile.Pile.the-variants.{Empty, One, Set, Without}
 use Rattle.sets.specs.declared.pile.Piles.{Piles}
 use Rattle.sets.specs.declared.align.Rest.{Rest}
-use Rattle.compare.proofs.Equal.{sameNumbers-decides}
+use Rattle.sets.proofs.Equal.{sameNumbers-decides}
 use Rattle.sets.proofs.Loops.{members-first, members-rest, seenAll-none, seenAll-first}
 use Rattle.sets.proofs.Piles.{stands-append}
 

@@ -8,17 +8,30 @@ use mathlib.Core.Path.{_≡_, refl, sym, ap, subst, _∙_}
 use mathlib.Core.List.{List, [], _∷_, _++_}
 use Prim.Native.Nat.{ℕ}
 use Rattle.compare.specs.Matching.{between, matchedWord, matched, exchanged}
-use Rattle.compare.specs.Places.{endAt, part, AnyAt, Matched}
+use Rattle.compare.specs.Places.{endAt, AnyAt, Matched}
 use Rattle.compare.specs.declared.cursor.Match.{Match}
 use Rattle.compare.specs.declared.cursor.Put.{Put}
-use Rattle.compare.proofs.Matching.{Step, step-then, step-word}
-use Rattle.sets.specs.Items.{underNumbers, unlessNumbers, exchangedMember, itemNumbers, seenAs}
+use Rattle.compare.proofs.Matching.{matched-append}
+use Rattle.sets.specs.Items.{underNumbers, unlessNumbers, exchangedMember, part, itemNumbers, seenAs}
 use Rattle.sets.specs.Items.{pastMember}
 use Rattle.sets.specs.Standing.{CanGuard, CanReplace, ViewAt, CanSee, ItemAt, CanItem}
 use Rattle.sets.specs.declared.item.View.{View}
 use Rattle.sets.specs.declared.item.View.the-variants.{Plain, Under, Unless, Replaced}
 use Rattle.sets.specs.declared.item.Item.{Item}
 use Rattle.sets.specs.declared.item.Item.the-variants.{Seen, Pair, Certain}
+
+-- a cursor after numbers
+record Step (file : List ℕ) (m : Match) (l : List ℕ) (n : Match) : Type 0 where
+  is : n ≡ matched file m l
+
+module _ {file : List ℕ} where
+  then : {m n r : Match} {k l : List ℕ} → Step file m k n → Step file n l r → Step file m (k ++ l) r
+  then {m} {n} {r} {k} {l} x y =
+      record { is = y .is ∙ ap (λ c. matched file c l) (x .is) ∙ sym (matched-append file m k l) }
+
+  word : {m n : Match} {x : ℕ} → n ≡ matchedWord file m x → Step file m (x ∷ []) n
+  unfolding matched
+  word e = record { is = e }
 
 module _ (file ends : List ℕ) where
   -- up to an end in the list
@@ -37,7 +50,7 @@ module _ (file ends : List ℕ) where
         r ≡ matched file test (between file middle past) → r ≡ matched file m (underNumbers file ends a b)
     unfolding underNumbers
     under-matched m head antecedent test r h i j k =
-        step-then (step-word h) (step-then (range a e i) (step-then (range b g j) (later a e f k))) .is
+        then (word h) (then (range a e i) (then (range b g j) (later a e f k))) .is
 
     pub unless-matched : (m head antecedent negation test r : Match) → head ≡ matchedWord file m 671088640 →
         antecedent ≡ matched file head (between file a middle) → negation ≡ matchedWord file antecedent 805306368 →
@@ -45,7 +58,7 @@ module _ (file ends : List ℕ) where
         r ≡ matched file m (unlessNumbers file ends a b)
     unfolding unlessNumbers
     unless-matched m head antecedent negation test r h i n j k =
-        step-then (step-word h) (step-then (range a e i) (step-then (step-word n) (step-then (range b g j) (later a e f k)))) .is
+        then (word h) (then (range a e i) (then (word n) (then (range b g j) (later a e f k)))) .is
 
   pub replaced-matched : {m antecedent r : Match} {a middle : ℕ} {put : Put} → Matched file ends m a put antecedent →
       middle ≡ endAt ends a → Matched file ends antecedent middle put r →
@@ -55,19 +68,19 @@ module _ (file ends : List ℕ) where
       let z = subst (λ i. Matched file ends antecedent i put r) e y in
       let first : Step file m (exchanged file put (part file ends a)) antecedent = record { is = x .is } in
       let second : Step file antecedent (exchanged file put (part file ends (endAt ends a))) r = record { is = z .is } in
-      step-then first second .is
+      then first second .is
 
   pub pair-matched : (m antecedent r : Match) (f b : ℕ) {middle to : ℕ} → middle ≡ endAt ends f → to ≡ endAt ends b →
       antecedent ≡ matched file m (between file f middle) → r ≡ matched file antecedent (between file b to) →
       r ≡ matched file m (itemNumbers file ends (Pair f b))
   unfolding itemNumbers
-  pair-matched m antecedent r f b e g i j = step-then (range f e i) (range b g j) .is
+  pair-matched m antecedent r f b e g i j = then (range f e i) (range b g j) .is
 
   pub certain-matched : (m antecedent r : Match) (b : ℕ) {to : ℕ} → to ≡ endAt ends b →
       antecedent ≡ matchedWord file m 603979777 → r ≡ matched file antecedent (between file b to) →
       r ≡ matched file m (itemNumbers file ends (Certain b))
   unfolding itemNumbers
-  certain-matched m antecedent r b g i j = step-then (step-word i) (range b g j) .is
+  certain-matched m antecedent r b g i j = then (word i) (range b g j) .is
 
 -- by view
 module _ {file ends : List ℕ} {a : ℕ} {view : View} where

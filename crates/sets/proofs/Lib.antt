@@ -1,19 +1,19 @@
 -- Laws about sets compared by numbers.
 --     Members    the places of a member
 --     Items      cursors after members as the rules make them
+--     Equal      equality of numbers as a test
 --     Loops      members passed one by one
 --     Piles      lists joined and left out, and piles by what they are
 --     Aligned    members in the same order
 --     Tests      the tests of sets are those of numbers
 --     Trees      the numbers that are compared are those of the trees that stand there
 --     Rules      the conditions of the rules on sets
---     Forms      the operands that rule 19 takes, and sets of one member
 pub mod Members
 pub mod Items
+pub mod Equal
 pub mod Loops
 pub mod Piles
 pub mod Aligned
 pub mod Tests
 pub mod Trees
 pub mod Rules
-pub mod Forms

@@ -13,15 +13,15 @@ use Prim.Native.Nat.{ℕ, zero, suc, _+_, _-_, _<_, _≤_}
 use native.Mathlib.Omega.{arith}
 use Rattle.laws.proofs.Bools.{clash}
 use Rattle.laws.proofs.Decides.{decides-map}
-use Rattle.compare.specs.Matching.{between, sameNumbers}
+use Rattle.compare.specs.Matching.{between}
 use Rattle.compare.specs.Places.{AnyAt}
-use Rattle.sets.specs.Items.{pastMember, seenAs, itemNumbers}
+use Rattle.sets.specs.Items.{pastMember, seenAs, itemNumbers, sameNumbers}
 use Rattle.sets.specs.Lists.{seenAll, standsIn, withinAll, withoutAll}
 use Rattle.sets.specs.Standing.{MemberAt, MembersAt, ViewAt, ItemAt}
 use Rattle.sets.specs.declared.item.View.{View}
 use Rattle.sets.specs.declared.item.View.the-variants.{Plain}
 use Rattle.sets.specs.declared.item.Item.the-variants.{Seen, Pair}
-use Rattle.compare.proofs.Equal.{decides-same, sameNumbers-decides}
+use Rattle.sets.proofs.Equal.{decides-same, sameNumbers-decides}
 
 pub sameNumbers-sym : (x y : List ℕ) → sameNumbers x y ≡ sameNumbers y x
 sameNumbers-sym x y =

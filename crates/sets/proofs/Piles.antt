@@ -11,9 +11,9 @@ use mathlib.Core.Bool.{Bool, true, false, not, _&&_, _||_, cond}
 use mathlib.Core.List.{List, [], _∷_, _++_}
 use Prim.Native.Nat.{ℕ, _+_}
 use Rattle.laws.proofs.Decides.{Decides}
-use Rattle.compare.specs.Matching.{between, sameNumbers}
+use Rattle.compare.specs.Matching.{between}
 use Rattle.compare.specs.Places.{AnyAt}
-use Rattle.sets.specs.Items.{pastMember, seenAs, itemNumbers}
+use Rattle.sets.specs.Items.{pastMember, seenAs, itemNumbers, sameNumbers}
 use Rattle.sets.specs.Lists.{seenAll, written, standsIn, withinAll, withoutAll}
 use Rattle.sets.specs.Standing.{MembersAt, ViewAt}
 use Rattle.sets.specs.Piles.{countAt, writtenSet, pileNumbers, pilesNumbers, SetAt, PileAt}
@@ -23,7 +23,7 @@ use Rattle.sets.specs.declared.item.Item.the-variants.{Seen, Pair}
 use Rattle.sets.specs.declared.pile.Pile.{Pile}
 use Rattle.sets.specs.declared.pile.Pile.the-variants.{Empty, One, Set, Without}
 use Rattle.sets.specs.declared.pile.Piles.{Piles}
-use Rattle.compare.proofs.Equal.{sameNumbers-decides}
+use Rattle.sets.proofs.Equal.{sameNumbers-decides}
 
 or-assoc : (a b c : Bool) → ((a || b) || c) ≡ (a || (b || c))
 or-assoc true b c = refl

@@ -19,14 +19,12 @@ use Rattle.rules.specs.Sets.{under, without}
 use Rattle.rules.specs.Tests.{stands, within, same}
 use Rattle.ends.specs.Ends.{EndsOf}
 use Rattle.compare.specs.Matching.{numbers}
-use Rattle.compare.specs.Trees.{ExpressionStands, PutStands}
 use Rattle.compare.specs.declared.cursor.Put.{Put}
-use Rattle.compare.proofs.Trees.{expression-is, any-place, fits-part}
-use Rattle.sets.specs.Items.{itemNumbers}
+use Rattle.sets.specs.Items.{part, itemNumbers}
 use Rattle.sets.specs.Lists.{written, standsIn, withinAll, sameAll}
 use Rattle.sets.specs.Standing.{MembersAt, ViewAt, ItemAt, CanFind, CanHold}
 use Rattle.sets.specs.Piles.{countAt, writtenSet, pilesNumbers, SetAt, CanSame}
-use Rattle.sets.specs.Trees.{SetStands, PileStands, HasSet, HasPile, CanSameSet, SameSet}
+use Rattle.sets.specs.Trees.{ExpressionStands, SetStands, PutStands, PileStands, HasSet, HasPile, CanSameSet, SameSet}
 use Rattle.sets.specs.Trees.{stands-empty, stands-one, stands-plain, stands-under, stands-unless, stands-replaced}
 use Rattle.sets.specs.Trees.{stands-without}
 use Rattle.sets.specs.Rules.{CanTwo, SameWritten, CanReplaced, SameReplaced, CanUnder, SameUnder}
@@ -39,7 +37,7 @@ use Rattle.sets.specs.declared.pile.Pile.the-variants.{Empty, One, Set, 
 use Rattle.sets.specs.declared.pile.Piles.{Piles}
 use Rattle.sets.proofs.Tests.{stands-numbers, within-numbers}
 use Rattle.sets.proofs.Piles.{set-members}
-use Rattle.sets.proofs.Trees.{set-is, set-place, written-is, pile-is, same-trees}
+use Rattle.sets.proofs.Trees.{expression-is, any-place, fits-part, set-is, set-place, written-is, pile-is, same-trees}
 
 abbrev pub three : Pile → Pile → Pile → Piles
 three a b c = record { first = a; second = b; third = c }

@@ -14,10 +14,11 @@ use Rattle.rules.specs.Tests.{sameMember, stands, within, same}
 use Rattle.rules.proofs.Unique.{expression-prefix}
 use Rattle.rules.proofs.Decides.{sameMember-decides}
 use Rattle.layout.specs.Spelling.{memberWords}
-use Rattle.compare.specs.Matching.{numbers, sameNumbers}
+use Rattle.compare.specs.Matching.{numbers}
 use Rattle.compare.proofs.Numbers.{FitsWords, numbers-words}
+use Rattle.sets.specs.Items.{sameNumbers}
 use Rattle.sets.specs.Lists.{standsIn, withinAll, sameAll, withoutAll}
-use Rattle.compare.proofs.Equal.{decides-same, sameNumbers-decides}
+use Rattle.sets.proofs.Equal.{decides-same, sameNumbers-decides}
 
 abbrev pub numbersOf : Member → List ℕ
 numbersOf m = numbers (memberWords m)

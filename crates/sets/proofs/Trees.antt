@@ -1,5 +1,6 @@
 -- The numbers that are compared are those of the trees that stand there.
 -- Assumes nothing.
+--     PartIs, expression-is                  an expression at its place
 --     MemberIs, MembersAre, SetIs, set-is    a member; members one after the other; a written set
 --     Shows, plain-shows .. seen-all         members as a view shows them
 --     PileIs, pile-is                        a pile is a set that a rule makes
@@ -11,7 +12,7 @@ use Prim.Native.Nat.{ℕ, zero, suc, _+_, _*_, _<_, _≤_}
 use native.Mathlib.Omega.{arith}
 use lib.IntN.{pos}
 use lib.ListN.{length}
-use Rattle.language.specs.Syntax.{Sort, Boolean, Expr, and, neg, Assignment}
+use Rattle.language.specs.Syntax.{Sort, Boolean, Expr, and, neg, Assignment, toScalar, toArray}
 use Rattle.rules.specs.Words.{Word, word, words}
 use Rattle.rules.specs.Assertion.{Member, Members, member, one}
 use Rattle.rules.specs.Context.{Limits}
@@ -26,19 +27,17 @@ use Rattle.layout.proofs.Stands.{parted}
 use Rattle.layout.proofs.Words.{payload-of-word}
 use Rattle.ends.specs.Ends.{EndsOf}
 use Rattle.compare.specs.Matching.{between, numbers, exchanged}
-use Rattle.compare.specs.Places.{endAt, AnyAt}
+use Rattle.compare.specs.Places.{endAt, ExpressionTo, ExpressionAt, AnyAt}
 use Rattle.compare.specs.declared.cursor.Put.{Put}
 use Rattle.compare.proofs.Ranges.{between-join}
-use Rattle.compare.specs.Trees.{ExpressionStands, PutStands}
-use Rattle.compare.proofs.Operands.{Inside, expression-inside}
-use Rattle.compare.proofs.Trees.{PartIs, fits-part, part-to, expression-is, any-place, put-is}
-use Rattle.compare.proofs.Numbers.{numbers-append, fits-append}
-use Rattle.compare.proofs.Replaced.{Replaces, replaces}
-use Rattle.sets.specs.Items.{pastMember, underNumbers, unlessNumbers, exchangedMember, seenAs, itemNumbers}
+use Rattle.compare.proofs.Operands.{to-end, Inside, expression-inside}
+use Rattle.compare.proofs.Numbers.{stands-between, numbers-append, FitsWords, fits-append, fits-words}
+use Rattle.compare.proofs.Replaced.{Replaces, replaces, both, scalar-replaces, array-replaces}
+use Rattle.sets.specs.Items.{pastMember, part, underNumbers, unlessNumbers, exchangedMember, seenAs, itemNumbers}
 use Rattle.sets.specs.Lists.{seenAll, written, sameAll, withoutAll}
 use Rattle.sets.specs.Standing.{MemberAt, MembersAt, ViewAt}
 use Rattle.sets.specs.Piles.{countAt, writtenSet, pileNumbers, pilesNumbers, SetAt, PileAt}
-use Rattle.sets.specs.Trees.{SetStands, PileStands}
+use Rattle.sets.specs.Trees.{ExpressionStands, SetStands, RightSide, PutStands, put-scalar, put-array, PileStands}
 use Rattle.sets.specs.Trees.{stands-empty, stands-one, stands-plain, stands-under, stands-unless, stands-replaced}
 use Rattle.sets.specs.Trees.{stands-without}
 use Rattle.sets.specs.declared.item.View.{View}
@@ -47,6 +46,13 @@ use Rattle.sets.specs.declared.pile.Pile.{Pile}
 use Rattle.sets.specs.declared.pile.Piles.{Piles}
 use Rattle.sets.proofs.Tests.{numbersOf, membersNumbers, FitsMember, FitsAll, fits-all-append, members-append}
 use Rattle.sets.proofs.Tests.{same-numbers, without-numbers, without-fits}
+
+-- an expression at its place: where it ends, its numbers, its words in range
+pub record PartIs (file ends : List ℕ) {k : Sort} (e : Expr k) (at : ℕ) : Type 0 where
+  pub place : ExpressionAt file ends k at
+  pub same : part file ends at ≡ numbers (words e)
+  pub levels : ℕ
+  pub fits : FitsExpression e levels
 
 pub record MemberIs (file ends : List ℕ) (m : Member) (at : ℕ) : Type 0 where
   pub antecedent-is : PartIs file ends (m .antecedent) at
@@ -61,14 +67,34 @@ pub record SetIs (file ends : List ℕ) (p : Members) (at : ℕ) : Type 0 where
   pub count : countAt file at ≡ length p
   pub members : MembersAre file ends p (at + 1)
 
+pub fits-part : {file ends : List ℕ} {k : Sort} {e : Expr k} {at : ℕ} → PartIs file ends e at → FitsWords (words e)
+fits-part {e = e} x = fits-words (x .levels) e (x .fits)
+
 module _ {file ends : List ℕ} (ends-of : EndsOf file ends) where
+  part-to : {k : Sort} (e : Expr k) (d at p : ℕ) → PartStands file (expressionPart e) d at p →
+      PartIs file ends e at × (endAt ends at ≡ p)
+  part-to e d at p s =
+      let x = to-end ends-of (record { tree = e; levels = d; stands = s }) in
+      let same = stands-between file at (words e) p (s .stand) in (
+        record {
+          place = x .0;
+          same = ap (between file at) (x .1) ∙ same;
+          levels = d;
+          fits = s .fit;
+        },
+        x .1,
+      )
+
+  pub expression-is : {k : Sort} {e : Expr k} {at : ℕ} → ExpressionStands file e at → PartIs file ends e at
+  expression-is {e = e} {at} x = part-to e (x .levels) at (x .next) (x .stands) .0
+
   member-to : (m : Member) (d at p : ℕ) →
       Stands file (memberWords m) (FitsExpression (m .antecedent) d × FitsExpression (m .consequent) d) at p →
       MemberIs file ends m at × (pastMember ends at ≡ p)
   member-to m d at p s =
       parted (words (m .antecedent)) (words (m .consequent)) s λ q x y.
-      let a = part-to ends-of (m .antecedent) d at q x in
-      let c = part-to ends-of (m .consequent) d q p y in (
+      let a = part-to (m .antecedent) d at q x in
+      let c = part-to (m .consequent) d q p y in (
         record {
           antecedent-is = a .0;
           consequent-is = subst (λ i. PartIs file ends (m .consequent) i) (sym (a .1)) (c .0);
@@ -99,6 +125,9 @@ module _ {file ends : List ℕ} where
   pub member-place : {m : Member} {at : ℕ} → MemberIs file ends m at → MemberAt file ends at
   member-place x =
       record { antecedent = x .antecedent-is .place; consequent = record { sort = _; expression = x .consequent-is .place } }
+
+  pub any-place : {k : Sort} {e : Expr k} {at : ℕ} → PartIs file ends e at → AnyAt file ends at
+  any-place {k} x = record { sort = k; expression = x .place }
 
 pub members-place : (file ends : List ℕ) (p : Members) (at : ℕ) → MembersAre file ends p at → MembersAt file ends (length p) at
 unfolding MembersAt
@@ -239,6 +268,23 @@ map-replaced [] f = refl
 map-replaced (m ∷ p) f = ap (λ l. member (replace (m .antecedent) f) (replace (m .consequent) f) ∷ l) (map-replaced p f)
 
 module _ {file ends : List ℕ} (ends-of : EndsOf file ends) where
+  side-is : {j : Sort} {put : Put} {k x : ℕ} {e : Expr j} → RightSide file put k x e →
+      (put .to ≤ length file) × (between file (put .from) (put .to) ≡ numbers (words e)) × FitsWords (words e)
+  side-is {put = put} {e = e} r =
+      let i = expression-inside (record { tree = e; levels = r .levels; stands = r .stands }) in (
+        i .within,
+        stands-between file (put .from) (words e) (put .to) (r .stands .stand),
+        fits-words (r .levels) e (r .stands .fit),
+      )
+
+  put-is : {put : Put} {a : Assignment} → PutStands file put a → (put .to ≤ length file) × Replaces file put (replacement a)
+  put-is {put} (put-scalar {x = x} {e = e} r) =
+      let s = side-is r in
+      (s .0, scalar-replaces file put x e (r .small) (r .word-is) (s .1) (s .2))
+  put-is {put} (put-array {x = x} {e = e} r) =
+      let s = side-is r in
+      (s .0, array-replaces file put x e (r .small) (r .word-is) (s .1) (s .2))
+
   pub written-is : {p : Members} {at : ℕ} → SetStands file p at → AllShown file ends (writtenSet file ends at) p
   written-is {p} {at} s = subst (AllShown file ends (writtenSet file ends at)) (map-same p) (seen-all plain-shows (set-is ends-of s))
 

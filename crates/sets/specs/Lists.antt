@@ -6,8 +6,7 @@
 use mathlib.Core.Bool.{Bool, true, false, _&&_, _||_, cond}
 use mathlib.Core.List.{List, [], _∷_}
 use Prim.Native.Nat.{ℕ, zero, suc}
-use Rattle.compare.specs.Matching.{sameNumbers}
-use Rattle.sets.specs.Items.{pastMember, seenAs}
+use Rattle.sets.specs.Items.{pastMember, seenAs, sameNumbers}
 use Rattle.sets.specs.declared.item.View.{View}
 use Rattle.sets.specs.declared.item.View.the-variants.{Plain}
 

@@ -8,23 +8,18 @@
 --     CanRest, SameRest            set rule 17: (T without S') ∪ S
 --     AllStand                     set rule 13: each of Q stands in P
 --     CanTest, TestStands          rule 13: true ⇒ B stands in P
---     CanOperands, SameOperands    set rule 19: P same as φ ⇒ each operand
---     SameSingle                   rules 11, 18: one member each, the same consequent
 use mathlib.Core.Path.{_≡_}
-use mathlib.Core.Bool.{Bool, true, false, _||_}
+use mathlib.Core.Bool.{Bool, true}
 use mathlib.Core.List.{List, _++_}
 use Prim.Native.Nat.{ℕ}
-use lib.Dec.{eqb}
-use Rattle.language.specs.Syntax.{Sort, Boolean, Expr, truth, neg, Assignment}
+use Rattle.language.specs.Syntax.{Boolean, Expr, truth, neg, Assignment}
 use Rattle.rules.specs.Assertion.{Members, member, one}
-use Rattle.rules.specs.Condition.{onOne, onSome}
 use Rattle.rules.specs.Replace.{replacement, replaceMembers}
-use Rattle.rules.specs.Sets.{under, without, operands}
-use Rattle.rules.specs.Tests.{sameConsequent, stands, within, same}
+use Rattle.rules.specs.Sets.{under, without}
+use Rattle.rules.specs.Tests.{stands, within, same}
 use Rattle.ends.specs.Ends.{EndsOf}
-use Rattle.compare.specs.Trees.{ExpressionStands, PutStands, HasExpression, HasPut}
 use Rattle.compare.specs.declared.cursor.Put.{Put}
-use Rattle.sets.specs.Trees.{SetStands, HasSet}
+use Rattle.sets.specs.Trees.{ExpressionStands, SetStands, PutStands, HasExpression, HasSet, HasPut}
 
 module _ (file ends : List ℕ) where
   pub record CanTwo (p q : ℕ) : Type 0 where
@@ -100,23 +95,3 @@ module _ (file : List ℕ) where
   pub record TestStands (p b : ℕ) (r : Bool) : Type 0 where
     pub does : (x : Members) (β : Expr Boolean) → SetStands file x p → ExpressionStands file β b →
         r ≡ stands (member (truth true) β) x
-
--- rule 19: φ at f, E at b; E has one operand or two that the rule takes
-abbrev pub hasTwo : ℕ → Bool
-hasTwo k = eqb k 3 || (eqb k 8 || (eqb k 10 || eqb k 11))
-
-pub record CanOperands (file ends : List ℕ) (p f b : ℕ) : Type 0 where
-  pub ends-of : EndsOf file ends
-  pub first-set : HasSet file p
-  pub antecedent : HasExpression file Boolean f
-  pub sort : Sort
-  pub consequent : HasExpression file sort b
-
-pub record SameOperands (file : List ℕ) (p f b : ℕ) (r : Bool) : Type 0 where
-  pub does : (x : Members) (φ : Expr Boolean) {k : Sort} (e : Expr k) → SetStands file x p → ExpressionStands file φ f →
-      ExpressionStands file e b → r ≡ onSome (operands φ e) false (same x)
-
--- rules 11 and 18: one member each, with the same consequent
-pub record SameSingle (file : List ℕ) (p q : ℕ) (r : Bool) : Type 0 where
-  pub does : (x y : Members) → SetStands file x p → SetStands file y q →
-      r ≡ onOne x false (λ m. onOne y false (λ n. sameConsequent (m .consequent) (n .consequent)))

@@ -3,12 +3,11 @@ use compare::cursor::Put;
 use compare::cursor::end_at;
 use compare::cursor::match_range;
 use compare::cursor::match_word;
-use compare::cursor::reached;
 use compare::expression::match_boolean;
 use compare::expression::match_expression;
 ghost use mathlib.Core.Path.{_≡_};
-ghost use Rattle.compare.specs.Matching.{matched, between, sameNumbers};
-ghost use Rattle.sets.specs.Items.{underNumbers, unlessNumbers, exchangedMember, seenAs, itemNumbers, pastMember};
+ghost use Rattle.compare.specs.Matching.{matched, between};
+ghost use Rattle.sets.specs.Items.{underNumbers, unlessNumbers, exchangedMember, seenAs, itemNumbers, sameNumbers, pastMember};
 ghost use Rattle.sets.specs.Standing.{CanPass, CanGuard, CanReplace, CanSee, CanItem, CanCompare};
 
 // How a member of a written set is seen: as it stands; φ made φ ∧ B, or φ ∧ ¬B, B at a place; with words put for a word.
@@ -117,5 +116,10 @@ pub fn same_item(w: &[u32], ends: &[u32], at: usize, item: Item) -> bool
 {
     let to = past_member(ends, at);
     let m = match_item(w, ends, Match { same: true, at }, item);
-    reached(m, to)
+    let same = m.same;
+    if !same {
+        return false;
+    }
+    let end = m.at;
+    end == to
 }

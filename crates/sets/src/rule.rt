@@ -6,13 +6,10 @@ use crate::pile::Pile;
 use crate::pile::Piles;
 use crate::pile::count;
 use crate::set::same_set;
-use compare::assertion::same_expression;
 use compare::cursor::Put;
-use compare::cursor::end_at;
 ghost use Rattle.sets.specs.Rules.{CanTwo, SameWritten, CanReplaced, SameReplaced, CanUnder, SameUnder};
 ghost use Rattle.sets.specs.Rules.{CanBranches, SameBranches, CanThree, SameUnion, CanRest, SameRest};
-ghost use mathlib.Core.Path.{_≡_};
-ghost use Rattle.sets.specs.Rules.{AllStand, CanTest, TestStands, hasTwo, CanOperands, SameOperands, SameSingle};
+ghost use Rattle.sets.specs.Rules.{AllStand, CanTest, TestStands};
 
 // Rules 1, 10 and 13: P same as Q.
 pub fn same_written(w: &[u32], ends: &[u32], p: usize, q: usize) -> bool
@@ -141,71 +138,4 @@ pub fn test_stands(w: &[u32], ends: &[u32], p: usize, b: usize) -> bool
 {
     let k = count(w, p);
     has_item(w, ends, k, p + 1, Item::Certain(b))
-}
-
-// Kinds 3, 8, 10 and 11: operator, comparison, and, or.
-fn has_two(kind: u32) -> bool
-    ensures { λ r. ⌜ r ≡ hasTwo kind ⌝ }
-{
-    if kind == 3 {
-        return true;
-    }
-    if kind == 8 {
-        return true;
-    }
-    if kind == 10 {
-        return true;
-    }
-    kind == 11
-}
-
-// Set rule 19: P same as φ ⇒ each operand of E; φ stands at f, E at b. Kind 12, not, has one operand.
-pub fn same_operands(w: &[u32], ends: &[u32], p: usize, f: usize, b: usize) -> bool
-    requires { ⌜ CanOperands (now w) (now ends) p f b ⌝ }
-    ensures { λ r. ⌜ SameOperands (now (w .entry)) p f b r ⌝ }
-{
-    let kind = w[b] / 67108864;
-    let first = b + 1;
-    if kind == 12 {
-        return same_set(
-            w,
-            ends,
-            p,
-            Piles {
-                first: Pile::One(f, first),
-                second: Pile::Empty,
-                third: Pile::Empty,
-            },
-        );
-    }
-    if !has_two(kind) {
-        return false;
-    }
-    let second = end_at(ends, first);
-    same_set(
-        w,
-        ends,
-        p,
-        Piles {
-            first: Pile::One(f, first),
-            second: Pile::One(f, second),
-            third: Pile::Empty,
-        },
-    )
-}
-
-// Rules 11 and 18: P and Q have one member each, with the same consequent.
-pub fn same_single(w: &[u32], ends: &[u32], p: usize, q: usize) -> bool
-    requires { ⌜ CanTwo (now w) (now ends) p q ⌝ }
-    ensures { λ r. ⌜ SameSingle (now (w .entry)) p q r ⌝ }
-{
-    if count(w, p) != 1 {
-        return false;
-    }
-    if count(w, q) != 1 {
-        return false;
-    }
-    let x = end_at(ends, p + 1);
-    let y = end_at(ends, q + 1);
-    same_expression(w, ends, x, y)
 }

@@ -6,9 +6,9 @@
 --     expression-word                          the tables of expressions, by sort, by all words
 --     command-word, set-word                   of commands and sets
 --     pre-word, implication-word, flow-word    of evidence
-use mathlib.Core.Path.{_≡_, refl, sym, _∙_, ap}
+use mathlib.Core.Path.{_≡_, refl, sym, _∙_}
 use mathlib.Core.Bool.{Bool, true, false, cond}
-use mathlib.Core.List.{List, [], _∷_}
+use mathlib.Core.List.{[], _∷_}
 use mathlib.Core.Option.{Option, none, some}
 use Prim.Native.Nat.{ℕ, _/_, _%_, _<_, _≤_}
 use native.Mathlib.Omega.{arith}
@@ -19,35 +19,21 @@ use Rattle.language.specs.Syntax.{Sort, Expr, operation, compare, truth}
 use Rattle.rules.specs.Assertion.{Member, Members}
 use Rattle.rules.specs.Evidence.{PreEvidence, SetEvidence, FlowEvidence}
 use Rattle.layout.specs.Reading.{Reader, leaf, _⊛_, several, allow, upTo, onOption}
-use Rattle.layout.specs.Read.{operatorOf, comparisonOf, truthOf, arithmeticWord, booleanWord, arrayWord, expressionWord}
+use Rattle.layout.specs.Read.{arithmeticWord, booleanWord, arrayWord, expressionWord}
 use Rattle.layout.specs.Read.{commandWord}
 use Rattle.layout.specs.ReadEvidence.{preWord, setWord, flowWord}
 use Rattle.words.specs.Decode.{arithmeticOf, booleanOf, arrayOf, commandOf, flowOf, setOf, preOf, evidenceOf}
-use Rattle.words.specs.Decode.{within, operatorWord, comparisonWord, truthWord, kindOf, decodeOf}
+use Rattle.words.specs.Decode.{within, kindOf, decodeOf}
 use Rattle.words.specs.Meaning.{arithmeticMeaning, booleanMeaning, arrayMeaning, expressionMeaning}
 use Rattle.words.specs.Meaning.{commandMeaning}
 use Rattle.words.specs.Meaning.{setMeaning, preMeaning, implicationMeaning, flowMeaning}
-use Rattle.words.specs.declared.Operator.the-variants.{Plus, Minus, Times}
-use Rattle.words.specs.declared.Comparison.the-variants.{Equal, Less, AtMost}
 use Rattle.words.specs.declared.ArithmeticWord.{ArithmeticWord}
-use Rattle.words.specs.declared.ArithmeticWord.the-variants.{Constant, Scalar, Operation, Select}
 use Rattle.words.specs.declared.BooleanWord.{BooleanWord}
-use Rattle.words.specs.declared.BooleanWord.the-variants.{Compare, Truth, And, Or, Not}
 use Rattle.words.specs.declared.ArrayWord.{ArrayWord}
-use Rattle.words.specs.declared.ArrayWord.the-variants.{Identifier, Zeros, Update}
 use Rattle.words.specs.declared.CommandWord.{CommandWord}
-use Rattle.words.specs.declared.CommandWord.the-variants.{Skip, Sequence, Assert, AssignScalar, AssignArray, If}
-use Rattle.words.specs.declared.CommandWord.the-variants.{While, For}
 use Rattle.words.specs.declared.FlowRule.{FlowRule}
-use Rattle.words.specs.declared.FlowRule.the-variants.{Flow1, Flow2, Flow3, Flow4, Flow5, Flow6, Flow7, Flow8}
-use Rattle.words.specs.declared.FlowRule.the-variants.{Flow9}
-use Rattle.words.specs.declared.FlowRule.the-variants.{Flow10, Flow11, Flow12, Flow13, Flow14}
 use Rattle.words.specs.declared.SetRule.{SetRule}
-use Rattle.words.specs.declared.SetRule.the-variants.{Set13, Set14, Set15, Set16, Set17, Set18, Set19}
 use Rattle.words.specs.declared.PreRule.{PreRule}
-use Rattle.words.specs.declared.PreRule.the-variants.{Pre20, Pre21, Pre22, Pre23, Pre24, Pre25, Pre26, Pre27}
-use Rattle.words.specs.declared.PreRule.the-variants.{Pre28}
-use Rattle.words.specs.declared.PreRule.the-variants.{Pre29, Pre30}
 use Rattle.words.specs.declared.Word.{Word}
 use Rattle.words.specs.declared.Word.the-variants.{Arithmetic, Boolean, Array, Command, Set, Flow, Implication}
 use Rattle.words.specs.declared.Word.the-variants.{Precondition, Other}

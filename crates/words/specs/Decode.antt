@@ -1,30 +1,23 @@
 -- What a word stands for, by kind and payload (document 01, "Layout"). A word that the lists do not allow is `Other`.
--- Working: proofs/Meaning.antt ties it to the layout's tables.
---     arithmeticOf, booleanOf, arrayOf, commandOf    kinds up to 4, 12, 18 and 31
---     flowOf, setOf, preOf                           kinds 33, 34 and 35
+-- Working: proofs/Tables.antt ties it to the layout's tables.
+--     arithmeticOf, booleanOf, arrayOf, commandOf    by group: kinds up to 4, 12, 18 and 31
+--     flowOf, setOf, preOf, evidenceOf               kinds 33, 34 and 35; kinds from 32 on
 --     kindOf, decodeOf                               by kind and payload; of a number
-use mathlib.Core.Bool.{Bool, true, false, cond}
+use mathlib.Core.Bool.{true, false, cond}
 use Prim.Native.Nat.{ℕ, _/_, _%_}
 use lib.Dec.{eqb, leb}
 use Rattle.layout.specs.Bytes.{signed}
 use Rattle.words.specs.declared.Operator.the-variants.{Plus, Minus, Times}
 use Rattle.words.specs.declared.Comparison.the-variants.{Equal, Less, AtMost}
-use Rattle.words.specs.declared.ArithmeticWord.{ArithmeticWord}
 use Rattle.words.specs.declared.ArithmeticWord.the-variants.{Constant, Scalar, Operation, Select}
-use Rattle.words.specs.declared.BooleanWord.{BooleanWord}
 use Rattle.words.specs.declared.BooleanWord.the-variants.{Compare, Truth, And, Or, Not}
-use Rattle.words.specs.declared.ArrayWord.{ArrayWord}
 use Rattle.words.specs.declared.ArrayWord.the-variants.{Identifier, Zeros, Update}
-use Rattle.words.specs.declared.CommandWord.{CommandWord}
 use Rattle.words.specs.declared.CommandWord.the-variants.{Skip, Sequence, Assert, AssignScalar, AssignArray, If}
 use Rattle.words.specs.declared.CommandWord.the-variants.{While, For}
-use Rattle.words.specs.declared.FlowRule.{FlowRule}
 use Rattle.words.specs.declared.FlowRule.the-variants.{Flow1, Flow2, Flow3, Flow4, Flow5, Flow6, Flow7, Flow8}
 use Rattle.words.specs.declared.FlowRule.the-variants.{Flow9}
 use Rattle.words.specs.declared.FlowRule.the-variants.{Flow10, Flow11, Flow12, Flow13, Flow14}
-use Rattle.words.specs.declared.SetRule.{SetRule}
 use Rattle.words.specs.declared.SetRule.the-variants.{Set13, Set14, Set15, Set16, Set17, Set18, Set19}
-use Rattle.words.specs.declared.PreRule.{PreRule}
 use Rattle.words.specs.declared.PreRule.the-variants.{Pre20, Pre21, Pre22, Pre23, Pre24, Pre25, Pre26, Pre27}
 use Rattle.words.specs.declared.PreRule.the-variants.{Pre28}
 use Rattle.words.specs.declared.PreRule.the-variants.{Pre29, Pre30}

@@ -12,7 +12,6 @@ use Rattle.language.specs.Syntax.{Sort, Expr, constant, scalar, operation, sele
 use Rattle.language.specs.Syntax.{compare, truth, and, or, neg, array, zeros, update, toScalar, toArray}
 use Rattle.language.specs.Syntax.{skip, sequence, assert, assign, ifElse, while, for}
 use Rattle.rules.specs.Assertion.{Member, Members}
-use Rattle.rules.specs.Context.{Limits}
 use Rattle.rules.specs.Evidence.{PreEvidence, pre20, pre21, pre22, pre23, pre24, pre25, pre26, pre27, pre28, pre29}
 use Rattle.rules.specs.Evidence.{pre30}
 use Rattle.rules.specs.Evidence.{SetEvidence, set13, set14, set15, set16, set17, set18, set19}

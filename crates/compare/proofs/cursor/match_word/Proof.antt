@@ -14,10 +14,6 @@ match-word-spec =
     (λ c. word-out _ _ _ (not-false _ (c .before .if1 .left)) (c .if2 .taken))
     (λ c. search needs)
     (λ c. search needs)
-    (λ c.
-    word-other _ _ _ (not-false _ (c .before .before .before .if1 .left)) (c .before .before .if2 .left)
-    (c .if3 .taken))
+    (λ c. word-other _ _ _ (not-false _ (c .before .before .before .if1 .left)) (c .before .before .if2 .left) (c .if3 .taken))
     (λ c. search needs)
-    (λ c.
-    word-here _ _ _ (not-false _ (c .before .before .before .if1 .left)) (c .before .before .if2 .left)
-    (c .if3 .left)))
+    (λ c. word-here _ _ _ (not-false _ (c .before .before .before .if1 .left)) (c .before .before .if2 .left) (c .if3 .left)))

@@ -5,6 +5,16 @@ use Rattle.pre_rules.proofs.Assertions.{join-at}
 use Rattle.pre_rules.proofs.condition.is_join.Statement.{statement}
 use Rattle.pre_rules.proofs.condition.is_join.Tie as tie
 
+returns : tie.Need-returns
+returns c =
+    let second = c .before in
+    let first = second .before in
+    join-at _ _ _
+    (first .before .match-word .ensures)
+    (first .match-part .ensures)
+    (second .match-part2 .ensures)
+    (c .came-to-end .ensures)
+
 pub is-join-spec : {M : Type 1} → statement M
 is-join-spec =
     tie.close
@@ -13,4 +23,4 @@ is-join-spec =
     (λ c κs. search needs)
     (λ c κs. search needs)
     (λ c κs. search needs)
-    (λ c. join-at _ _ _ (c .before .before .before .match-word .ensures) (c .before .before .match-part .ensures) (c .before .match-part2 .ensures) (c .came-to-end .ensures)))
+    returns)

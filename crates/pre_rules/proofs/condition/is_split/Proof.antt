@@ -7,15 +7,22 @@ use Rattle.pre_rules.proofs.condition.is_split.Tie as tie
 
 returns : tie.Need-returns
 returns c =
+    let other = c .before in
+    let negation = other .before in
+    let second = negation .before in
+    let right = second .before in
+    let test = right .before in
+    let first = test .before in
+    let left = first .before in
     split-at _ _ _ _ _ _ _ _
-    (c .before .before .before .before .before .before .before .before .match-word .ensures)
-    (c .before .before .before .before .before .before .before .match-word2 .ensures)
-    (c .before .before .before .before .before .before .match-part .ensures)
-    (c .before .before .before .before .before .match-part2 .ensures)
-    (c .before .before .before .before .match-word3 .ensures)
-    (c .before .before .before .match-part3 .ensures)
-    (c .before .before .match-word4 .ensures)
-    (c .before .match-part4 .ensures)
+    (left .before .match-word .ensures)
+    (left .match-word2 .ensures)
+    (first .match-part .ensures)
+    (test .match-part2 .ensures)
+    (right .match-word3 .ensures)
+    (second .match-part3 .ensures)
+    (negation .match-word4 .ensures)
+    (other .match-part4 .ensures)
     (c .came-to-end .ensures)
 
 pub is-split-spec : {M : Type 1} → statement M

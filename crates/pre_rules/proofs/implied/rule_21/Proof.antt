@@ -8,12 +8,12 @@ use Rattle.pre_rules.proofs.implied.rule_21.Tie as tie
 
 steps : tie.Need-returns-2
 steps c =
-    let p = c .before .before .before .before .before .before .before .before .pre .can in
-    while-steps (p .ends-of) (p .rule-is)
-    (c .before .before .before .before .if1 .left)
-    (c .before .before .before .repeats .ensures)
-    (c .before .before .end-at .ensures)
-    (c .before .end-at2 .ensures)
+    let carried = c .before in
+    let body = carried .before in
+    let tested = body .before in
+    let form = tested .before in
+    let p = form .before .before .before .before .pre .can in
+    while-steps p (form .if1 .left) (tested .repeats .ensures) (body .end-at .ensures) (carried .end-at2 .ensures)
     (c .settled .ensures)
 
 pub rule-21-spec : {M : Type 1} → statement M
@@ -22,7 +22,7 @@ rule-21-spec =
     (tie.spec
     (λ c. let i = command-head (c .before .before .pre .can) in omega arith)
     (λ c. command-head (c .before .before .before .pre .can))
-    (λ c. let p = c .before .before .before .before .pre .can in while-stops (p .ends-of) (p .rule-is) (c .if1 .taken))
+    (λ c. while-stops (c .before .before .before .before .pre .can) (c .if1 .taken))
     (λ c. let i = low-head (c .before .before .before .before .pre .can) in omega arith)
     (λ c. let i = command-head (c .before .before .before .before .pre .can) in omega arith)
     (λ c κs. while-conditions (c .before .before .before .before .pre) (c .if1 .left))

@@ -6,6 +6,13 @@ use Rattle.pre_rules.proofs.Implications.{weaker-steps, weaker-conditio
 use Rattle.pre_rules.proofs.implied.rule_28.Statement.{statement}
 use Rattle.pre_rules.proofs.implied.rule_28.Tie as tie
 
+steps : tie.Need-returns
+steps c =
+    let carried = c .before in
+    let tested = carried .before in
+    let p = tested .before .before .before .pre .can in
+    weaker-steps p (tested .implies-at .ensures) (carried .end-at .ensures) (c .settled .ensures)
+
 pub rule-28-spec : {M : Type 1} → statement M
 rule-28-spec =
     tie.close
@@ -16,4 +23,4 @@ rule-28-spec =
     (λ c κs. carried-28 (c .before .before .before .pre .can) .listed)
     (λ c. let i = low-head (c .before .before .before .before .pre .can) in omega arith)
     (λ c κs. tt)
-    (λ c. let p = c .before .before .before .before .before .pre .can in weaker-steps (p .ends-of) (p .rule-is) (c .before .before .implies-at .ensures) (c .before .end-at .ensures) (c .settled .ensures)))
+    steps)

@@ -6,12 +6,33 @@ use Rattle.pre_rules.proofs.Leaves.{kept-stops, kept-tried}
 use Rattle.pre_rules.proofs.leaf.rule_27.Statement.{statement}
 use Rattle.pre_rules.proofs.leaf.rule_27.Tie as tie
 
+compared : tie.Need-is-same-requires
+compared c κs =
+    let p = c .before .before .pre in
+    record { first = first-known p; second = second-known p }
+
+stops : tie.Need-returns
+stops c = kept-stops (c .before .before .before .before .pre) (c .before .is-same .ensures) (not-true _ (c .if1 .taken))
+
+known : tie.Need-is-kept-requires
+known c κs =
+    let p = c .before .before .before .before .pre in
+    record { part = first-known p; command = command-known p }
+
+returns : tie.Need-returns-2
+returns c =
+    let scanned = c .before in
+    let same = scanned .before in
+    let p = same .before .before .before .before .pre in
+    kept-tried p (same .before .is-same .ensures) (not-false _ (same .if1 .left)) (scanned .is-kept .ensures)
+    (c .leaf .ensures)
+
 pub rule-27-spec : {M : Type 1} → statement M
 rule-27-spec =
     tie.close
     (tie.spec
-    (λ c κs. let p = c .before .before .pre in record { first = first-known p; second = second-known p })
-    (λ c. let p = c .before .before .before .before .pre in kept-stops (p .ends-of) (p .rule-is) (c .before .is-same .ensures) (not-true _ (c .if1 .taken)))
-    (λ c κs. let p = c .before .before .before .before .pre in record { part = first-known p; command = command-known p })
+    compared
+    stops
+    known
     (λ c κs. low-head (c .before .before .before .before .before .pre))
-    (λ c. let p = c .before .before .before .before .before .before .pre in kept-tried (p .ends-of) (p .rule-is) (c .before .before .before .is-same .ensures) (not-false _ (c .before .before .if1 .left)) (c .before .is-kept .ensures) (c .leaf .ensures)))
+    returns)

@@ -5,10 +5,13 @@ use Rattle.pre_rules.proofs.Leaves.{true-tried}
 use Rattle.pre_rules.proofs.leaf.rule_29.Statement.{statement}
 use Rattle.pre_rules.proofs.leaf.rule_29.Tie as tie
 
+returns : tie.Need-returns
+returns c = true-tried (c .before .before .before .before .pre) (c .before .is-true .ensures) (c .leaf .ensures)
+
 pub rule-29-spec : {M : Type 1} → statement M
 rule-29-spec =
     tie.close
     (tie.spec
     (λ c κs. first-known (c .before .before .pre))
     (λ c κs. low-head (c .before .before .before .pre))
-    (λ c. let p = c .before .before .before .before .pre in true-tried (p .ends-of) (p .rule-is) (c .before .is-true .ensures) (c .leaf .ensures)))
+    returns)

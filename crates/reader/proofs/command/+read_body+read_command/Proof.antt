@@ -181,4 +181,5 @@ pub +read-body+read-command-spec : {M : Type 1} → statement M
     let b = m .d2 .given .0 .1 .1 .1 .0 in
     none-arm (command-goes (a .w .now) (a .left) (a .at)) (m .before .before .word-due .ensures)
     (m .d2 .given .1) (c .before .command-word .ensures)
-    (not-command (expression (a .w .now) b) (command (a .w .now) b) (c .before .command-word .result) (c .match2 .keys2)))
+    (not-command (expression (a .w .now) b) (command (a .w .now) b) (c .before .command-word .result)
+    (c .match2 .keys2)))

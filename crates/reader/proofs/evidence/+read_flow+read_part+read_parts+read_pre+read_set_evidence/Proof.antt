@@ -265,7 +265,8 @@ pub +read-flow+read-part+read-parts+read-pre+read-set-evidence-spec : {M : Type 
     let b = m .d2 .given .0 .1 .1 .1 .0 in
     none-arm (pre-goes (a .w .now) (a .left) (a .at)) (m .before .before .word-due .ensures)
     (m .d2 .given .1) (c .before .evidence-word .ensures)
-    (not-pre (expression w b Boolean) (command w b) (preEvidence w b) (a .at) (c .before .evidence-word .result) (c .match2 .keys2))))
+    (not-pre (expression w b Boolean) (command w b) (preEvidence w b) (a .at)
+    (c .before .evidence-word .result) (c .match2 .keys2))))
     λ t. read-set-evidence-lts.spec (
       word-due-reads.Asked,
       word-due-reads.Learnt,
@@ -303,6 +304,6 @@ pub +read-flow+read-part+read-parts+read-pre+read-set-evidence-spec : {M : Type 
     let a = m .before .before .before .before .args in
     let w = a .w .now in let l = limitsOf (a .limits) in
     let b = m .d2 .given .0 .1 .1 .1 .0 in
-    none-arm (implication-goes (a .w .now) (limitsOf (a .limits)) (a .left) (a .at)) (m .before .before .word-due .ensures)
+    none-arm (implication-goes (a .w .now) l (a .left) (a .at)) (m .before .before .word-due .ensures)
     (m .d2 .given .1) (c .before .evidence-word .ensures)
     (not-implication (set l w b) (setEvidence l w b) (a .at) (c .before .evidence-word .result) (c .match2 .keys2)))

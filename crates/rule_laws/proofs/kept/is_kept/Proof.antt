@@ -5,6 +5,13 @@ use Rattle.rule_laws.proofs.Keeping.{kept-at}
 use Rattle.rule_laws.proofs.kept.is_kept.Statement.{statement}
 use Rattle.rule_laws.proofs.kept.is_kept.Tie as tie
 
+returns : tie.Need-returns
+returns c =
+    let ended = c .before in
+    let scanned = ended .before in
+    kept-at (scanned .before .end-at .ensures) (scanned .modified .ensures) (ended .end-at2 .ensures)
+    (c .unmarked .ensures)
+
 pub is-kept-spec : {M : Type 1} → statement M
 is-kept-spec =
     tie.close
@@ -13,4 +20,4 @@ is-kept-spec =
     (λ c κs. search needs)
     (λ c κs. search needs)
     (λ c κs. search needs)
-    (λ c. kept-at (c .before .before .before .end-at .ensures) (c .before .before .modified .ensures) (c .before .end-at2 .ensures) (c .unmarked .ensures)))
+    returns)

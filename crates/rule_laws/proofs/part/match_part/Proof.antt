@@ -5,10 +5,17 @@ use Rattle.rule_laws.proofs.Passing.{part-matched}
 use Rattle.rule_laws.proofs.part.match_part.Statement.{statement}
 use Rattle.rule_laws.proofs.part.match_part.Tie as tie
 
+returns : tie.Need-returns
+returns c =
+    let ended = c .before in
+    let s = ended .before .before .before in
+    part-matched (s .args .w .now) (s .args .ends .now) _ _ (s .args .a) (ended .end-at .ensures)
+    (c .match-range .ensures)
+
 pub match-part-spec : {M : Type 1} → statement M
 match-part-spec =
     tie.close
     (tie.spec
     (λ c κs. search needs)
     (λ c κs. search needs)
-    (λ c. let s = c .before .before .before .before in part-matched (s .args .w .now) (s .args .ends .now) _ _ (s .args .a) (c .before .end-at .ensures) (c .match-range .ensures)))
+    returns)

@@ -1,8 +1,8 @@
--- `rule_laws::same::is_meaning` meets its contract: the words of the meaning are those before the body, the body's, and those
--- after it.
+-- `rule_laws::same::is_meaning` meets its contract: the words of the meaning are those before the body, the body's, and
+-- those after it.
 -- Assumes nothing.
 use borrow.Author.Needs.{needs}
-use Rattle.rule_laws.proofs.Passing.{meaning-at}
+use Rattle.rule_laws.proofs.Meaning.{meaning-at}
 use Rattle.rule_laws.proofs.same.is_meaning.Statement.{statement}
 use Rattle.rule_laws.proofs.same.is_meaning.Tie as tie
 

@@ -1,4 +1,5 @@
--- `rule_laws::same::is_same` meets its contract: a cursor that passes the one from the other's place to its end finds it there.
+-- `rule_laws::same::is_same` meets its contract: a cursor that passes the one from the other's place to its end finds
+-- it there.
 -- Assumes nothing.
 use borrow.Author.Needs.{needs}
 use Rattle.rule_laws.proofs.Passing.{same-at}

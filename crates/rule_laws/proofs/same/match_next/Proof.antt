@@ -1,7 +1,7 @@
 -- `rule_laws::same::match_next` meets its contract, word by word.
 -- Assumes nothing.
 use borrow.Author.Needs.{needs}
-use Rattle.rule_laws.proofs.Passing.{next-matched}
+use Rattle.rule_laws.proofs.Meaning.{next-matched}
 use Rattle.rule_laws.proofs.same.match_next.Statement.{statement}
 use Rattle.rule_laws.proofs.same.match_next.Tie as tie
 

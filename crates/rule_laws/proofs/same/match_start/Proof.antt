@@ -1,7 +1,7 @@
 -- `rule_laws::same::match_start` meets its contract, word by word.
 -- Assumes nothing.
 use borrow.Author.Needs.{needs}
-use Rattle.rule_laws.proofs.Passing.{start-matched}
+use Rattle.rule_laws.proofs.Meaning.{start-matched}
 use Rattle.rule_laws.proofs.same.match_start.Statement.{statement}
 use Rattle.rule_laws.proofs.same.match_start.Tie as tie
 

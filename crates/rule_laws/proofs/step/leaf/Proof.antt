@@ -1,6 +1,5 @@
 -- `rule_laws::step::leaf` meets its contract.
 -- Assumes nothing.
-use mathlib.Core.Path.{sym}
 use borrow.Author.Needs.{needs}
 use borrow.Author.Tests.{not-true, not-false}
 use Rattle.rule_laws.proofs.Children.{leaf-stops, leaf-goes}

@@ -11,10 +11,5 @@ past-member-spec =
     tie.close
     (tie.spec
     (λ c κs. c .before .pre .first)
-    (λ c κs.
-    let s = c .before .before in
-    let p = s .pre in
-    let h = p .second in
-    let e = c .end-at .ensures in
-    omega arith)
+    (λ c κs. let s = c .before .before in let p = s .pre in let h = p .second in let e = c .end-at .ensures in omega arith)
     (λ c. c .end-at2 .ensures ∙ ap (endAt (c .before .before .before .args .ends .now)) (c .before .end-at .ensures)))

@@ -13,11 +13,5 @@ all-stand-spec =
     (λ c κs. search needs)
     (λ c. search needs)
     (λ c. search needs)
-    (λ c κs.
-    let s = c .before .before .before .before in
-    let p = s .pre in
-    hold-all p (c .count2 .ensures) (c .before .count .ensures))
-    (λ c.
-    let s = c .before .before .before .before .before in
-    let p = s .pre in
-    rule-stand (p .ends-of) (c .before .count2 .ensures) (c .before .before .count .ensures) (c .seen-in .ensures)))
+    (λ c κs. let s = c .before .before .before .before in let p = s .pre in hold-all p (c .count2 .ensures) (c .before .count .ensures))
+    (λ c. let s = c .before .before .before .before .before in let p = s .pre in rule-stand (p .ends-of) (c .before .count2 .ensures) (c .before .before .count .ensures) (c .seen-in .ensures)))

@@ -3,7 +3,7 @@
 use borrow.Author.Needs.{needs}
 use native.Mathlib.Omega.{arith}
 use mathlib.Core.Path.{_≡_, refl}
-use Prim.Native.Nat.{ℕ, _+_, _*_, _/_, _-_, _≤_, _<_}
+use Prim.Native.Nat.{_+_, _*_, _/_, _-_, _≤_, _<_}
 use lib.ListN.{length, length-set}
 use Rattle.words.proofs.Loading.{front, front-more, lesser-both}
 use Rattle.words.proofs.load.load.Statement.{statement}

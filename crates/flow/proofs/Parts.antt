@@ -1,0 +1,158 @@
+-- The parts of an accepted file lie in its bytes, and of a refused file there are none.
+-- Assumes nothing.
+--     FileOf, read-bytes                      a file that was read from bytes: its words, and its places in order
+--     AcceptedAt, accepted-at, refused-at     the verdict, by the outcome
+--     PlacesIn, places-in                     the places of an accepted file are in order and inside its bytes
+--     pre-accepted, post-accepted, pre-refused, post-refused
+--                                             its parts
+use mathlib.Core.Path.{_≡_, refl, sym, _∙_, ap, subst}
+use mathlib.Core.Bool.{Bool, true, false}
+use mathlib.Core.List.{List, [], _∷_, _++_}
+use Prim.Native.Nat.{ℕ, _+_, _*_, _≤_}
+use native.Mathlib.Omega.{arith}
+use lib.ListN.{length, length-append}
+use Rattle.rules.specs.Words.{commandWords}
+use Rattle.rules.specs.Context.{Limits}
+use Rattle.rules.specs.Judge as judge
+use Rattle.layout.specs.Bytes.{wordsOf, wordCount}
+use Rattle.layout.specs.Reading.{Reading, read, fault}
+use Rattle.layout.specs.Spelling.{setWords}
+use Rattle.layout.specs.EvidenceWords.{joined, flowPart}
+use Rattle.layout.specs.File.{File, badLength, fileOf}
+use Rattle.layout.specs.FileWords.{FileSpelled}
+use Rattle.layout.specs.Verdict.{judged, verdictOf, bytesBetween, partOf, precondition, postcondition}
+use Rattle.layout.proofs.WholeFile.{FileRead, file-spelled}
+use Rattle.words.proofs.Loading.{words-length}
+use Rattle.reader.specs.File.{places}
+use Rattle.reader.specs.declared.Places.{Places}
+use Rattle.flow.specs.Outcome.{withPlaces, outcomeOf}
+use Rattle.flow.specs.declared.Outcome.{Outcome}
+use Rattle.flow.specs.declared.Outcome.the-variants.{Accepted, Refused}
+use Rattle.flow.proofs.Outcomes.{bad-file, good-file, good-length}
+
+-- a file that was read from bytes
+pub record FileOf (limits : Limits) (bytes : List ℕ) (f : File) (p : ℕ) : Type 0 where
+  pub words-read : FileRead limits (wordsOf bytes) f p
+  pub few : length bytes ≤ 32768
+  pub pre-post : f .preAt ≤ f .postAt
+  pub post-evidence : f .postAt ≤ f .evidenceAt
+  pub inside : f .evidenceAt ≤ wordCount (wordsOf bytes)
+
+module _ (limits : Limits) (bytes : List ℕ) where
+  evidence-inside : (f : File) → FileSpelled limits (wordsOf bytes) f → f .evidenceAt ≤ wordCount (wordsOf bytes)
+  unfolding joined
+  evidence-inside f h =
+      let a = length-append (setWords (f .post)) (joined (flowPart limits (f .evidence) ∷ [])) in
+      let b = length-append (setWords (f .pre)) (setWords (f .post) ++ joined (flowPart limits (f .evidence) ∷ [])) in
+      let c = length-append (commandWords (f .program))
+      (setWords (f .pre) ++ (setWords (f .post) ++ joined (flowPart limits (f .evidence) ∷ []))) in
+      omega (arith, h .whole, h .preStarts, h .postStarts, h .evidenceStarts, a, b, c)
+
+  pub read-bytes : (f : File) (p : ℕ) → fileOf limits bytes ≡ read f p → FileOf limits bytes f p
+  read-bytes f p e = go (badLength bytes) refl
+    where
+      go : (t : Bool) → badLength bytes ≡ t → FileOf limits bytes f p
+      go true t = absurd (let k = bad-file limits bytes t in let z : _≡_ {A = ℕ} 0 1 = cc in omega arith)
+      go false t =
+          let x = file-spelled limits (wordsOf bytes) f p (sym (good-file limits bytes t) ∙ e) in
+          record {
+            words-read = x;
+            few = good-length bytes t;
+            pre-post = omega (arith, x .spelled .postStarts);
+            post-evidence = omega (arith, x .spelled .evidenceStarts);
+            inside = evidence-inside f (x .spelled);
+          }
+
+  pub record AcceptedAt (n : ℕ) (s : Places) : Type 0 where
+    pub file : File
+    pub end : ℕ
+    pub reads : fileOf limits bytes ≡ read file end
+    pub at : s ≡ places (file .preAt) (file .postAt) (file .evidenceAt) end
+    pub verdict : verdictOf limits bytes ≡ judge.accepted n
+
+  accepted-verdict : (v : judge.Verdict) (n : ℕ) (s t : Places) → Accepted n s ≡ withPlaces v t →
+      (v ≡ judge.accepted n) × (s ≡ t)
+  accepted-verdict (judge.accepted m) n s t e = (cc, cc)
+  accepted-verdict (judge.refused k i) n s t e = absurd (let z : _≡_ {A = ℕ} 0 1 = cc in omega arith)
+
+  refused-verdict : (v : judge.Verdict) (k i : ℕ) (t : Places) → Refused k i ≡ withPlaces v t → v ≡ judge.refused k i
+  refused-verdict (judge.accepted m) k i t e = absurd (let z : _≡_ {A = ℕ} 0 1 = cc in omega arith)
+  refused-verdict (judge.refused m j) k i t e = cc
+
+  pub accepted-at : (n : ℕ) (s : Places) → Accepted n s ≡ outcomeOf limits (fileOf limits bytes) → AcceptedAt n s
+  unfolding verdictOf
+  accepted-at n s = go (fileOf limits bytes) refl
+    where
+      go : (x : Reading File) → fileOf limits bytes ≡ x → Accepted n s ≡ outcomeOf limits x → AcceptedAt n s
+      go (read f p) e h =
+          let k = accepted-verdict (judged (record { limits = limits }) (read f p)) n s
+          (places (f .preAt) (f .postAt) (f .evidenceAt) p) h in
+          record {
+            file = f;
+            end = p;
+            reads = e;
+            at = k .1;
+            verdict = ap (λ (x : Reading File). judged (record { limits = limits }) x) e ∙ k .0;
+          }
+      go (fault m p) e h = absurd (let z : _≡_ {A = ℕ} 0 1 = cc in omega arith)
+
+  pub refused-at : (k i : ℕ) → Refused k i ≡ outcomeOf limits (fileOf limits bytes) →
+      verdictOf limits bytes ≡ judge.refused k i
+  unfolding verdictOf
+  refused-at k i = go (fileOf limits bytes)
+    where
+      go : (x : Reading File) → Refused k i ≡ outcomeOf limits x →
+          judged (record { limits = limits }) x ≡ judge.refused k i
+      go (read f p) h = refused-verdict (judged (record { limits = limits }) (read f p)) k i
+          (places (f .preAt) (f .postAt) (f .evidenceAt) p) h
+      go (fault m p) h = cc
+
+  -- the places of an accepted file, in order and inside the bytes
+  pub record PlacesIn (s : Places) : Type 0 where
+    pub pre-post : s .pre ≤ s .post
+    pub post-evidence : s .post ≤ s .evidence
+    pub inside : 4 * s .evidence ≤ length bytes
+
+  pub places-in : (r : Outcome) (n : ℕ) (s : Places) → r ≡ outcomeOf limits (fileOf limits bytes) → r ≡ Accepted n s →
+      PlacesIn s
+  places-in r n s e h =
+      let x = accepted-at n s (sym h ∙ e) in
+      let f = read-bytes (x .file) (x .end) (x .reads) in
+      let l = words-length bytes in
+      subst (λ (z : Places). PlacesIn z) (sym (x .at))
+      (record { pre-post = f .pre-post; post-evidence = f .post-evidence; inside = omega (arith, f .inside) })
+
+  -- a part of an accepted file
+  part-accepted : (part : File → List ℕ) (n : ℕ) (s : Places) (x : AcceptedAt n s) →
+      partOf (verdictOf limits bytes) (fileOf limits bytes) part ≡ part (x .file)
+  part-accepted part n s x = rw (x .verdict, x .reads) refl
+
+  part-refused : (part : File → List ℕ) (k i : ℕ) → verdictOf limits bytes ≡ judge.refused k i →
+      [] ≡ partOf (verdictOf limits bytes) (fileOf limits bytes) part
+  part-refused part k i e = rw e refl
+
+  pub pre-accepted : (l : List ℕ) (r : Outcome) (n : ℕ) (s : Places) → r ≡ outcomeOf limits (fileOf limits bytes) →
+      r ≡ Accepted n s → l ≡ bytesBetween bytes (s .pre) (s .post) → l ≡ precondition limits bytes
+  unfolding precondition
+  pre-accepted l r n s e h k =
+      let x = accepted-at n s (sym h ∙ e) in
+      k ∙ ap (λ (z : Places). bytesBetween bytes (z .pre) (z .post)) (x .at)
+      ∙ sym (part-accepted (λ f. bytesBetween bytes (f .preAt) (f .postAt)) n s x)
+
+  pub post-accepted : (l : List ℕ) (r : Outcome) (n : ℕ) (s : Places) → r ≡ outcomeOf limits (fileOf limits bytes) →
+      r ≡ Accepted n s → l ≡ bytesBetween bytes (s .post) (s .evidence) → l ≡ postcondition limits bytes
+  unfolding postcondition
+  post-accepted l r n s e h k =
+      let x = accepted-at n s (sym h ∙ e) in
+      k ∙ ap (λ (z : Places). bytesBetween bytes (z .post) (z .evidence)) (x .at)
+      ∙ sym (part-accepted (λ f. bytesBetween bytes (f .postAt) (f .evidenceAt)) n s x)
+
+  pub pre-refused : (r : Outcome) (k i : ℕ) → r ≡ outcomeOf limits (fileOf limits bytes) → r ≡ Refused k i →
+      [] ≡ precondition limits bytes
+  unfolding precondition
+  pre-refused r k i e h = part-refused _ k i (refused-at k i (sym h ∙ e))
+
+  pub post-refused : (r : Outcome) (k i : ℕ) → r ≡ outcomeOf limits (fileOf limits bytes) → r ≡ Refused k i →
+      [] ≡ postcondition limits bytes
+  unfolding postcondition
+  post-refused r k i e h = part-refused _ k i (refused-at k i (sym h ∙ e))

@@ -1,0 +1,28 @@
+-- `flow::postcondition` meets its contract: the places of an accepted file are in order and inside its bytes.
+-- Assumes nothing.
+use borrow.Author.Needs.{needs}
+use native.Mathlib.Omega.{arith}
+use Rattle.rules.specs.Context.{standard}
+use Rattle.flow.proofs.Parts.{places-in, post-accepted, post-refused}
+use Rattle.flow.proofs.postcondition.Statement.{statement}
+use Rattle.flow.proofs.postcondition.Tie as tie
+
+pub postcondition-spec : {M : Type 1} → statement M
+postcondition-spec =
+    tie.close
+    (tie.spec
+    (λ c κs. search needs)
+    (λ c. search needs)
+    (λ c κs.
+    let outcome = c .before .before .before in
+    let h = places-in standard _ _ _ _ (outcome .standard-outcome .ensures) (c .before .done .given .1) in
+    (h .post-evidence, omega (arith, h .post-evidence, h .inside)))
+    (λ c. search needs)
+    (λ c. search needs)
+    (λ c.
+    let outcome = c .before .before .before .before in
+    post-accepted standard _ _ _ _ _ (outcome .standard-outcome .ensures) (c .before .before .done .given .1)
+    (c .between .ensures))
+    (λ c.
+    let outcome = c .before .before .before in
+    post-refused standard _ _ _ _ (outcome .standard-outcome .ensures) (c .before .enum-told .given .1)))

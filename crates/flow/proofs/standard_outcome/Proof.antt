@@ -1,0 +1,21 @@
+-- `flow::standard_outcome` meets its contract: the limits are those of document 01.
+-- Assumes nothing.
+use borrow.Author.Needs.{needs}
+use mathlib.Core.Path.{_∙_, ap}
+use Rattle.rules.specs.Context.{Limits}
+use Rattle.layout.specs.File.{fileOf}
+use Rattle.flow.specs.Outcome.{outcomeOf}
+use Rattle.flow.proofs.Outcomes.{standard-within}
+use Rattle.flow.proofs.standard_outcome.Statement.{statement}
+use Rattle.flow.proofs.standard_outcome.Tie as tie
+
+pub standard-outcome-spec : {M : Type 1} → statement M
+standard-outcome-spec =
+    tie.close
+    (tie.spec
+    (λ c κs. search needs)
+    (λ c κs. standard-within _ (c .limits .ensures))
+    (λ c.
+    let bytes = c .before .before .before .args .file .now in
+    c .outcome .ensures
+    ∙ ap (λ (l : Limits). outcomeOf l (fileOf l bytes)) (c .before .limits .ensures)))

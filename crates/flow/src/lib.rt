@@ -1,0 +1,102 @@
+// The check on bytes (document 01, "Judging order" 1 to 9): the public calls.
+mod file; // file.rt: refusals 1 to 9 in order
+
+use file::outcome;
+use reader::Limits;
+use reader::Places;
+ghost use mathlib.Core.Path.{_≡_};
+ghost use Prim.Native.Nat.{_*_, _≤_};
+ghost use lib.ListN.{length};
+ghost use Rattle.rules.specs.Context.{standard};
+ghost use Rattle.layout.specs.File.{fileOf};
+ghost use Rattle.layout.specs.Verdict.{verdictOf, bytesBetween, packed};
+ghost use Rattle.layout.specs.Verdict.{precondition as preconditionOf, postcondition as postconditionOf};
+ghost use Rattle.reader.specs.Walk.{limitsOf};
+ghost use Rattle.flow.specs.Checked.{Checked};
+ghost use Rattle.flow.specs.Outcome.{outcomeOf};
+
+// The count of evidence words, or the number and place of a refusal.
+pub enum Verdict {
+    Accepted(usize),
+    Refused(u32, usize),
+}
+
+// The same, with the places of an accepted file's parts.
+enum Outcome {
+    Accepted(usize, Places),
+    Refused(u32, usize),
+}
+
+// Document 01's limits.
+fn limits() -> Limits
+    ensures { λ r. ⌜ limitsOf r ≡ standard ⌝ }
+{
+    Limits {
+        comparisons: 10,
+        depth: 128,
+        members: 64,
+    }
+}
+
+// Refusals 1 to 9 under these limits.
+fn standard_outcome(file: &[u8]) -> Outcome
+    ensures { λ r. ⌜ r ≡ outcomeOf standard (fileOf standard (now (file .entry))) ⌝ }
+{
+    outcome(file, limits())
+}
+
+// The check: the answer that document 01 settles for these bytes, with its demands 2 and 3.
+pub fn check(file: &[u8]) -> Verdict
+    ensures { λ r. ⌜ Checked (now (file .entry)) r ⌝ }
+{
+    let done = standard_outcome(file);
+    match done {
+        Outcome::Accepted(count, _) => Verdict::Accepted(count),
+        Outcome::Refused(number, place) => Verdict::Refused(number, place),
+    }
+}
+
+// The check for callers in C, `uint32_t flow_check(const uint8_t *file, size_t count)`: number × 65,536 + place, or the
+// count of evidence words.
+#[no_mangle]
+pub extern "C" fn flow_check(file: &[u8]) -> u32
+    ensures { λ r. ⌜ r ≡ packed (verdictOf standard (now (file .entry))) ⌝ }
+{
+    let answer = check(file);
+    match answer {
+        Verdict::Accepted(count) => count as u32,
+        Verdict::Refused(number, place) => number * 65536 + place as u32,
+    }
+}
+
+// The bytes of the words between two places.
+fn between(file: &[u8], from: usize, to: usize) -> &[u8]
+    requires { ⌜ (from ≤ to) × (4 * to ≤ length (now file)) ⌝ }
+    ensures { λ r. ⌜ now r ≡ bytesBetween (now (file .entry)) from to ⌝ }
+{
+    let a = 4 * from;
+    let b = 4 * to;
+    &file[a..b]
+}
+
+// The precondition as a part of the file, empty if the file is refused.
+pub fn precondition(file: &[u8]) -> &[u8]
+    ensures { λ r. ⌜ now r ≡ preconditionOf standard (now (file .entry)) ⌝ }
+{
+    let done = standard_outcome(file);
+    match done {
+        Outcome::Accepted(_, places) => between(file, places.pre, places.post),
+        Outcome::Refused(_, _) => &file[..0],
+    }
+}
+
+// The postcondition, alike.
+pub fn postcondition(file: &[u8]) -> &[u8]
+    ensures { λ r. ⌜ now r ≡ postconditionOf standard (now (file .entry)) ⌝ }
+{
+    let done = standard_outcome(file);
+    match done {
+        Outcome::Accepted(_, places) => between(file, places.post, places.evidence),
+        Outcome::Refused(_, _) => &file[..0],
+    }
+}

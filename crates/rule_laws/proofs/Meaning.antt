@@ -1,0 +1,127 @@
+-- The words of what a `for` means (document 01, "Language"; rules 14 and 30), passed by a cursor.
+-- Assumes nothing.
+--     start-matched, next-matched    the words before the body, and after it
+--     meaning-at                     the test of rules 14 and 30
+use mathlib.Core.Path.{_≡_, refl, ap, ap₂, _∙_}
+use mathlib.Core.Bool.{Bool, true}
+use mathlib.Core.List.{List, [], _∷_, _++_}
+use Prim.Native.Nat.{ℕ, _+_, _*_, _/_, _%_, _<_, _≤_}
+use native.Mathlib.Omega.{arith}
+use lib.IntN.{pos}
+use Rattle.language.specs.Syntax.{Command}
+use Rattle.language.specs.Runs.{meaning}
+use Rattle.rules.specs.Words.{Word, word, words, commandWords}
+use Rattle.layout.specs.Bytes.{payloadAt}
+use Rattle.ends.specs.Ends.{EndsOf}
+use Rattle.compare.specs.Matching.{between, numbers, matchedWord, matched}
+use Rattle.compare.specs.Places.{endAt}
+use Rattle.compare.specs.declared.cursor.Match.{Match}
+use Rattle.compare.proofs.Whole.{cursor}
+use Rattle.rule_laws.specs.Sameness.{came, startNumbers, nextNumbers, MeaningAt}
+use Rattle.rule_laws.proofs.Commands.{ForParts, parts-of-for}
+use Rattle.rule_laws.proofs.Passing.{Passes, then, passes-command, InRange, AllInRange, in-range-append}
+use Rattle.rule_laws.proofs.Passing.{command-range, same-command}
+
+module _ (file : List ℕ) (m : Match) where
+  pub start-matched : (q n : ℕ) (m₁ m₂ m₃ m₄ m₅ m₆ m₇ r : Match) → m₁ ≡ matchedWord file m 1677721600 →
+      m₂ ≡ matchedWord file m₁ (1811939328 + q) → m₃ ≡ matchedWord file m₂ 67108865 →
+      m₄ ≡ matchedWord file m₃ 2013265920 → m₅ ≡ matchedWord file m₄ 536870914 →
+      m₆ ≡ matchedWord file m₅ (134217728 + q) → m₇ ≡ matchedWord file m₆ (134217728 + n) →
+      r ≡ matchedWord file m₇ 1677721600 → r ≡ matched file m (startNumbers q n)
+  unfolding matched startNumbers
+  start-matched q n m₁ m₂ m₃ m₄ m₅ m₆ m₇ r e₁ e₂ e₃ e₄ e₅ e₆ e₇ e = cc
+
+  pub next-matched : (q : ℕ) (m₁ m₂ m₃ r : Match) → m₁ ≡ matchedWord file m (1811939328 + q) →
+      m₂ ≡ matchedWord file m₁ 201326592 → m₃ ≡ matchedWord file m₂ (134217728 + q) →
+      r ≡ matchedWord file m₃ 67108865 → r ≡ matched file m (nextNumbers q)
+  unfolding matched nextNumbers
+  next-matched q m₁ m₂ m₃ r e₁ e₂ e₃ e = cc
+
+-- 25:0 27:q 1:1 30:0 8:2 2:q 2:m 25:0
+abbrev startWords : ℕ → ℕ → List Word
+startWords q m =
+    word 25 (pos 0) ∷ word 27 (pos q) ∷ word 1 (pos 1) ∷ word 30 (pos 0) ∷ word 8 (pos 2) ∷ word 2 (pos q)
+    ∷ word 2 (pos m) ∷ word 25 (pos 0) ∷ []
+
+-- 27:q 3:0 2:q 1:1
+abbrev nextWords : ℕ → List Word
+nextWords q = word 27 (pos q) ∷ word 3 (pos 0) ∷ word 2 (pos q) ∷ word 1 (pos 1) ∷ []
+
+start-words : (q m : ℕ) → startNumbers q m ≡ numbers (startWords q m)
+unfolding numbers startNumbers
+start-words q m = refl
+
+next-words : (q : ℕ) → nextNumbers q ≡ numbers (nextWords q)
+unfolding numbers nextNumbers
+next-words q = refl
+
+meaning-words : (q m : ℕ) (c : Command) →
+    commandWords (meaning q m c) ≡ startWords q m ++ (commandWords c ++ nextWords q)
+unfolding words commandWords
+meaning-words q m c = refl
+
+low-word : (k n : ℕ) → k < 31 → n ≤ 31 → InRange (word k (pos n))
+low-word k n h l = (omega arith, λ e. omega arith)
+
+start-in-range : (q m : ℕ) → q ≤ 31 → m ≤ 31 → AllInRange (startWords q m)
+start-in-range q m g h =
+    let sequence = low-word 25 0 (omega arith) (omega arith) in
+    let start = low-word 27 q (omega arith) (omega arith) in
+    let one = low-word 1 1 (omega arith) (omega arith) in
+    let repeat = low-word 30 0 (omega arith) (omega arith) in
+    let compares = low-word 8 2 (omega arith) (omega arith) in
+    let counter = low-word 2 q (omega arith) (omega arith) in
+    let bound = low-word 2 m (omega arith) (omega arith) in
+    (sequence, (start, (one, (repeat, (compares, (counter, (bound, (sequence, tt))))))))
+
+next-in-range : (q : ℕ) → q ≤ 31 → AllInRange (nextWords q)
+next-in-range q g =
+    let next = low-word 27 q (omega arith) (omega arith) in
+    let sum = low-word 3 0 (omega arith) (omega arith) in
+    let counter = low-word 2 q (omega arith) (omega arith) in
+    let one = low-word 1 1 (omega arith) (omega arith) in
+    (next, (sum, (counter, (one, tt))))
+
+low : (p q m : ℕ) → p ≡ q + 32 * m → q ≤ 31 → p % 32 ≡ q
+low p q m e h = omega arith
+
+high : (p q m : ℕ) → p ≡ q + 32 * m → q ≤ 31 → p / 32 ≡ m
+high p q m e h = omega arith
+
+in-range : {file ends : List ℕ} {c : ℕ} (q m : ℕ) (e : Command) → ForParts file ends c q m e →
+    AllInRange (commandWords (meaning q m e))
+in-range q m e x =
+    let y = x .body-at in
+    rw meaning-words
+    (in-range-append (startWords q m) (commandWords e ++ nextWords q)
+    (start-in-range q m (x .counter-small) (x .bound-small))
+    (in-range-append (commandWords e) (nextWords q) (command-range (y .levels) e (y .stands .fit))
+    (next-in-range q (x .counter-small))))
+
+module _ {file ends : List ℕ} {d c : ℕ} (o : EndsOf file ends) where
+  module _ (start body next : Match)
+      (s : start ≡ matched file (cursor true d) (startNumbers (payloadAt file c % 32) (payloadAt file c / 32)))
+      (b : body ≡ matched file start (between file (c + 1) (endAt ends (c + 1))))
+      (n : next ≡ matched file body (nextNumbers (payloadAt file c % 32))) where
+    means : (q m : ℕ) (e : Command) → ForParts file ends c q m e →
+        Passes file (cursor true d) (commandWords (meaning q m e)) next
+    means q m e x =
+        let i = low (payloadAt file c) q m (x .payload) (x .counter-small) in
+        let j = high (payloadAt file c) q m (x .payload) (x .counter-small) in
+        let first : Passes file (cursor true d) (startWords q m) start = record {
+          is =
+              s
+              ∙ ap₂ (λ y z. matched file (cursor true d) (startNumbers y z)) i j
+              ∙ ap (matched file (cursor true d)) (start-words q m);
+        } in
+        let last : Passes file body (nextWords q) next = record {
+          is = n ∙ ap (λ y. matched file body (nextNumbers y)) i ∙ ap (matched file body) (next-words q);
+        } in
+        rw meaning-words (then first (then (passes-command b (x .body-at)) last))
+
+    pub meaning-at : {r : Bool} → r ≡ came next (endAt ends d) → MeaningAt file ends d c r
+    meaning-at h = record {
+      is = λ e q m a x y.
+          let parts = parts-of-for o y in
+          h ∙ same-command x (in-range q m a parts) (means q m a parts);
+    }

@@ -1,0 +1,239 @@
+-- The operands of a written expression, by the kind of its first word (document 01, rule 19 of sets).
+-- Assumes nothing.
+--     two-known, two-unknown                    the kinds with two operands
+--     TwoAt, OneAt, Split, split                an expression's operands at their places
+--     can-one-same, can-two-same, second-known  what the code asks for
+--     one-split, two-split, none-split          the written set compared with φ ⇒ each operand
+use mathlib.Core.Path.{_≡_, refl, sym, ap, subst, _∙_}
+use mathlib.Core.Bool.{Bool, true, false}
+use mathlib.Core.List.{List, [], _∷_, _++_}
+use mathlib.Core.Option.{none, some}
+use Prim.Native.Nat.{ℕ, zero, suc, _+_, _<_, _≤_}
+use native.Mathlib.Omega.{arith}
+use borrow.Author.Tests.{ne-eqb}
+use lib.IntN.{pos}
+use lib.ListN.{length}
+use Rattle.laws.proofs.Bools.{clash}
+use Rattle.language.specs.Syntax.{Sort, Boolean, Expr, constant, scalar, operation, select, compare, truth, and, or}
+use Rattle.language.specs.Syntax.{neg, array, zeros, update}
+use Rattle.rules.specs.Assertion.{member, one}
+use Rattle.rules.specs.Condition.{onSome}
+use Rattle.rules.specs.Sets.{operands}
+use Rattle.rules.specs.Tests.{same}
+use Rattle.rules.specs.Words.{words, operatorPayload, comparisonPayload, truthPayload}
+use Rattle.layout.specs.Bytes.{kindAt}
+use Rattle.layout.specs.Spelling.{FitsExpression}
+use Rattle.layout.specs.EvidenceWords.{expressionPart}
+use Rattle.layout.specs.Standing.{Stands, PartStands}
+use Rattle.layout.proofs.Stands.{parted}
+use Rattle.layout.proofs.Words.{kind-of-word, payload-small}
+use Rattle.ends.specs.Ends.{EndsOf}
+use Rattle.compare.specs.Places.{endAt}
+use Rattle.compare.proofs.Operands.{operator-small, comparison-small, truth-small}
+use Rattle.rule_laws.specs.Places.{WrittenAt, PartKnown}
+use Rattle.rule_laws.proofs.Places.{expression-past, written, written-inside, written-known}
+use Rattle.sets.specs.Trees.{ExpressionStands, stands-empty, stands-one, HasPile, CanSameSet, SameSet}
+use Rattle.sets.specs.declared.pile.Pile.the-variants.{Empty, One}
+use Rattle.sets.specs.declared.pile.Piles.{Piles}
+use Rattle.set_laws.proofs.Sets.{set-stands}
+use Rattle.set_rules.specs.Conditions.{hasTwo, CanSplit, SplitAt}
+
+-- the kinds in code
+pub two-known : {k n : ℕ} → k ≡ n → hasTwo n ≡ true → true ≡ hasTwo k
+two-known e h = sym (ap hasTwo e ∙ h)
+
+pub two-unknown : (k : ℕ) → (k ≡ 3 → ⊥) → (k ≡ 8 → ⊥) → (k ≡ 10 → ⊥) → (k ≡ 11 → ⊥) → false ≡ hasTwo k
+unfolding hasTwo
+two-unknown k a b c d = rw (ne-eqb k 3 a, ne-eqb k 8 b, ne-eqb k 10 c, ne-eqb k 11 d)
+
+module _ (file ends : List ℕ) {k : Sort} (d : Expr k) (at : ℕ) where
+  pub record TwoAt : Type 0 where
+    pub first-sort : Sort
+    pub second-sort : Sort
+    pub first : Expr first-sort
+    pub second : Expr second-sort
+    pub is : (φ : Expr Boolean) → operands φ d ≡ some (member φ first ∷ (member φ second ∷ []))
+    pub first-at : WrittenAt file ends first (at + 1)
+    pub second-at : WrittenAt file ends second (endAt ends (at + 1))
+
+  pub record OneAt : Type 0 where
+    pub only : Expr Boolean
+    pub is : (φ : Expr Boolean) → operands φ d ≡ some (member φ only ∷ [])
+    pub only-at : WrittenAt file ends only (at + 1)
+
+  pub data Split : Type 0 where
+    split-two : hasTwo (kindAt file at) ≡ true → (kindAt file at ≡ 12 → ⊥) → TwoAt → Split
+    split-one : kindAt file at ≡ 12 → OneAt → Split
+    split-none : hasTwo (kindAt file at) ≡ false → (kindAt file at ≡ 12 → ⊥) →
+        ((φ : Expr Boolean) → operands φ d ≡ none) → Split
+
+module _ {file ends : List ℕ} (o : EndsOf file ends) where
+  -- an expression with two operands
+  module _ {i j k : Sort} {d : Expr k} {a : Expr i} {b : Expr j} {at p : ℕ} (n : ℕ) (l : n ≤ 256) where
+    two-at : ((φ : Expr Boolean) → operands φ d ≡ some (member φ a ∷ (member φ b ∷ []))) →
+        Stands file (words a ++ words b) (FitsExpression a n × FitsExpression b n) (at + 1) p → TwoAt file ends d at
+    two-at e s =
+        parted (words a) (words b) s λ q x y. record {
+          first-sort = i;
+          second-sort = j;
+          first = a;
+          second = b;
+          is = e;
+          first-at = written o a n (at + 1) q l x;
+          second-at = subst (λ z. WrittenAt file ends b z) (expression-past o a n (at + 1) q x) (written o b n q p l y);
+        }
+
+  two-kind : {k : Sort} {d : Expr k} {at : ℕ} (n : ℕ) → kindAt file at ≡ n → hasTwo n ≡ true → (n ≡ 12 → ⊥) →
+      TwoAt file ends d at → Split file ends d at
+  two-kind n e h g t = split-two (ap hasTwo e ∙ h) (λ i. g (sym e ∙ i)) t
+
+  none-kind : {k : Sort} {d : Expr k} {at : ℕ} (n : ℕ) → kindAt file at ≡ n → hasTwo n ≡ false → (n ≡ 12 → ⊥) →
+      ((φ : Expr Boolean) → operands φ d ≡ none) → Split file ends d at
+  none-kind n e h g t = split-none (ap hasTwo e ∙ h) (λ i. g (sym e ∙ i)) t
+
+  split-to : {k : Sort} (n : ℕ) (d : Expr k) (at p : ℕ) → n ≤ 256 → PartStands file (expressionPart d) n at p →
+      Split file ends d at
+  unfolding words FitsExpression hasTwo
+  split-to zero d at p l s = absurd (s .fit)
+  split-to (suc n) (constant z) at p l s =
+      let small = payload-small z (s .fit) in
+      none-kind 1 (kind-of-word file at 1 z (s .stand .1) small) refl (λ i. omega arith) λ φ. refl
+  split-to (suc n) (scalar x) at p l s =
+      let f : x ≤ 31 = s .fit in
+      none-kind 2 (kind-of-word file at 2 (pos x) (s .stand .1) (omega arith)) refl (λ i. omega arith) λ φ. refl
+  split-to (suc n) (operation r a b) at p l s =
+      two-kind 3 (kind-of-word file at 3 (operatorPayload r) (s .stand .1) (operator-small r)) refl (λ i. omega arith)
+      (two-at n (omega arith) (λ φ. refl) (record { stand = s .stand .2; fit = s .fit }))
+  split-to (suc n) (select h i) at p l s =
+      none-kind 4 (kind-of-word file at 4 (pos 0) (s .stand .1) (omega arith)) refl (λ i. omega arith) λ φ. refl
+  split-to (suc n) (compare r a b) at p l s =
+      let small = comparison-small r in
+      two-kind 8 (kind-of-word file at 8 (comparisonPayload r) (s .stand .1) small) refl (λ i. omega arith)
+      (two-at n (omega arith) (λ φ. refl) (record { stand = s .stand .2; fit = s .fit }))
+  split-to (suc n) (truth t) at p l s =
+      let small = truth-small t in
+      none-kind 9 (kind-of-word file at 9 (truthPayload t) (s .stand .1) small) refl (λ i. omega arith) λ φ. refl
+  split-to (suc n) (and b c) at p l s =
+      two-kind 10 (kind-of-word file at 10 (pos 0) (s .stand .1) (omega arith)) refl (λ i. omega arith)
+      (two-at n (omega arith) (λ φ. refl) (record { stand = s .stand .2; fit = s .fit }))
+  split-to (suc n) (or b c) at p l s =
+      two-kind 11 (kind-of-word file at 11 (pos 0) (s .stand .1) (omega arith)) refl (λ i. omega arith)
+      (two-at n (omega arith) (λ φ. refl) (record { stand = s .stand .2; fit = s .fit }))
+  split-to (suc n) (neg b) at p l s =
+      split-one (kind-of-word file at 12 (pos 0) (s .stand .1) (omega arith)) (record {
+        only = b;
+        is = λ φ. refl;
+        only-at = written o b n (at + 1) p (omega arith) (record { stand = s .stand .2; fit = s .fit });
+      })
+  split-to (suc n) (array a) at p l s =
+      let f : a ≤ 31 = s .fit in
+      none-kind 16 (kind-of-word file at 16 (pos a) (s .stand .1) (omega arith)) refl (λ i. omega arith) λ φ. refl
+  split-to (suc n) zeros at p l s =
+      none-kind 17 (kind-of-word file at 17 (pos 0) (s .stand .1) (omega arith)) refl (λ i. omega arith) λ φ. refl
+  split-to (suc n) (update h i a) at p l s =
+      none-kind 18 (kind-of-word file at 18 (pos 0) (s .stand .1) (omega arith)) refl (λ i. omega arith) λ φ. refl
+
+  pub split : {k : Sort} {d : Expr k} {at : ℕ} → WrittenAt file ends d at → Split file ends d at
+  split {d = d} {at} x = split-to (x .levels) d at (endAt ends at) (x .low) (x .stands)
+
+-- by the kind
+module _ {file ends : List ℕ} {k : Sort} {d : Expr k} {at : ℕ} where
+  by-one : Split file ends d at → kindAt file at ≡ 12 → OneAt file ends d at
+  by-one (split-two h g t) e = absurd (g e)
+  by-one (split-one h t) e = t
+  by-one (split-none h g t) e = absurd (g e)
+
+  by-two : Split file ends d at → (kindAt file at ≡ 12 → ⊥) → hasTwo (kindAt file at) ≡ true → TwoAt file ends d at
+  by-two (split-two h g t) f e = t
+  by-two (split-one h t) f e = absurd (f h)
+  by-two (split-none h g t) f e = clash e h
+
+  by-none : Split file ends d at → (kindAt file at ≡ 12 → ⊥) → hasTwo (kindAt file at) ≡ false → (φ : Expr Boolean) →
+      operands φ d ≡ none
+  by-none (split-two h g t) f e φ = clash h e
+  by-none (split-one h t) f e φ = absurd (f h)
+  by-none (split-none h g t) f e φ = t φ
+
+abbrev onePiles : ℕ → ℕ → Piles
+onePiles f a = record { first = One f a; second = Empty; third = Empty }
+
+abbrev twoPiles : ℕ → ℕ → ℕ → Piles
+twoPiles f a b = record { first = One f a; second = One f b; third = Empty }
+
+stands-there : {file ends : List ℕ} {k : Sort} {e : Expr k} {at : ℕ} → WrittenAt file ends e at →
+    ExpressionStands file e at
+stands-there {ends = ends} {at = at} x = record { levels = x .levels; next = endAt ends at; stands = x .stands }
+
+stands-at : {file ends : List ℕ} {k : Sort} {e : Expr k} {at to : ℕ} → to ≡ at → WrittenAt file ends e at →
+    ExpressionStands file e to
+stands-at {file} {e = e} i x = subst (λ z. ExpressionStands file e z) (sym i) (stands-there x)
+
+has-pair : {file ends : List ℕ} {φ : Expr Boolean} {k : Sort} {d : Expr k} {f at to : ℕ} → WrittenAt file ends φ f →
+    to ≡ at → WrittenAt file ends d at → HasPile file (One f to)
+has-pair {φ = φ} {d = d} x i y = record { tree = one φ d; stands = stands-one (stands-there x) (stands-at i y) }
+
+module _ {file ends : List ℕ} {p f e : ℕ} (can : CanSplit file ends p f e) where
+  pub whole-in : e < length file
+  whole-in =
+      let i = written-inside (can .whole-at) in
+      let s = i .start in
+      let w = i .within in
+      omega arith
+
+  pub can-one-same : kindAt file e ≡ 12 → CanSameSet file ends p (onePiles f (e + 1))
+  can-one-same h =
+      let t = by-one (split (can .ends-of) (can .whole-at)) h in
+      record {
+        ends-of = can .ends-of;
+        set = can .set;
+        first-pile = has-pair (can .antecedent-at) refl (t .only-at);
+        second-pile = record { tree = _; stands = stands-empty };
+        third-pile = record { tree = _; stands = stands-empty };
+      }
+
+  module _ (g : kindAt file e ≡ 12 → ⊥) (h : hasTwo (kindAt file e) ≡ true) where
+    here : TwoAt file ends (can .whole) e
+    here = by-two (split (can .ends-of) (can .whole-at)) g h
+
+    pub first-known : PartKnown file ends (e + 1)
+    first-known = written-known (can .ends-of) (here .first-at)
+
+    pub can-two-same : {next : ℕ} → next ≡ endAt ends (e + 1) → CanSameSet file ends p (twoPiles f (e + 1) next)
+    can-two-same i = record {
+      ends-of = can .ends-of;
+      set = can .set;
+      first-pile = has-pair (can .antecedent-at) refl (here .first-at);
+      second-pile = has-pair (can .antecedent-at) i (here .second-at);
+      third-pile = record { tree = _; stands = stands-empty };
+    }
+
+module _ {file ends : List ℕ} {p f e : ℕ} (o : EndsOf file ends) where
+  pub one-split : kindAt file e ≡ 12 → {r : Bool} → SameSet file p (onePiles f (e + 1)) r → SplitAt file ends p f e r
+  unfolding onSome
+  one-split h same-as = record {
+    is = λ limits l φ d a b c.
+        let t = by-one (split o c) h in
+        same-as .does l (one φ (t .only)) [] [] (set-stands a) (stands-one (stands-there b) (stands-there (t .only-at)))
+        stands-empty stands-empty
+        ∙ ap (λ m. onSome m false (λ x. same l x)) (sym (t .is φ));
+  }
+
+  module _ (g : kindAt file e ≡ 12 → ⊥) where
+    pub none-split : {t : Bool} → t ≡ hasTwo (kindAt file e) → t ≡ false → SplitAt file ends p f e false
+    unfolding onSome
+    none-split i h = record {
+      is = λ limits l φ d a b c. ap (λ m. onSome m false (λ x. same l x)) (sym (by-none (split o c) g (sym i ∙ h) φ));
+    }
+
+    pub two-split : hasTwo (kindAt file e) ≡ true → {next : ℕ} → next ≡ endAt ends (e + 1) → {r : Bool} →
+        SameSet file p (twoPiles f (e + 1) next) r → SplitAt file ends p f e r
+    unfolding onSome
+    two-split h i same-as = record {
+      is = λ limits l φ d a b c.
+          let t = by-two (split o c) g h in
+          same-as .does l (one φ (t .first)) (one φ (t .second)) [] (set-stands a)
+          (stands-one (stands-there b) (stands-there (t .first-at)))
+          (stands-one (stands-there b) (stands-at i (t .second-at)))
+          stands-empty
+          ∙ ap (λ m. onSome m false (λ x. same l x)) (sym (t .is φ));
+    }

@@ -1,0 +1,12 @@
+-- `set_rules::condition::is_rest_union` meets its contract.
+-- Assumes nothing.
+use Rattle.set_rules.proofs.Conditions.{can-rest-same, rest-at}
+use Rattle.set_rules.proofs.condition.is_rest_union.Statement.{statement}
+use Rattle.set_rules.proofs.condition.is_rest_union.Tie as tie
+
+pub is-rest-union-spec : {M : Type 1} → statement M
+is-rest-union-spec =
+    tie.close
+    (tie.spec
+    (λ c κs. can-rest-same (c .before .before .pre))
+    (λ c. rest-at (c .is-same-set .ensures)))

@@ -1,0 +1,81 @@
+-- The rules' conditions on written sets: what each asks for, and what it promises (document 01, rules 13, 14, 17 and 19
+-- of sets).
+-- Working. Assumes nothing.
+--     CanInclude, WithinAt      rule 13: each of a written set stands in another
+--     CanTryEach, EachAt        rule 14: each antecedent implies false
+--     CanRest, RestAt           rule 17: a written set is the same as (T without S') ∪ S
+--     hasTwo, CanSplit, SplitAt
+--                               rule 19: a written set is the same as φ ⇒ each operand of E
+use mathlib.Core.Path.{_≡_}
+use mathlib.Core.Bool.{Bool, false, _||_}
+use mathlib.Core.List.{List, _++_}
+use Prim.Native.Nat.{ℕ, _≤_}
+use lib.Dec.{eqb}
+use lib.ListN.{length}
+use Rattle.language.specs.Syntax.{Sort, Boolean, Expr}
+use Rattle.rules.specs.Assertion.{Members}
+use Rattle.rules.specs.Context.{Limits, Context}
+use Rattle.rules.specs.Condition.{eachImpliesFalse, onSome}
+use Rattle.rules.specs.Sets.{without, operands}
+use Rattle.rules.specs.Tests.{within, same}
+use Rattle.ends.specs.Ends.{EndsOf}
+use Rattle.implication.specs.Sides.{resultOf}
+use Rattle.implication.specs.declared.Condition.{Condition}
+use Rattle.rule_laws.specs.Places.{WrittenAt, SetAt}
+use Rattle.sets.specs.Trees.{HasSet}
+use Rattle.set_laws.specs.Members.{MembersWritten}
+
+-- the kinds of rule 19 that have two operands
+unfoldable pub hasTwo : ℕ → Bool
+hasTwo k = eqb k 3 || (eqb k 8 || (eqb k 10 || eqb k 11))
+
+module _ (file ends : List ℕ) where
+  pub record CanInclude (q p : ℕ) : Type 0 where
+    pub ends-of : EndsOf file ends
+    pub part : HasSet file q
+    pub whole : HasSet file p
+
+  pub record WithinAt (q p : ℕ) (r : Bool) : Type 0 where
+    pub is : (limits : Limits) (x y : Members) → SetAt file ends limits x q → SetAt file ends limits y p →
+        r ≡ within x y
+
+  -- the n members at `at`
+  pub record CanTryEach (limit n at : ℕ) : Type 0 where
+    pub ends-of : EndsOf file ends
+    pub size : length file ≤ 8192
+    pub few : limit ≤ 16
+    pub members : Members
+    pub count : length members ≡ n
+    pub members-at : MembersWritten file ends members at
+
+  pub record EachAt (limit n at : ℕ) (r : Condition) : Type 0 where
+    pub is : (l : Members) → length l ≡ n → MembersWritten file ends l at → (Γ : Context) →
+        Γ .limits .comparisons ≡ limit →
+        resultOf r ≡ eachImpliesFalse Γ l
+
+  -- T at t, S' at `leave`, S at s
+  pub record CanRest (p t leave s : ℕ) : Type 0 where
+    pub ends-of : EndsOf file ends
+    pub set : HasSet file p
+    pub most : HasSet file t
+    pub left-out : HasSet file leave
+    pub added : HasSet file s
+
+  pub record RestAt (p t leave s : ℕ) (r : Bool) : Type 0 where
+    pub is : (limits : Limits) (l x y z : Members) → SetAt file ends limits l p → SetAt file ends limits x t →
+        SetAt file ends limits y leave → SetAt file ends limits z s → r ≡ same l (without x y ++ z)
+
+  -- φ at f, E at e
+  pub record CanSplit (p f e : ℕ) : Type 0 where
+    pub ends-of : EndsOf file ends
+    pub size : length file ≤ 8192
+    pub set : HasSet file p
+    pub φ : Expr Boolean
+    pub antecedent-at : WrittenAt file ends φ f
+    pub sort : Sort
+    pub whole : Expr sort
+    pub whole-at : WrittenAt file ends whole e
+
+  pub record SplitAt (p f e : ℕ) (r : Bool) : Type 0 where
+    pub is : (limits : Limits) (l : Members) (φ : Expr Boolean) {k : Sort} (d : Expr k) → SetAt file ends limits l p →
+        WrittenAt file ends φ f → WrittenAt file ends d e → r ≡ onSome (operands φ d) false (λ x. same l x)
