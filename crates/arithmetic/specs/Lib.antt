@@ -1,0 +1,3 @@
+-- What the arithmetic answers.
+--     Worked    outcomes
+pub mod Worked

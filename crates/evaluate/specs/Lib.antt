@@ -1,0 +1,3 @@
+-- What working out expressions promises.
+--     Evaluated    outcomes, and contracts by the tree that stands at a place
+pub mod Evaluated

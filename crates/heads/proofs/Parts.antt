@@ -1,0 +1,273 @@
+-- The parts of what stands at a place, by its first word.
+-- Assumes nothing.
+--     Inside, expression-inside, command-inside              it has a word, and ends within the file
+--     One, Two, Three                                        so many parts, one after the other
+--     ArithmeticParts, BooleanParts, ArrayParts, CommandParts     the parts by the first word
+--     arithmetic-parts, boolean-parts, array-parts, command-parts are what stands there
+use mathlib.Core.Path.{_≡_, refl, sym, ap, subst, _∙_}
+use mathlib.Core.List.{List, [], _∷_, _++_}
+use Prim.Native.Nat.{ℕ, zero, suc, _+_, _<_, _≤_}
+use native.Mathlib.Omega.{arith}
+use lib.ListN.{length}
+use Rattle.language.specs.Syntax as syntax
+use Rattle.language.specs.Syntax.{plus, minus, times, equal, less, atMost}
+use Rattle.language.specs.Syntax.{Sort, Expr, constant, scalar, operation, select, compare, truth, and, or, neg}
+use Rattle.language.specs.Syntax.{array, zeros, update, toScalar, toArray}
+use Rattle.language.specs.Syntax.{skip, sequence, assert, assign, ifElse, while, for}
+use Rattle.rules.specs.Words as spelled
+use Rattle.rules.specs.Words.{words, commandWords}
+use Rattle.layout.specs.Bytes.{numberAt}
+use Rattle.layout.specs.Spelling.{FitsExpression, FitsCommand}
+use Rattle.layout.specs.EvidenceWords.{Part, expressionPart, commandPart}
+use Rattle.layout.specs.Standing.{Stands, PartStands}
+use Rattle.layout.proofs.Stands.{stands-end, stands-inside, parted}
+use Rattle.ends.proofs.Ends.{rest, less-fit}
+use Rattle.words.specs.Decode.{decodeOf}
+use Rattle.words.specs.Meaning.{operatorMeant, comparisonMeant}
+use Rattle.words.specs.declared.ArithmeticWord.{ArithmeticWord}
+use Rattle.words.specs.declared.ArithmeticWord.the-variants.{Constant, Scalar, Operation, Select}
+use Rattle.words.specs.declared.BooleanWord.{BooleanWord}
+use Rattle.words.specs.declared.BooleanWord.the-variants.{Compare, Truth, And, Or, Not}
+use Rattle.words.specs.declared.ArrayWord.{ArrayWord}
+use Rattle.words.specs.declared.ArrayWord.the-variants.{Identifier, Zeros, Update}
+use Rattle.words.specs.declared.CommandWord.{CommandWord}
+use Rattle.words.specs.declared.CommandWord.the-variants.{Skip, Sequence, Assert, AssignScalar, AssignArray, If, While, For}
+use Rattle.words.specs.declared.Word.{Word}
+use Rattle.words.specs.declared.Word.the-variants.{Arithmetic, Boolean, Array, Command}
+use Rattle.heads.specs.Stands.{PartAt}
+use Rattle.heads.proofs.Decoded.{operatorHead, comparisonHead, arithmeticHead, booleanHead, arrayHead, commandHead}
+use Rattle.heads.proofs.Decoded.{arithmetic-decoded, boolean-decoded, array-head-decoded, command-decoded}
+
+pub record Inside (file : List ℕ) (at p : ℕ) : Type 0 where
+  pub start : at < p
+  pub within : p ≤ length file
+
+abbrev pub arithmeticPart : Expr syntax.Arithmetic → Part
+arithmeticPart e = expressionPart e
+
+abbrev pub booleanPart : Expr syntax.Boolean → Part
+booleanPart e = expressionPart e
+
+abbrev pub arrayPart : Expr syntax.Array → Part
+arrayPart e = expressionPart e
+
+module _ (file : List ℕ) where
+  module _ {A X : Type 0} (f : X → Part) (make : X → A) where
+    pub record One (e : A) (at p : ℕ) : Type 0 where
+      pub first : X
+      pub is : e ≡ make first
+      pub first-at : PartAt file (f first) at p
+
+  module _ {A X Y : Type 0} (f : X → Part) (g : Y → Part) (make : X → Y → A) where
+    pub record Two (e : A) (at p : ℕ) : Type 0 where
+      pub first : X
+      pub second : Y
+      pub middle : ℕ
+      pub is : e ≡ make first second
+      pub first-at : PartAt file (f first) at middle
+      pub second-at : PartAt file (g second) middle p
+
+  module _ {A X Y Z : Type 0} (f : X → Part) (g : Y → Part) (h : Z → Part) (make : X → Y → Z → A) where
+    pub record Three (e : A) (at p : ℕ) : Type 0 where
+      pub first : X
+      pub second : Y
+      pub third : Z
+      pub middle : ℕ
+      pub last : ℕ
+      pub is : e ≡ make first second third
+      pub first-at : PartAt file (f first) at middle
+      pub second-at : PartAt file (g second) middle last
+      pub third-at : PartAt file (h third) last p
+
+  abbrev pub ArithmeticParts : ArithmeticWord → Expr syntax.Arithmetic → ℕ → ℕ → Type 0
+  ArithmeticParts (Constant z) e at p = e ≡ constant z
+  ArithmeticParts (Scalar x) e at p = (e ≡ scalar x) × (x ≤ 31)
+  ArithmeticParts (Operation o) e at p = Two arithmeticPart arithmeticPart (operation (operatorMeant o)) e (at + 1) p
+  ArithmeticParts Select e at p = Two arrayPart arithmeticPart select e (at + 1) p
+
+  abbrev pub BooleanParts : BooleanWord → Expr syntax.Boolean → ℕ → ℕ → Type 0
+  BooleanParts (Compare r) e at p = Two arithmeticPart arithmeticPart (compare (comparisonMeant r)) e (at + 1) p
+  BooleanParts (Truth t) e at p = e ≡ truth t
+  BooleanParts And e at p = Two booleanPart booleanPart and e (at + 1) p
+  BooleanParts Or e at p = Two booleanPart booleanPart or e (at + 1) p
+  BooleanParts Not e at p = One booleanPart neg e (at + 1) p
+
+  abbrev pub ArrayParts : ArrayWord → Expr syntax.Array → ℕ → ℕ → Type 0
+  ArrayParts (Identifier a) e at p = (e ≡ array a) × (a ≤ 31)
+  ArrayParts Zeros e at p = e ≡ zeros
+  ArrayParts Update e at p = Three arrayPart arithmeticPart arithmeticPart update e (at + 1) p
+
+  abbrev pub CommandParts : CommandWord → syntax.Command → ℕ → ℕ → Type 0
+  CommandParts Skip c at p = c ≡ skip
+  CommandParts Sequence c at p = Two commandPart commandPart sequence c (at + 1) p
+  CommandParts Assert c at p = One booleanPart assert c (at + 1) p
+  CommandParts (AssignScalar x) c at p = One arithmeticPart (λ e. assign (toScalar x e)) c (at + 1) p × (x ≤ 31)
+  CommandParts (AssignArray a) c at p = One arrayPart (λ e. assign (toArray a e)) c (at + 1) p × (a ≤ 31)
+  CommandParts If c at p = Three booleanPart commandPart commandPart ifElse c (at + 1) p
+  CommandParts While c at p = Two booleanPart commandPart while c (at + 1) p
+  CommandParts (For q m) c at p = One commandPart (for q m) c (at + 1) p × ((q ≤ 31) × (m ≤ 31))
+
+operator-meant : (o : syntax.Operator) → operatorMeant (operatorHead o) ≡ o
+operator-meant plus = refl
+operator-meant minus = refl
+operator-meant times = refl
+
+comparison-meant : (r : syntax.Comparison) → comparisonMeant (comparisonHead r) ≡ r
+comparison-meant equal = refl
+comparison-meant less = refl
+comparison-meant atMost = refl
+
+module _ {file : List ℕ} where
+  inside : {w : spelled.Word} {l : List spelled.Word} {F : Type 0} {at p : ℕ} → Stands file (w ∷ l) F at p → Inside file at p
+  inside {w} {l} {at = at} {p} s =
+      let h = s .stand .0 in
+      let e = stands-end file (at + 1) l p (s .stand .2) in
+      record { start = omega arith; within = stands-inside file (at + 1) l p (s .stand .2) (omega arith) }
+
+  pub expression-inside : {k : Sort} (e : Expr k) {at p : ℕ} → PartAt file (expressionPart e) at p → Inside file at p
+  unfolding words
+  expression-inside (constant z) s = inside (s .stands)
+  expression-inside (scalar x) s = inside (s .stands)
+  expression-inside (operation o a b) s = inside (s .stands)
+  expression-inside (select h i) s = inside (s .stands)
+  expression-inside (compare r a b) s = inside (s .stands)
+  expression-inside (truth t) s = inside (s .stands)
+  expression-inside (and b c) s = inside (s .stands)
+  expression-inside (or b c) s = inside (s .stands)
+  expression-inside (neg b) s = inside (s .stands)
+  expression-inside (array a) s = inside (s .stands)
+  expression-inside zeros s = inside (s .stands)
+  expression-inside (update h i a) s = inside (s .stands)
+
+  pub command-inside : (c : syntax.Command) {at p : ℕ} → PartAt file (commandPart c) at p → Inside file at p
+  unfolding commandWords
+  command-inside skip s = inside (s .stands)
+  command-inside (sequence c d) s = inside (s .stands)
+  command-inside (assert b) s = inside (s .stands)
+  command-inside (assign (toScalar x e)) s = inside (s .stands)
+  command-inside (assign (toArray a e)) s = inside (s .stands)
+  command-inside (ifElse b c d) s = inside (s .stands)
+  command-inside (while b c) s = inside (s .stands)
+  command-inside (for q m c) s = inside (s .stands)
+
+  -- with d levels left
+  at-level : (x : Part) (d : ℕ) {at p : ℕ} → PartStands file x d at p → PartAt file x at p
+  at-level x d s = record { levels = d; stands = s }
+
+  two : {A X Y : Type 0} (f : X → Part) (g : Y → Part) (make : X → Y → A) (e : A) (a : X) (b : Y) (d : ℕ) {at q p : ℕ} →
+      e ≡ make a b → PartStands file (f a) d at q → PartStands file (g b) d q p → Two file f g make e at p
+  two f g make e a b d {at} {q} h s t = record {
+    first = a;
+    second = b;
+    middle = q;
+    is = h;
+    first-at = at-level (f a) d s;
+    second-at = at-level (g b) d t;
+  }
+
+  arithmetic-own : (d : ℕ) (e : Expr syntax.Arithmetic) (at p : ℕ) → PartStands file (expressionPart e) d at p →
+      ArithmeticParts file (arithmeticHead e) e at p
+  unfolding words FitsExpression
+  arithmetic-own zero e at p s = absurd (s .fit)
+  arithmetic-own (suc d) (constant z) at p s = refl
+  arithmetic-own (suc d) (scalar x) at p s = (refl, s .fit)
+  arithmetic-own (suc d) (operation o a b) at p s =
+      parted (words a) (words b) (rest s) λ q x y.
+      two _ _ (operation (operatorMeant (operatorHead o))) (operation o a b) a b d
+      (ap (λ i. operation i a b) (sym (operator-meant o))) x y
+  arithmetic-own (suc d) (select h i) at p s =
+      parted (words h) (words i) (rest s) λ q x y. two _ _ select (select h i) h i d refl x y
+
+  boolean-own : (d : ℕ) (e : Expr syntax.Boolean) (at p : ℕ) → PartStands file (expressionPart e) d at p →
+      BooleanParts file (booleanHead e) e at p
+  unfolding words FitsExpression
+  boolean-own zero e at p s = absurd (s .fit)
+  boolean-own (suc d) (compare r a b) at p s =
+      parted (words a) (words b) (rest s) λ q x y.
+      two _ _ (compare (comparisonMeant (comparisonHead r))) (compare r a b) a b d
+      (ap (λ i. compare i a b) (sym (comparison-meant r))) x y
+  boolean-own (suc d) (truth t) at p s = refl
+  boolean-own (suc d) (and b c) at p s =
+      parted (words b) (words c) (rest s) λ q x y. two _ _ and (and b c) b c d refl x y
+  boolean-own (suc d) (or b c) at p s =
+      parted (words b) (words c) (rest s) λ q x y. two _ _ or (or b c) b c d refl x y
+  boolean-own (suc d) (neg b) at p s = record { first = b; is = refl; first-at = at-level _ d (rest s) }
+
+  array-own : (d : ℕ) (e : Expr syntax.Array) (at p : ℕ) → PartStands file (expressionPart e) d at p →
+      ArrayParts file (arrayHead e) e at p
+  unfolding words FitsExpression
+  array-own zero e at p s = absurd (s .fit)
+  array-own (suc d) (array a) at p s = (refl, s .fit)
+  array-own (suc d) zeros at p s = refl
+  array-own (suc d) (update h i a) at p s =
+      parted (words h) (words i ++ words a) (rest s) λ q x t.
+      parted (words i) (words a) t λ r y z. record {
+        first = h;
+        second = i;
+        third = a;
+        middle = q;
+        last = r;
+        is = refl;
+        first-at = at-level _ d x;
+        second-at = at-level _ d y;
+        third-at = at-level _ d z;
+      }
+
+  command-own : (d : ℕ) (c : syntax.Command) (at p : ℕ) → PartStands file (commandPart c) d at p →
+      CommandParts file (commandHead c) c at p
+  unfolding commandWords FitsCommand
+  command-own zero c at p s = absurd (s .fit)
+  command-own (suc d) skip at p s = refl
+  command-own (suc d) (sequence a b) at p s =
+      parted (commandWords a) (commandWords b) (rest s) λ q x y. two _ _ sequence (sequence a b) a b d refl x y
+  command-own (suc d) (assert b) at p s = record { first = b; is = refl; first-at = at-level _ d (rest s) }
+  command-own (suc d) (assign (toScalar x e)) at p s =
+      (record { first = e; is = refl; first-at = at-level _ d (less-fit (rest s)) }, s .fit .0)
+  command-own (suc d) (assign (toArray a e)) at p s =
+      (record { first = e; is = refl; first-at = at-level _ d (less-fit (rest s)) }, s .fit .0)
+  command-own (suc d) (ifElse b c₁ c₂) at p s =
+      parted (words b) (commandWords c₁ ++ commandWords c₂) (rest s) λ q x t.
+      parted (commandWords c₁) (commandWords c₂) t λ r y z. record {
+        first = b;
+        second = c₁;
+        third = c₂;
+        middle = q;
+        last = r;
+        is = refl;
+        first-at = at-level _ d x;
+        second-at = at-level _ d y;
+        third-at = at-level _ d z;
+      }
+  command-own (suc d) (while b c) at p s =
+      parted (words b) (commandWords c) (rest s) λ q x y. two _ _ while (while b c) b c d refl x y
+  command-own (suc d) (for q m c) at p s =
+      (record { first = c; is = refl; first-at = at-level _ d (less-fit (rest s)) }, s .fit .0)
+
+  -- by the word that stands there
+  pub arithmetic-parts : (e : Expr syntax.Arithmetic) {at p : ℕ} {h : ArithmeticWord} →
+      PartAt file (expressionPart e) at p → decodeOf (numberAt file at) ≡ Arithmetic h → ArithmeticParts file h e at p
+  arithmetic-parts e {at} {p} {h} s eq =
+      let k = arithmetic-decoded (s .levels) e at p (s .stands) in
+      let same : arithmeticHead e ≡ h = cc in
+      subst (λ i. ArithmeticParts file i e at p) same (arithmetic-own (s .levels) e at p (s .stands))
+
+  pub boolean-parts : (e : Expr syntax.Boolean) {at p : ℕ} {h : BooleanWord} →
+      PartAt file (expressionPart e) at p → decodeOf (numberAt file at) ≡ Boolean h → BooleanParts file h e at p
+  boolean-parts e {at} {p} {h} s eq =
+      let k = boolean-decoded (s .levels) e at p (s .stands) in
+      let same : booleanHead e ≡ h = cc in
+      subst (λ i. BooleanParts file i e at p) same (boolean-own (s .levels) e at p (s .stands))
+
+  pub array-parts : (e : Expr syntax.Array) {at p : ℕ} {h : ArrayWord} →
+      PartAt file (expressionPart e) at p → decodeOf (numberAt file at) ≡ Array h → ArrayParts file h e at p
+  array-parts e {at} {p} {h} s eq =
+      let k = array-head-decoded (s .levels) e at p (s .stands) in
+      let same : arrayHead e ≡ h = cc in
+      subst (λ i. ArrayParts file i e at p) same (array-own (s .levels) e at p (s .stands))
+
+  pub command-parts : (c : syntax.Command) {at p : ℕ} {h : CommandWord} →
+      PartAt file (commandPart c) at p → decodeOf (numberAt file at) ≡ Command h → CommandParts file h c at p
+  command-parts c {at} {p} {h} s eq =
+      let k = command-decoded (s .levels) c at p (s .stands) in
+      let same : commandHead c ≡ h = cc in
+      subst (λ i. CommandParts file i c at p) same (command-own (s .levels) c at p (s .stands))

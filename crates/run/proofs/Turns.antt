@@ -1,0 +1,146 @@
+-- Turns one after the other, by one turn and what follows it.
+-- Assumes nothing.
+--     turns-again, turns-over    the definition's turns, where one more is due, and where none is
+--     turn-less                  a turn takes a step
+--     Going                      what a loop has done so far
+--     going-on, going-ended ..   its turns
+use mathlib.Core.Path.{_≡_, refl, sym, ap, subst, _∙_}
+use mathlib.Core.Bool.{Bool, true, false}
+use mathlib.Core.List.{List}
+use Prim.Native.Nat.{ℕ, zero, suc, _+_, _<_, _≤_}
+use native.Mathlib.Omega.{arith}
+use lib.ListN.{length}
+use Rattle.language.specs.Syntax as syntax
+use Rattle.language.specs.Syntax.{Expr}
+use Rattle.layout.specs.EvidenceWords.{commandPart}
+use Rattle.execution.specs.Lent.{Lent, storeOf}
+use Rattle.execution.specs.Evaluate.{Outcome, worked, stops, evaluate}
+use Rattle.execution.specs.Run as definition
+use Rattle.execution.specs.Run.{ended, stopped, onEnded, step, turns}
+use Rattle.heads.specs.Stands.{PartAt, CommandStands}
+use Rattle.run.specs.Steps.{endAt, chosen}
+use Rattle.run.specs.Turns.{loopTest, loopBody, Turned, again, over, turnedAt, goOn, turnBy, turnOf, TurnsAs, TurnAs}
+use Rattle.run.specs.declared.End.the-variants.{Ended, Stopped}
+use Rattle.run.specs.declared.Turn.{Turn}
+use Rattle.run.specs.declared.Turn.the-variants as Turn
+use Rattle.run.proofs.Steps.{never}
+use Rattle.run.proofs.Bounds.{Bounded, body-bounded}
+
+-- what follows a turn
+abbrev afterTurn : Turned → (ℕ → Lent → definition.End) → definition.End
+afterTurn (again n m) f = f n m
+afterTurn (over e) f = e
+
+go-on : (e : definition.End) (f : ℕ → Lent → definition.End) → onEnded e f ≡ afterTurn (goOn e) f
+go-on (ended n m) f = refl
+go-on (stopped k p n m) f = refl
+
+module _ (b : Expr syntax.Boolean) (body : ℕ → Lent → definition.End) (at : ℕ) where
+  turn-step : (k n : ℕ) (m : Lent) (o : Outcome Bool) →
+      (step at n m o λ v l. elim v [ true ↦ onEnded (body l m) (turns k b body at) | false ↦ ended l m ])
+      ≡ afterTurn (turnBy (chosen at n o) m body) (turns k b body at)
+  turn-step k zero m o = refl
+  turn-step k (suc n) m (worked true) = go-on (body n m) (turns k b body at)
+  turn-step k (suc n) m (worked false) = refl
+  turn-step k (suc n) m (stops j) = refl
+
+  turn-is : (k n : ℕ) (m : Lent) → turns (suc k) b body at n m ≡ afterTurn (turnOf b body at n m) (turns k b body at)
+  unfolding turns
+  turn-is k n m = turn-step k n m (evaluate b (storeOf m))
+
+  module _ (bounded : (n : ℕ) (m : Lent) → Bounded n (body n m)) where
+    same-after : (k j l : ℕ) (e : definition.End) → Bounded l e → l ≤ k → l ≤ j →
+        ((n : ℕ) (m : Lent) → n ≤ k → n ≤ j → turns k b body at n m ≡ turns j b body at n m) →
+        onEnded e (turns k b body at) ≡ onEnded e (turns j b body at)
+    same-after k j l (ended n m) h x y f = f n m (omega arith) (omega arith)
+    same-after k j l (stopped i p n m) h x y f = refl
+
+    same-step : (k j n : ℕ) (m : Lent) (o : Outcome Bool) → n ≤ suc k → n ≤ suc j →
+        ((n : ℕ) (m : Lent) → n ≤ k → n ≤ j → turns k b body at n m ≡ turns j b body at n m) →
+        (step at n m o λ v l. elim v [ true ↦ onEnded (body l m) (turns k b body at) | false ↦ ended l m ])
+        ≡ step at n m o λ v l. elim v [ true ↦ onEnded (body l m) (turns j b body at) | false ↦ ended l m ]
+    same-step k j zero m o x y f = refl
+    same-step k j (suc n) m (worked true) x y f =
+        same-after k j n (body n m) (bounded n m) (omega arith) (omega arith) f
+    same-step k j (suc n) m (worked false) x y f = refl
+    same-step k j (suc n) m (stops i) x y f = refl
+
+    -- as many turns as steps left are enough
+    turns-same : (k j n : ℕ) (m : Lent) → n ≤ k → n ≤ j → turns k b body at n m ≡ turns j b body at n m
+    unfolding turns
+    turns-same zero zero n m x y = refl
+    turns-same zero (suc j) zero m x y = refl
+    turns-same zero (suc j) (suc n) m x y = absurd (omega arith)
+    turns-same (suc k) zero zero m x y = refl
+    turns-same (suc k) zero (suc n) m x y = absurd (omega arith)
+    turns-same (suc k) (suc j) n m x y =
+        same-step k j n m (evaluate b (storeOf m)) x y (λ i l p q. turns-same k j i l p q)
+
+    less-after : (l : ℕ) (e : definition.End) → Bounded l e → {n : ℕ} {m : Lent} → again n m ≡ goOn e → n ≤ l
+    less-after l (ended i x) h {n} e = let q : n ≡ i = cc in omega arith
+    less-after l (stopped k p i x) h e = never (cc)
+
+    less-by : (n : ℕ) (m : Lent) (o : Outcome Bool) {l : ℕ} {m′ : Lent} → again l m′ ≡ turnBy (chosen at n o) m body → l < n
+    less-by zero m o e = never (cc)
+    less-by (suc n) m (worked true) e = let h = less-after n (body n m) (bounded n m) e in omega arith
+    less-by (suc n) m (worked false) e = never (cc)
+    less-by (suc n) m (stops j) e = never (cc)
+
+    pub turn-less : (n : ℕ) (m : Lent) {l : ℕ} {m′ : Lent} → again l m′ ≡ turnOf b body at n m → l < n
+    turn-less n m e = less-by n m (evaluate b (storeOf m)) e
+
+    pub turns-again : (n : ℕ) (m : Lent) {l : ℕ} {m′ : Lent} → again l m′ ≡ turnOf b body at n m →
+        turns n b body at n m ≡ turns l b body at l m′
+    turns-again zero m e = let h = turn-less zero m e in absurd (omega arith)
+    turns-again (suc n) m {l} {m′} e =
+        let h = turn-less (suc n) m e in
+        turn-is n (suc n) m ∙ ap (λ x. afterTurn x (turns n b body at)) (sym e)
+        ∙ turns-same n l l m′ (omega arith) (omega arith)
+
+  pub turns-over : (n : ℕ) (m : Lent) {x : definition.End} → over x ≡ turnOf b body at n m → x ≡ turns n b body at n m
+  unfolding turns
+  turns-over zero m e = cc
+  turns-over (suc n) m e = ap (λ y. afterTurn y (turns n b body at)) e ∙ sym (turn-is n (suc n) m)
+
+-- from m₀ with n₀ steps left, a loop has come to m with n steps left
+pub record Going (file : List ℕ) (at : ℕ) (m₀ : Lent) (n₀ : ℕ) (m : Lent) (n : ℕ) : Type 0 where
+  pub same : (c : syntax.Command) (p : ℕ) → PartAt file (commandPart c) at p →
+      turns n₀ (loopTest c) (loopBody c at) at n₀ m₀ ≡ turns n (loopTest c) (loopBody c at) at n m
+  pub scalars-kept : length (m .scalars) ≡ length (m₀ .scalars)
+  pub values-kept : length (m .values) ≡ length (m₀ .values)
+
+pub going-none : (file : List ℕ) (at : ℕ) (m : Lent) (n : ℕ) → Going file at m n m n
+going-none file at m n = record { same = λ c p s. refl; scalars-kept = refl; values-kept = refl }
+
+module _ {file : List ℕ} {at : ℕ} {m m′ : Lent} {n : ℕ} {r : Turn} where
+  pub falls : CommandStands file at → TurnAs file at m n r m′ → {l : ℕ} → r ≡ Turn.Again l → l < n
+  falls x f e =
+      let c = x .tree in
+      turn-less (loopTest c) (loopBody c at) at (body-bounded c at) n m
+      (ap (λ y. turnedAt y m′) (sym e) ∙ f .is c (x .past) (x .there))
+
+  module _ {m₀ : Lent} {n₀ : ℕ} (g : Going file at m₀ n₀ m n) (f : TurnAs file at m n r m′) where
+    pub going-on : {l : ℕ} → r ≡ Turn.Again l → length (m′ .scalars) ≡ length (m .scalars) →
+        length (m′ .values) ≡ length (m .values) → Going file at m₀ n₀ m′ l
+    going-on e ks kv = record {
+      same = λ c p s.
+          g .same c p s
+          ∙ turns-again (loopTest c) (loopBody c at) at (body-bounded c at) n m
+          (ap (λ y. turnedAt y m′) (sym e) ∙ f .is c p s);
+      scalars-kept = ks ∙ g .scalars-kept;
+      values-kept = kv ∙ g .values-kept;
+    }
+
+    pub going-ended : {l : ℕ} → r ≡ Turn.Ended l → TurnsAs file at m₀ n₀ (Ended l) m′
+    going-ended e = record {
+      is = λ c p s.
+          turns-over (loopTest c) (loopBody c at) at n m (ap (λ y. turnedAt y m′) (sym e) ∙ f .is c p s)
+          ∙ sym (g .same c p s);
+    }
+
+    pub going-stopped : {k q l : ℕ} → r ≡ Turn.Stopped k q l → TurnsAs file at m₀ n₀ (Stopped k q l) m′
+    going-stopped e = record {
+      is = λ c p s.
+          turns-over (loopTest c) (loopBody c at) at n m (ap (λ y. turnedAt y m′) (sym e) ∙ f .is c p s)
+          ∙ sym (g .same c p s);
+    }

@@ -1,0 +1,256 @@
+-- The answer's steps and place are small, so that one number holds them.
+-- Assumes nothing.
+--     run-placed           a run stops at a word of its command
+--     file-fault           a refusal 1 to 7 is at a place inside the file or at its end
+--     small-ran            the answer
+--     can-pack, packed-run the code's answer; the number for C
+use mathlib.Core.Path.{_≡_, refl, sym, ap, ap₂, subst, _∙_}
+use mathlib.Core.Bool.{Bool, true, false, cond}
+use mathlib.Core.List.{List, [], _∷_, _++_}
+use mathlib.Core.Option.{Option, none, some}
+use Prim.Native.Nat.{ℕ, zero, suc, _+_, _*_, _-_, _<_, _≤_}
+use native.Mathlib.Omega.{arith}
+use borrow.Author.Tests.{eqb-true, ltb-true}
+use lib.Dec.{eqb, ltb}
+use lib.ListN.{length, length-append}
+use Rattle.language.specs.Syntax as syntax
+use Rattle.language.specs.Syntax.{Expr, Assignment, toScalar, toArray, scalar, compare, atMost}
+use Rattle.language.specs.Syntax.{skip, sequence, assert, assign, ifElse, while, for}
+use Rattle.language.specs.Runs.{start, increment}
+use Rattle.rules.specs.Words.{words, commandWords}
+use Rattle.rules.specs.Context.{Limits, standard}
+use Rattle.layout.specs.Bytes.{wordsOf, wordCount, numberAt}
+use Rattle.layout.specs.Reading.{Reading, read, fault, onRead}
+use Rattle.layout.specs.EvidenceWords.{joined, setPart, flowPart}
+use Rattle.layout.specs.For.{unsteadyAt, firstUnsteady}
+use Rattle.layout.specs.File.{File, parts, steadyFile, finish, badLength, wordsRead, fileOf}
+use Rattle.layout.proofs.WholeFile.{parts-fault, file-spelled}
+use Rattle.execution.specs.Lent.{Lent, storeOf}
+use Rattle.execution.specs.Evaluate.{Outcome, worked, stops, evaluate}
+use Rattle.execution.specs.Run.{End, ended, stopped, onEnded, step, given, assigns, turns, run}
+use Rattle.execution.specs.Ran as definition
+use Rattle.execution.specs.Ran.{notRun, ranOf, runOf}
+use Rattle.execution.proofs.Order.{Judged, not-read, over-budget, ill-sized, is-run, judged}
+use Rattle.words.proofs.Loading.{words-length}
+use Rattle.runner.specs.Ran.{answerOf, RunOf}
+use Rattle.runner.specs.Packed.{codeOf, packedRan, PackedRun}
+use Rattle.runner.specs.Running.{ranAt, SmallAnswer, SmallRan, CanPack}
+use Rattle.runner.specs.declared.Answer.{Answer}
+use Rattle.runner.specs.declared.Answer.the-variants.{Done, Refused}
+use Rattle.runner.specs.declared.Ran.{Ran}
+use Rattle.runner.proofs.Files.{bad-file, good-file, good-length, never}
+
+-- ---- a run stops at a word of its command
+abbrev Placed : ℕ → End → Type 0
+Placed b (ended l m) = Unit {0}
+Placed b (stopped k p l m) = p < b
+
+after-placed : (b : ℕ) (e : End) (f : ℕ → Lent → End) → Placed b e → ((l : ℕ) (m : Lent) → Placed b (f l m)) →
+    Placed b (onEnded e f)
+after-placed b (ended l m) f h g = g l m
+after-placed b (stopped k p l m) f h g = h
+
+step-placed : {A : Type 0} (b at n : ℕ) (m : Lent) (o : Outcome A) (f : A → ℕ → End) → at < b →
+    ((v : A) (l : ℕ) → Placed b (f v l)) → Placed b (step at n m o f)
+step-placed b at zero m o f h g = h
+step-placed b at (suc n) m (worked v) f h g = g v n
+step-placed b at (suc n) m (stops k) f h g = h
+
+assigns-placed : (b : ℕ) (a : Assignment) (at n : ℕ) (m : Lent) → at < b → Placed b (assigns a at n m)
+assigns-placed b a at n m h = step-placed b at n m (given a m) (λ m′ l. ended l m′) h (λ v l. tt)
+
+choice-placed : (b : ℕ) (v : Bool) (x y : End) → Placed b x → Placed b y → Placed b (elim v [ true ↦ x | false ↦ y ])
+choice-placed b true x y p q = p
+choice-placed b false x y p q = q
+
+cond-placed : (b : ℕ) (v : Bool) (x y : End) → Placed b x → Placed b y → Placed b (cond v x y)
+cond-placed b true x y p q = p
+cond-placed b false x y p q = q
+
+turns-placed : (b k : ℕ) (t : Expr syntax.Boolean) (body : ℕ → Lent → End) (at : ℕ) → at < b →
+    ((n : ℕ) (m : Lent) → Placed b (body n m)) → (n : ℕ) (m : Lent) → Placed b (turns k t body at n m)
+unfolding turns
+turns-placed b zero t body at h g n m = h
+turns-placed b (suc k) t body at h g n m =
+    step-placed b at n m (evaluate t (storeOf m))
+    (λ v l. elim v [ true ↦ onEnded (body l m) (turns k t body at) | false ↦ ended l m ]) h
+    (λ v l. choice-placed b v (onEnded (body l m) (turns k t body at)) (ended l m)
+    (after-placed b (body l m) (turns k t body at) (g l m) (turns-placed b k t body at h g)) tt)
+
+run-placed : (c : syntax.Command) (b at n : ℕ) (m : Lent) → at + length (commandWords c) ≤ b → Placed b (run c at n m)
+unfolding run commandWords
+run-placed skip b at n m h = step-placed b at n m (worked m) (λ m′ l. ended l m′) (omega arith) (λ v l. tt)
+run-placed (sequence c d) b at n m h =
+    let e = length-append (commandWords c) (commandWords d) in
+    after-placed b (run c (at + 1) n m) (run d (at + 1 + length (commandWords c)))
+    (run-placed c b (at + 1) n m (omega arith))
+    (λ l k. run-placed d b (at + 1 + length (commandWords c)) l k (omega arith))
+run-placed (assert t) b at n m h =
+    step-placed b at n m (evaluate t (storeOf m)) (λ v l. cond v (ended l m) (stopped 12 at n m)) (omega arith)
+    (λ v l. cond-placed b v (ended l m) (stopped 12 at n m) tt (omega arith))
+run-placed (assign (toScalar x e)) b at n m h = assigns-placed b (toScalar x e) at n m (omega arith)
+run-placed (assign (toArray a e)) b at n m h = assigns-placed b (toArray a e) at n m (omega arith)
+run-placed (ifElse t c d) b at n m h =
+    let e = length-append (words t) (commandWords c ++ commandWords d) in
+    let f = length-append (commandWords c) (commandWords d) in
+    step-placed b at n m (evaluate t (storeOf m))
+    (λ v l. elim v [
+      | true ↦ run c (at + 1 + length (words t)) l m
+      | false ↦ run d (at + 1 + length (words t) + length (commandWords c)) l m
+    ]) (omega arith)
+    (λ v l. choice-placed b v (run c (at + 1 + length (words t)) l m)
+    (run d (at + 1 + length (words t) + length (commandWords c)) l m)
+    (run-placed c b (at + 1 + length (words t)) l m (omega arith))
+    (run-placed d b (at + 1 + length (words t) + length (commandWords c)) l m (omega arith)))
+run-placed (while t c) b at n m h =
+    let e = length-append (words t) (commandWords c) in
+    turns-placed b n t (run c (at + 1 + length (words t))) at (omega arith)
+    (λ k l. run-placed c b (at + 1 + length (words t)) k l (omega arith)) n m
+run-placed (for q r c) b at n m h =
+    after-placed b (assigns (start q) at n m)
+    (λ l m′. turns l (compare atMost (scalar q) (scalar r))
+    (λ k m″. onEnded (run c (at + 1) k m″) (assigns (increment q) at)) at l m′)
+    (assigns-placed b (start q) at n m (omega arith))
+    (λ l m′. turns-placed b l (compare atMost (scalar q) (scalar r))
+    (λ k m″. onEnded (run c (at + 1) k m″) (assigns (increment q) at)) at (omega arith)
+    (λ k m″. after-placed b (run c (at + 1) k m″) (assigns (increment q) at) (run-placed c b (at + 1) k m″ (omega arith))
+    (λ i j. assigns-placed b (increment q) at i j (omega arith))) l m′)
+
+-- ---- refusals 1 to 7
+abbrev FaultBy : ℕ → Reading File → Type 0
+FaultBy n (read f p) = Unit {0}
+FaultBy n (fault k p) = p ≤ n
+
+fault-up : (l n : ℕ) (x : Reading File) → l ≤ n → FaultBy l x → FaultBy n x
+fault-up l n (read f p) h k = tt
+fault-up l n (fault i p) h k = omega arith
+
+module _ (limits : Limits) (w : List ℕ) where
+  -- n places from `at` on
+  unsteady-inside : (n at p : ℕ) → firstUnsteady limits w n at ≡ some p → p < at + n
+  unfolding firstUnsteady
+  unsteady-inside zero at p e = never (cc)
+  unsteady-inside (suc n) at p e = go (unsteadyAt limits w at) e (unsteady-inside n (suc at) p)
+    where
+      go : (t : Bool) → elim t [ true ↦ some at | false ↦ firstUnsteady limits w n (suc at) ] ≡ some p →
+          (firstUnsteady limits w n (suc at) ≡ some p → p < suc at + n) → p < at + suc n
+      go true e h = let x : at ≡ p = cc in omega arith
+      go false e h = let x = h e in omega arith
+
+  steady-fault : (f : File) (p : ℕ) → FaultBy (wordCount w) (steadyFile limits w f p)
+  unfolding steadyFile
+  steady-fault f p = go (firstUnsteady limits w (wordCount w) 0) refl
+    where
+      go : (o : Option ℕ) → firstUnsteady limits w (wordCount w) 0 ≡ o →
+          FaultBy (wordCount w) (elim o [ none ↦ read f p | some at ↦ fault 7 at ])
+      go none e = tt
+      go (some at) e = let h = unsteady-inside (wordCount w) 0 at e in omega arith
+
+  finish-fault : (f : File) (p : ℕ) → FaultBy (wordCount w) (finish limits w f p)
+  unfolding finish
+  finish-fault f p = go (ltb p (wordCount w)) refl
+    where
+      go : (t : Bool) → ltb p (wordCount w) ≡ t →
+          FaultBy (wordCount w) (elim t [ true ↦ fault 6 p | false ↦ steadyFile limits w f p ])
+      go true t = let h = ltb-true p (wordCount w) t in omega arith
+      go false t = steady-fault f p
+
+  -- 63:n is a word
+  some-word : (l : List ℕ) → numberAt l 0 ≡ 63 * 67108864 + wordCount l → 1 ≤ wordCount l
+  some-word [] e = absurd (omega arith)
+  some-word (x ∷ l) e = omega arith
+
+  words-fault : FaultBy (wordCount w) (wordsRead limits w)
+  unfolding wordsRead
+  words-fault = go (eqb (numberAt w 0) (63 * 67108864 + wordCount w)) refl
+    where
+      all : (x : Reading File) → parts limits w ≡ x → 1 ≤ wordCount w →
+          FaultBy (wordCount w) (onRead x (finish limits w))
+      all (read f p) e h = finish-fault f p
+      all (fault n p) e h = parts-fault limits w n p e h .inside
+
+      go : (t : Bool) → eqb (numberAt w 0) (63 * 67108864 + wordCount w) ≡ t →
+          FaultBy (wordCount w) (elim t [ true ↦ onRead (parts limits w) (finish limits w) | false ↦ fault 2 0 ])
+      go true t = all (parts limits w) refl (some-word w (eqb-true _ _ t))
+      go false t = omega arith
+
+few-words : (bytes : List ℕ) → badLength bytes ≡ false → wordCount (wordsOf bytes) ≤ 8192
+few-words bytes h =
+    let g = good-length bytes h in
+    let l = words-length bytes in
+    omega arith
+
+module _ (limits : Limits) (bytes : List ℕ) where
+  file-fault : FaultBy 8192 (fileOf limits bytes)
+  file-fault = go (badLength bytes) refl
+    where
+      go : (t : Bool) → badLength bytes ≡ t → FaultBy 8192 (fileOf limits bytes)
+      go true t = subst (FaultBy 8192) (sym (bad-file limits bytes t)) (omega arith)
+      go false t =
+          subst (FaultBy 8192) (sym (good-file limits bytes t))
+          (fault-up (wordCount (wordsOf bytes)) 8192 (wordsRead limits (wordsOf bytes)) (few-words bytes t)
+          (words-fault limits (wordsOf bytes)))
+
+  -- the command of a file that was read stands within 8,192 words
+  program-small : (f : File) (p : ℕ) → fileOf limits bytes ≡ read f p → 1 + length (commandWords (f .program)) ≤ 8192
+  unfolding joined
+  program-small f p e = go (badLength bytes) refl
+    where
+      go : (t : Bool) → badLength bytes ≡ t → 1 + length (commandWords (f .program)) ≤ 8192
+      go true t = let h = sym (bad-file limits bytes t) ∙ e in never (cc)
+      go false t =
+          let h = sym (good-file limits bytes t) ∙ e in
+          let x = file-spelled limits (wordsOf bytes) f p h .spelled .whole in
+          let l = few-words bytes t in
+          let a = length-append (commandWords (f .program))
+          (joined (setPart limits (f .pre) ∷ setPart limits (f .post) ∷ flowPart limits (f .evidence) ∷ [])) in
+          omega arith
+
+-- ---- the answer
+ran-small : (budget : ℕ) (e : End) → budget ≤ 1000000 → Placed 8193 e → SmallRan (ranOf budget e)
+ran-small budget (ended n m) l h = record { few = omega arith; near = tt }
+ran-small budget (stopped k p n m) l h = record { few = omega arith; near = omega arith }
+
+pub small-ran : (limits : Limits) (bytes : List ℕ) (budget : ℕ) (m : Lent) → SmallRan (runOf limits bytes budget m)
+small-ran limits bytes budget m = go (judged limits bytes budget m)
+  where
+    go : {r : definition.Ran} → Judged limits bytes budget m r → SmallRan r
+    go (not-read e) = record { few = omega arith; near = subst (FaultBy 8192) e (file-fault limits bytes) }
+    go (over-budget e l) = record { few = omega arith; near = omega arith }
+    go (ill-sized e l h) = record { few = omega arith; near = omega arith }
+    go (is-run {f} {p} e l h) =
+        let k = program-small limits bytes f p e in
+        ran-small budget (run (f .program) 1 budget m) l (run-placed (f .program) 8193 1 budget m (omega arith))
+
+module _ {bytes : List ℕ} {budget : ℕ} {m m′ : Lent} {r : Ran} (f : RunOf bytes budget m r m′) where
+  pub can-pack : CanPack r
+  can-pack =
+      let x = small-ran standard bytes budget m in
+      record {
+        few = subst (λ n. n ≤ 1000000) (sym (f .steps)) (x .few);
+        near = subst SmallAnswer (sym (f .answer)) (x .near);
+      }
+
+  pub packed-run : {n : ℕ} → ((m : Lent) → n ≡ packedRan (ranAt r m)) → PackedRun bytes budget m n m′
+  packed-run h = record {
+    answer = h m′ ∙ ap₂ (λ k a. k * 4294967296 + codeOf a) (f .steps) (f .answer);
+    scalars-left = f .scalars-left;
+    values-left = f .values-left;
+  }
+
+-- the code's number
+packs : (s : ℕ) {a b : Answer} → a ≡ b → s * 4294967296 + codeOf (answerOf b) ≡ s * 4294967296 + codeOf (answerOf a)
+packs s e = ap (λ a. s * 4294967296 + codeOf (answerOf a)) (sym e)
+
+pub packs-done : (s : ℕ) {a : Answer} → a ≡ Done → s * 4294967296 ≡ s * 4294967296 + codeOf (answerOf a)
+packs-done s e = more (s * 4294967296) ∙ packs s e
+  where
+    more : (n : ℕ) → n ≡ n + 0
+    more n = omega arith
+
+pub packs-refused : (s : ℕ) {a : Answer} {k p : ℕ} → a ≡ Refused k p →
+    s * 4294967296 + (k * 65536 + p) ≡ s * 4294967296 + codeOf (answerOf a)
+packs-refused s e = packs s e
+
+pub refused-near : {a : Answer} {k p : ℕ} → SmallAnswer (answerOf a) → a ≡ Refused k p → p ≤ 8192
+refused-near h e = subst (λ a. SmallAnswer (answerOf a)) e h

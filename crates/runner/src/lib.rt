@@ -1,0 +1,73 @@
+// The runner (document 01, "Runner"): reads as refusals 1 to 7, then 10 and 11, and runs the command in the lent store
+// without judging the evidence.
+mod file; // file.rt: refusals 1 to 7 and 10 to 15 in order
+
+use file::run_bytes;
+use reader::Limits;
+ghost use mathlib.Core.Path.{_≡_};
+ghost use Rattle.rules.specs.Context.{standard};
+ghost use Rattle.reader.specs.Walk.{limitsOf};
+ghost use Rattle.execution.specs.Lent.{Lent};
+ghost use Rattle.evaluate.specs.Evaluated.{lent};
+ghost use Rattle.runner.specs.Packed.{packedRan, PackedRun};
+ghost use Rattle.runner.specs.Ran.{RunOf};
+ghost use Rattle.runner.specs.Running.{ranAt, CanPack};
+
+// The run ended, or a refusal's number and place.
+pub enum Answer {
+    Done,
+    Refused(u32, usize),
+}
+
+// The answer, with the steps finished before it.
+pub struct Ran {
+    pub answer: Answer,
+    pub steps: usize,
+}
+
+// Document 01's limits.
+fn limits() -> Limits
+    ensures { λ r. ⌜ limitsOf r ≡ standard ⌝ }
+{
+    Limits {
+        comparisons: 10,
+        depth: 128,
+        members: 64,
+    }
+}
+
+// Runs a file's command in a store of 32 scalars and 2,048 array values, of which array a's index i is value 64 × a + i.
+pub fn run(file: &[u8], scalars: &mut [i64], values: &mut [i64], budget: usize) -> Ran
+    ensures { λ r. ⌜ RunOf (now (file .entry)) budget (lent (now (scalars .entry)) (now (values .entry))) r (lent (now (scalars .exit)) (now (values .exit))) ⌝ }
+{
+    run_bytes(file, limits(), scalars, values, budget)
+}
+
+// The answer as one number.
+fn pack(ran: Ran) -> u64
+    requires { ⌜ CanPack ran ⌝ }
+    ensures { λ r. ⌜ ((m : Lent) → r ≡ packedRan (ranAt ran m)) ⌝ }
+{
+    let steps = ran.steps as u64 * 4294967296;
+    let answer = ran.answer;
+    match answer {
+        Answer::Done => steps,
+        Answer::Refused(number, place) => steps + (number as u64 * 65536 + place as u64),
+    }
+}
+
+// The runner for callers in C: `uint64_t flow_run(const uint8_t *file, size_t count, int64_t *scalars, size_t n,
+// int64_t *values, size_t k, size_t budget)`. The upper 32 bits are the steps finished; the lower are 0 if the run ended,
+// else number × 65,536 + place.
+#[no_mangle]
+pub extern "C" fn flow_run(
+    file: &[u8],
+    scalars: &mut [i64],
+    values: &mut [i64],
+    budget: usize,
+) -> u64
+    ensures { λ r. ⌜ PackedRun (now (file .entry)) budget (lent (now (scalars .entry)) (now (values .entry))) r (lent (now (scalars .exit)) (now (values .exit))) ⌝ }
+{
+    let ran = run(file, scalars, values, budget);
+    pack(ran)
+}
