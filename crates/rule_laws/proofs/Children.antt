@@ -1,10 +1,13 @@
 -- What the word of a rule comes to, from its verdict (document 01, "Judging order" 8 and 9).
 -- Assumes nothing.
 --     word-passes, word-fails         a word whose condition is a test
---     both-passes                     one whose condition is two tests
+--     both-tests                      two tests, tried as written, are one
+--     under                           a verdict under the limits
 --     no-children, one-child, two-children, three-children
 --                                     the goals of the children, from the verdict
 --     leaf-comes, settled-comes       a rule with no children; one whose condition has three results
+--     leaf-stops, leaf-goes, settled-passes, settled-fails, settled-large
+--                                     the same steps in code
 use mathlib.Core.Path.{_≡_, refl, sym, ap, _∙_}
 use mathlib.Core.Bool.{Bool, true, false, _&&_}
 use mathlib.Core.List.{List}

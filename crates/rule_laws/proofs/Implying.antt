@@ -1,49 +1,25 @@
 -- Sides of an implication by their places: written assertions, no deeper than the table's stack has room for.
 -- Assumes nothing.
---     fits-more, deep        what fits, fits with more levels left; a written expression with as many as can be
+--     deep                   a written expression with as many levels left as can be
 --     assertion-known        an assertion's place is in the list of ends
 --     can-imply              a call of `implies` for two assertions
 --     implies-at             what it answers
 use mathlib.Core.Path.{_≡_, sym, subst}
 use mathlib.Core.List.{List}
-use Prim.Native.Nat.{ℕ, zero, suc, _≤_}
+use Prim.Native.Nat.{ℕ}
 use native.Mathlib.Omega.{arith}
-use Rattle.language.specs.Syntax.{Sort, Expr, constant, scalar, operation, select, compare, truth, and, or, neg}
-use Rattle.language.specs.Syntax.{array, zeros, update}
-use Rattle.layout.specs.Spelling.{FitsExpression}
+use Rattle.language.specs.Syntax.{Sort, Expr}
 use Rattle.layout.specs.EvidenceWords.{expressionPart}
 use Rattle.layout.specs.Standing.{PartStands}
 use Rattle.ends.specs.Ends.{EndsOf}
 use Rattle.compare.specs.Places.{endAt}
 use Rattle.implication.specs.Sides.{CanImply, Implied}
 use Rattle.implication.specs.declared.Condition.{Condition}
+use Rattle.implication.proofs.Levels.{stands-deeper}
 use Rattle.implication.specs.declared.Side.the-variants.{One}
 use Rattle.rule_laws.specs.Places.{WrittenAt, PartKnown}
 use Rattle.rule_laws.specs.Implications.{AssertionAt, CanImplyAt, ImpliesAt}
 use Rattle.rule_laws.proofs.Places.{written-known}
-
-pub fits-more : {k : Sort} (e : Expr k) (d n : ℕ) → d ≤ n → FitsExpression e d → FitsExpression e n
-unfolding FitsExpression
-fits-more e zero n l f = absurd f
-fits-more e (suc d) zero l f = absurd (omega arith)
-fits-more (constant z) (suc d) (suc n) l f = f
-fits-more (scalar x) (suc d) (suc n) l f = f
-fits-more (operation o a b) (suc d) (suc n) l f =
-    (fits-more a d n (omega arith) (f .0), fits-more b d n (omega arith) (f .1))
-fits-more (select h i) (suc d) (suc n) l f =
-    (fits-more h d n (omega arith) (f .0), fits-more i d n (omega arith) (f .1))
-fits-more (compare r a b) (suc d) (suc n) l f =
-    (fits-more a d n (omega arith) (f .0), fits-more b d n (omega arith) (f .1))
-fits-more (truth t) (suc d) (suc n) l f = tt
-fits-more (and b c) (suc d) (suc n) l f = (fits-more b d n (omega arith) (f .0), fits-more c d n (omega arith) (f .1))
-fits-more (or b c) (suc d) (suc n) l f = (fits-more b d n (omega arith) (f .0), fits-more c d n (omega arith) (f .1))
-fits-more (neg b) (suc d) (suc n) l f = fits-more b d n (omega arith) f
-fits-more (array a) (suc d) (suc n) l f = f
-fits-more zeros (suc d) (suc n) l f = tt
-fits-more (update h i a) (suc d) (suc n) l f = (
-  fits-more h d n (omega arith) (f .0),
-  (fits-more i d n (omega arith) (f .1 .0), fits-more a d n (omega arith) (f .1 .1)),
-)
 
 module _ {file ends : List ℕ} where
   -- up to a place that is its end
@@ -51,7 +27,7 @@ module _ {file ends : List ℕ} where
       PartStands file (expressionPart e) 256 at p
   deep {e = e} {at} h x =
       subst (λ p. PartStands file (expressionPart e) 256 at p) (sym h)
-      (record { stand = x .stands .stand; fit = fits-more e (x .levels) 256 (x .low) (x .stands .fit) })
+      (stands-deeper file e (x .levels) 256 at (endAt ends at) (x .low) (x .stands))
 
   pub assertion-known : {at : ℕ} → EndsOf file ends → AssertionAt file ends at → PartKnown file ends at
   assertion-known o x = written-known o (x .tree-at)

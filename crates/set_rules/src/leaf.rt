@@ -62,15 +62,14 @@ pub fn rule_18(w: &[u32], ends: &[u32], limit: usize, at: usize, p: usize, q: us
     if count(w, q) != 1 {
         return Step::Stop(8);
     }
-    let e = end_at(ends, p + 1);
-    let f = end_at(ends, q + 1);
+    let a = p + 1;
+    let e = end_at(ends, a);
+    let b = q + 1;
+    let f = end_at(ends, b);
     if !is_same(w, ends, e, f) {
         return Step::Stop(8);
     }
-    conclude(
-        at,
-        implies(w, Side::One(q + 1, f), Side::One(p + 1, e), limit),
-    )
+    conclude(at, implies(w, Side::One(b, f), Side::One(a, e), limit))
 }
 
 // Rule 19. Q one member φ ⇒ E, E of kind 3, 8, 10, 11 or 12; P same as φ ⇒ each operand.
@@ -81,6 +80,7 @@ pub fn rule_19(w: &[u32], ends: &[u32], at: usize, p: usize, q: usize) -> Step
     if count(w, q) != 1 {
         return Step::Stop(8);
     }
-    let e = end_at(ends, q + 1);
-    leaf(at, is_split(w, ends, p, q + 1, e))
+    let f = q + 1;
+    let e = end_at(ends, f);
+    leaf(at, is_split(w, ends, p, f, e))
 }

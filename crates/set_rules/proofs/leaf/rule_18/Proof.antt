@@ -67,12 +67,6 @@ rule-18-spec =
     let can = c₁₀ .pre .0 in
     differ-stops (can .ends-of) (can .rule-is) (c₇ .count .ensures) (c₆ .if1 .left) (c₅ .count2 .ensures)
     (c₄ .if2 .left) (c₃ .end-at .ensures) (c₂ .end-at2 .ensures) (c₁ .is-same .ensures) (not-true _ (c .if3 .taken)))
-    (λ c.
-    let c₁₀ = c .before .before .before .before .before .before .before .before .before .before in
-    omega (arith, low-right (c₁₀ .pre .0)))
-    (λ c.
-    let c₁₀ = c .before .before .before .before .before .before .before .before .before .before in
-    omega (arith, low-left (c₁₀ .pre .0)))
     (λ c κs.
     let c₂ = c .before .before in
     let c₃ = c₂ .before in

@@ -16,13 +16,12 @@ rule-19-spec =
     let c₄ = c₁ .before .before .before in
     let can = c₄ .pre in
     apart-stops (can .ends-of) (can .rule-is) (c₁ .count .ensures) (c .if1 .taken))
-    (λ c. let can = c .before .before .before .before .pre in let i = right-in can in let s = can .size in omega arith)
+    (λ c. omega (arith, low-right (c .before .before .before .before .pre)))
     (λ c κs.
     let c₁ = c .before in
     let c₄ = c₁ .before .before .before in
     let can = c₄ .pre in
     one-known (can .ends-of) (right-one can (c₁ .count .ensures) (c .if1 .left)) .listed)
-    (λ c. omega (arith, low-right (c .before .before .before .before .before .pre)))
     (λ c κs.
     let c₁ = c .before in
     let c₂ = c₁ .before in

@@ -1,0 +1,125 @@
+//! `compare SEED COUNT [FROM] [stop]`: makes COUNT files (from number FROM)
+//! and compares the second implementation's answers with those of the first,
+//! if one is linked (feature `first`, see build.rs). For a difference the
+//! file in hexadecimal and both answers; exit status 1. With `stop`, only up
+//! to the first difference.
+
+use second::generate::{mixed, Kind};
+use second::judge::{check, postcondition, precondition, Answer};
+use second::rows::hex_of;
+use std::collections::BTreeMap;
+use std::time::{Duration, Instant};
+
+#[cfg(feature = "first")]
+mod first {
+    extern "C" {
+        fn flow_check(ptr: *const u8, len: usize) -> u32;
+    }
+
+    /// Number × 65,536 + place, or the count when accepted.
+    pub fn answer(bytes: &[u8]) -> Option<u32> {
+        // A lent slice of bytes, read only.
+        Some(unsafe { flow_check(bytes.as_ptr(), bytes.len()) })
+    }
+}
+
+#[cfg(not(feature = "first"))]
+mod first {
+    pub fn answer(_: &[u8]) -> Option<u32> {
+        None
+    }
+}
+
+fn text(packed: u32) -> String {
+    if packed < 65_536 {
+        format!("accepted {packed}")
+    } else {
+        format!("refused {} {}", packed / 65_536, packed % 65_536)
+    }
+}
+
+/// The two sets are parts of an accepted file, and empty of a refused one.
+fn parts_are_right(bytes: &[u8], answer: Answer) -> bool {
+    let (pre, post) = (precondition(bytes), postcondition(bytes));
+    match answer {
+        Answer::Accepted(_) => pre.len() >= 4 && post.len() >= 4,
+        Answer::Refused(_) => pre.is_empty() && post.is_empty(),
+    }
+}
+
+fn main() {
+    let numbers: Vec<u64> = std::env::args().skip(1).filter_map(|a| a.parse().ok()).collect();
+    let seed = numbers.first().copied().unwrap_or(1);
+    let count = numbers.get(1).copied().unwrap_or(10_000);
+    let from = numbers.get(2).copied().unwrap_or(0);
+    let stop = std::env::args().any(|a| a == "stop");
+    let mut made = 0u64;
+    let mut answers: BTreeMap<(String, u32), u64> = BTreeMap::new();
+    let mut differences = 0u64;
+    let mut compared = 0u64;
+    let mut second_time = Duration::ZERO;
+    let mut first_time = Duration::ZERO;
+    let start = Instant::now();
+    for i in from..from + count {
+        if stop && differences > 0 {
+            break;
+        }
+        made += 1;
+        let (kind, bytes) = mixed(seed, i);
+        let before = Instant::now();
+        let answer = check(&bytes);
+        second_time += before.elapsed();
+        let number = match answer {
+            Answer::Accepted(_) => 0,
+            Answer::Refused(r) => r.number,
+        };
+        *answers.entry((format!("{kind:?}"), number)).or_default() += 1;
+        if kind == Kind::Accepted && number != 0 {
+            println!("file {i} was made to be accepted: {}", answer.line());
+            differences += 1;
+        }
+        if i % 64 == 0 && !parts_are_right(&bytes, answer) {
+            println!("file {i}: the precondition or the postcondition");
+            differences += 1;
+        }
+        let before = Instant::now();
+        let other = first::answer(&bytes);
+        first_time += before.elapsed();
+        if let Some(packed) = other {
+            compared += 1;
+            if packed != answer.packed() {
+                differences += 1;
+                println!("file {i} of seed {seed} ({kind:?}): {}", hex_of(&bytes));
+                println!("  first:  {}", text(packed));
+                println!("  second: {}", answer.line());
+            }
+        }
+    }
+    println!("seed {seed}, files {from} to {}", from + made);
+    let mut by_number: BTreeMap<u32, u64> = BTreeMap::new();
+    for ((kind, number), times) in &answers {
+        println!("{kind}\t{}\t{times}", name(*number));
+        *by_number.entry(*number).or_default() += times;
+    }
+    for (number, times) in &by_number {
+        println!("all\t{}\t{times}", name(*number));
+    }
+    let seconds = start.elapsed().as_secs_f64();
+    println!("{:.0} files a second (with making them)", made as f64 / seconds);
+    println!("{:.0} checks a second (second)", made as f64 / second_time.as_secs_f64());
+    if compared > 0 {
+        println!("{:.0} checks a second (first)", compared as f64 / first_time.as_secs_f64());
+    }
+    println!("{compared} compared, {differences} differences");
+    if differences > 0 {
+        std::process::exit(1);
+    }
+}
+
+fn name(number: u32) -> String {
+    if number == 0 {
+        "accepted".to_string()
+    } else {
+        format!("refused {number}")
+    }
+}

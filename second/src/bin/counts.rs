@@ -1,0 +1,36 @@
+//! `counts SEED COUNT`: makes accepted files and counts the rules in them.
+
+use second::generate::{accepted, count_rules};
+use second::prng::Prng;
+
+fn main() {
+    let numbers: Vec<u64> = std::env::args().skip(1).filter_map(|a| a.parse().ok()).collect();
+    let seed = numbers.first().copied().unwrap_or(1);
+    let count = numbers.get(1).copied().unwrap_or(10_000);
+    let mut rng = Prng::new(seed);
+    let mut rules = [[0u64; 31]; 3];
+    let mut files = [[0u64; 31]; 3];
+    let mut words = 0;
+    let mut most = 0;
+    let start = std::time::Instant::now();
+    for _ in 0..count {
+        let bytes = accepted(&mut rng);
+        words += bytes.len() / 4;
+        most = most.max(bytes.len() / 4);
+        let mut here = [[0u64; 31]; 3];
+        count_rules(&bytes, &mut here);
+        for k in 0..3 {
+            for r in 0..31 {
+                rules[k][r] += here[k][r];
+                files[k][r] += u64::from(here[k][r] > 0);
+            }
+        }
+    }
+    let seconds = start.elapsed().as_secs_f64();
+    println!("seed {seed}, {count} accepted files, {words} words, longest {most}, {seconds:.1} s");
+    for (k, name, range) in [(0, "flow", 1..=14), (1, "set", 13..=19), (2, "precondition", 20..=30)] {
+        for r in range {
+            println!("{name} {r}: {} times in {} files", rules[k][r], files[k][r]);
+        }
+    }
+}

@@ -1,0 +1,35 @@
+//! A second, independent and naive implementation of document 01
+//! ("Flow certificates: language, layout and judging").
+
+// Bytes to words to trees, and back.
+pub mod read;
+pub mod rows;
+pub mod syntax;
+pub mod words;
+pub mod write;
+
+// The judge.
+pub mod implies;
+pub mod judge;
+pub mod modified;
+pub mod replace;
+pub mod sets;
+
+// The runner, and runs without bounds.
+pub mod big;
+pub mod run;
+pub mod unbounded;
+
+// The generator.
+pub mod derive;
+pub mod generate;
+pub mod limits;
+pub mod mutate;
+pub mod nearly;
+pub mod parts;
+pub mod prng;
+pub mod prove;
+pub mod run_cases;
+
+// Demand 3 by search.
+pub mod pairs;

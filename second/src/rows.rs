@@ -1,0 +1,47 @@
+//! The text forms of the vectors: hexadecimal bytes, and stores as
+//! `index=value` (0 to 31 the scalars, 32 + 64 × a + i an array's value).
+
+use crate::run::{ARRAY_VALUES, SCALARS};
+
+pub fn hex_of(bytes: &[u8]) -> String {
+    let mut text = String::new();
+    for byte in bytes {
+        text.push_str(&format!("{byte:02x}"));
+    }
+    text
+}
+
+pub fn bytes_of_hex(text: &str) -> Result<Vec<u8>, String> {
+    if text.len() % 2 != 0 {
+        return Err("an odd number of hexadecimal digits".to_string());
+    }
+    let mut bytes = Vec::new();
+    for i in (0..text.len()).step_by(2) {
+        let byte = u8::from_str_radix(&text[i..i + 2], 16).map_err(|e| e.to_string())?;
+        bytes.push(byte);
+    }
+    Ok(bytes)
+}
+
+/// A whole store, scalars first.
+pub fn store_of(text: &str) -> Result<Vec<i64>, String> {
+    let mut store = vec![0i64; SCALARS + ARRAY_VALUES];
+    for part in text.split(',').filter(|p| !p.trim().is_empty()) {
+        let (index, value) = part.trim().split_once('=').ok_or(format!("no = in {part}"))?;
+        let index: usize = index.parse().map_err(|_| format!("index {index}"))?;
+        let value: i64 = value.parse().map_err(|_| format!("value {value}"))?;
+        *store.get_mut(index).ok_or(format!("index {index}"))? = value;
+    }
+    Ok(store)
+}
+
+/// The values of `new` that differ from those of `old`.
+pub fn changes_of(old: &[i64], new: &[i64]) -> String {
+    let mut parts = Vec::new();
+    for i in 0..new.len() {
+        if old[i] != new[i] {
+            parts.push(format!("{i}={}", new[i]));
+        }
+    }
+    parts.join(",")
+}
