@@ -74,11 +74,13 @@ neg-rep (negsuc n) = rep (pos (suc n))
 le-is : (p q r s : ℕ) → leZ (subℕ p q) (subℕ r s) ≡ leb (p + s) (r + q)
 le-is p q r s = by-order p q (leZ (subℕ p q) (subℕ r s) ≡ leb (p + s) (r + q))
     (λ h. by-order r s (leZ (subℕ p q) (subℕ r s) ≡ leb (p + s) (r + q))
-    (λ k. rw (sub-lo p q h) (rw (sub-lo r s k) (leb-iff (s - suc r) (q - suc p) (p + s) (r + q) (λ x. omega arith) (λ x. omega arith))))
+    (λ k. rw (sub-lo p q h) (rw (sub-lo r s k) (leb-iff (s - suc r) (q - suc p) (p + s) (r + q) (λ x. omega arith)
+    (λ x. omega arith))))
     (λ k. rw (sub-lo p q h) (rw (sub-hi r s k) (sym (le-leb (p + s) (r + q) (omega arith))))))
     (λ h. by-order r s (leZ (subℕ p q) (subℕ r s) ≡ leb (p + s) (r + q))
     (λ k. rw (sub-hi p q h) (rw (sub-lo r s k) (sym (lt-leb (p + s) (r + q) (omega arith)))))
-    (λ k. rw (sub-hi p q h) (rw (sub-hi r s k) (leb-iff (p - q) (r - s) (p + s) (r + q) (λ x. omega arith) (λ x. omega arith)))))
+    (λ k. rw (sub-hi p q h) (rw (sub-hi r s k) (leb-iff (p - q) (r - s) (p + s) (r + q) (λ x. omega arith) (λ x.
+    omega arith)))))
 
 pub rep-add : {x y : ℤ} {p q r s : ℕ} → Rep x p q → Rep y r s → Rep (x +ℤ y) (p + r) (q + s)
 rep-add {x} {y} {p} {q} {r} {s} e f = record { is = rw (e .is, f .is) (add-is p q r s) }
@@ -86,28 +88,37 @@ rep-add {x} {y} {p} {q} {r} {s} e f = record { is = rw (e .is, f .is) (add-is p 
 -- any two representations of one number
 rep-uniq : (p q r s : ℕ) → subℕ p q ≡ subℕ r s → p + s ≡ r + q
 rep-uniq p q r s e =
-    let l : leb (p + s) (r + q) ≡ leb (r + s) (r + s) = sym (le-is p q r s) ∙ ap (λ (z : ℤ). leZ z (subℕ r s)) e ∙ le-is r s r s in
-    let m : leb (r + q) (p + s) ≡ leb (r + s) (r + s) = sym (le-is r s p q) ∙ ap (λ (z : ℤ). leZ (subℕ r s) z) e ∙ le-is r s r s in
+    let l : leb (p + s) (r + q) ≡ leb (r + s) (r + s) = sym (le-is p q r s) ∙ ap (λ (z : ℤ). leZ z (subℕ r s)) e
+    ∙ le-is r s r s in
+    let m : leb (r + q) (p + s) ≡ leb (r + s) (r + s) = sym (le-is r s p q) ∙ ap (λ (z : ℤ). leZ (subℕ r s) z) e
+    ∙ le-is r s r s in
     let l' : p + s ≤ r + q = leb-true (p + s) (r + q) (l ∙ le-leb (r + s) (r + s) (omega arith)) in
     let m' : r + q ≤ p + s = leb-true (r + q) (p + s) (m ∙ le-leb (r + s) (r + s) (omega arith)) in
     omega arith
 
 pub rep-neg : {x : ℤ} {p q : ℕ} → Rep x p q → Rep (negℤ x) q p
-rep-neg {x} {p} {q} e = record { is = neg-rep x .is ∙ sub-cong (N x) (P x) q p (let u = rep-uniq (P x) (N x) p q (sym (rep x .is) ∙ e .is) in omega arith) }
+rep-neg {x} {p} {q} e = record {
+  is = neg-rep x .is
+      ∙ sub-cong (N x) (P x) q p (let u = rep-uniq (P x) (N x) p q (sym (rep x .is) ∙ e .is) in omega arith);
+}
 
 pub rep-sub : {x y : ℤ} {p q r s : ℕ} → Rep x p q → Rep y r s → Rep (x -ℤ y) (p + s) (q + r)
 rep-sub e f = rep-add e (rep-neg f)
 
 -- orders
 pub le-true : {x y : ℤ} {p q r s : ℕ} → Rep x p q → Rep y r s → leZ x y ≡ true → p + s ≤ r + q
-le-true {x} {y} {p} {q} {r} {s} e f h = leb-true (p + s) (r + q) (sym (le-is p q r s) ∙ sym (rw (e .is, f .is) refl) ∙ h)
+le-true {x} {y} {p} {q} {r} {s} e f h = leb-true (p + s) (r + q) (sym (le-is p q r s) ∙ sym (rw (e .is, f .is) refl)
+    ∙ h)
 
 pub le-false : {x y : ℤ} {p q r s : ℕ} → Rep x p q → Rep y r s → leZ x y ≡ false → r + q < p + s
-le-false {x} {y} {p} {q} {r} {s} e f h = leb-false (p + s) (r + q) (sym (le-is p q r s) ∙ sym (rw (e .is, f .is) refl) ∙ h)
+le-false {x} {y} {p} {q} {r} {s} e f h = leb-false (p + s) (r + q) (sym (le-is p q r s) ∙ sym (rw (e .is, f .is) refl)
+    ∙ h)
 
 -- ranges
 pub mag-lt : {x : ℤ} {p q H : ℕ} → Rep x p q → p < H + q → q ≤ H + p → mag x < H
-mag-lt {x} {p} {q} {H} e h k = rw (e .is) (by-order p q (mag (subℕ p q) < H) (λ l. rw (sub-lo p q l) (omega arith)) (λ l. rw (sub-hi p q l) (omega arith)))
+mag-lt {x} {p} {q} {H} e h k =
+    rw (e .is) (by-order p q (mag (subℕ p q) < H) (λ l. rw (sub-lo p q l) (omega arith)) (λ l.
+    rw (sub-hi p q l) (omega arith)))
 
 pub lt-mag : {x : ℤ} {p q H : ℕ} → Rep x p q → mag x < H → (p < H + q) × (q ≤ H + p)
 lt-mag {x} {p} {q} {H} e h =

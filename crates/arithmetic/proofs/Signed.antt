@@ -11,7 +11,8 @@ use mir.Syntax.{w64}
 use mir.Val.{SFits, toZ, ofZ}
 use mir.Facts.{toZ-ofZ, sfits-toZ, fits-ofZ}
 use borrow.Author.Tests.{le-leb, lt-leb}
-use Rattle.arithmetic.proofs.Diff.{Rep, P, N, rep, rep-pos, rep-negsuc, rep-add, rep-sub, le-true, le-false, mag-lt, lt-mag, mag-ge-hi, mag-ge-lo, abs-hi, abs-lo, non-neg}
+use Rattle.arithmetic.proofs.Diff.{Rep, P, N, rep, rep-pos, rep-negsuc, rep-add, rep-sub, le-true, le-false}
+use Rattle.arithmetic.proofs.Diff.{mag-lt, lt-mag, mag-ge-hi, mag-ge-lo, abs-hi, abs-lo, non-neg}
 use Rattle.execution.specs.Evaluate.{worked, stops, inRange}
 use Rattle.arithmetic.specs.Worked.{checked, mostOf}
 
@@ -180,9 +181,13 @@ module _ (x : ℤ) (f : SFits w64 x) (h : leZ (pos 0) (toZ w64 (ofZ w64 x)) ≡ 
   flip-fits =
       let k = low in
       let r = lt-mag (rep x) (f .sfits) in
-      record { sfits = mag-lt (rep-sub (rep-pos 0) (same next-fits (rep-add (same f (rep x)) (rep-pos 1)))) (omega arith) (omega arith) }
+      record {
+        sfits = mag-lt (rep-sub (rep-pos 0) (same next-fits (rep-add (same f (rep x)) (rep-pos 1))))
+            (omega arith) (omega arith);
+      }
 
-  flip-rep : Rep (toZ w64 (ofZ w64 (pos 0 -ℤ toZ w64 (ofZ w64 (toZ w64 (ofZ w64 x) +ℤ pos 1))))) (0 + (N x + 0)) (0 + (P x + 1))
+  flip-rep : Rep (toZ w64 (ofZ w64 (pos 0 -ℤ toZ w64 (ofZ w64 (toZ w64 (ofZ w64 x) +ℤ pos 1))))) (0 + (N x + 0))
+      (0 + (P x + 1))
   flip-rep = same flip-fits (rep-sub (rep-pos 0) (same next-fits (rep-add (same f (rep x)) (rep-pos 1))))
 
   pub flip-non-neg : T (nonNeg (toZ w64 (ofZ w64 (pos 0 -ℤ toZ w64 (ofZ w64 (toZ w64 (ofZ w64 x) +ℤ pos 1))))))

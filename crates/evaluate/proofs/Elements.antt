@@ -12,7 +12,8 @@ use native.Mathlib.Omega.{arith}
 use borrow.Author.Tests.{eqb-true, eqb-false}
 use lib.Dec.{eqb}
 use lib.IntN.{ℤ, pos}
-use lib.ListN.{length, getD, take, drop, set, replicate, length-take, length-drop, length-set, length-replicate, getD-replicate}
+use lib.ListN.{length, getD, take, drop, set, replicate, length-take, length-drop, length-set, length-replicate}
+use lib.ListN.{getD-replicate}
 use lib.ListN.{drop-of-length-le}
 use lib.Seq.{paste, ext-getD, getD-take, getD-drop, getD-set-same, getD-set-other}
 use Rattle.language.specs.Store.{sameInteger, put}

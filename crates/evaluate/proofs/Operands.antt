@@ -28,14 +28,16 @@ use Rattle.arithmetic.specs.declared.Worked.the-variants as Worked
 use Rattle.arithmetic.specs.declared.Index.{Index}
 use Rattle.arithmetic.specs.declared.Index.the-variants as Index
 use Rattle.arithmetic.proofs.Signed.{back, held-two}
-use Rattle.evaluate.specs.Evaluated.{testOutcome, fillOutcome, operated, compared, conjoined, disjoined, entry, entered}
+use Rattle.evaluate.specs.Evaluated.{testOutcome, fillOutcome, operated, compared, conjoined, disjoined, entry}
+use Rattle.evaluate.specs.Evaluated.{entered}
 use Rattle.evaluate.specs.Evaluated.{withEntry, replaced}
 use Rattle.evaluate.specs.declared.Tested.{Tested}
 use Rattle.evaluate.specs.declared.Tested.the-variants as Tested
 use Rattle.evaluate.specs.declared.Filled.{Filled}
 use Rattle.evaluate.specs.declared.Filled.the-variants as Filled
 
-module _ {a b : Worked} {x y : ℤ} (f : SFits w64 x) (g : SFits w64 y) (p : a ≡ Worked.Value x) (q : b ≡ Worked.Value y) where
+module _ {a b : Worked} {x y : ℤ} (f : SFits w64 x) (g : SFits w64 y) (p : a ≡ Worked.Value x)
+    (q : b ≡ Worked.Value y) where
   pub operate-worked : (o : Operator) (r : Outcome ℤ) →
       r ≡ checked (apply (operatorMeant o) (toZ w64 (ofZ w64 x)) (toZ w64 (ofZ w64 y))) →
       r ≡ operated o (outcome a) (outcome b)
@@ -52,7 +54,8 @@ module _ {a b : Worked} {x y : ℤ} (f : SFits w64 x) (g : SFits w64 y) (p : a �
 
 module _ {a b : Tested} {x y : Bool} (p : a ≡ Tested.Is x) (q : b ≡ Tested.Is y) where
   pub both-true : x ≡ true → worked y ≡ conjoined (testOutcome a) (testOutcome b)
-  both-true e = ap (λ z. worked (z && y)) (sym e) ∙ ap₂ (λ v w. conjoined (testOutcome v) (testOutcome w)) (sym p) (sym q)
+  both-true e = ap (λ z. worked (z && y)) (sym e)
+      ∙ ap₂ (λ v w. conjoined (testOutcome v) (testOutcome w)) (sym p) (sym q)
 
   pub both-false : x ≡ false → worked x ≡ conjoined (testOutcome a) (testOutcome b)
   both-false e =
@@ -65,7 +68,8 @@ module _ {a b : Tested} {x y : Bool} (p : a ≡ Tested.Is x) (q : b ≡ Tested.I
       ∙ ap₂ (λ v w. disjoined (testOutcome v) (testOutcome w)) (sym p) (sym q)
 
   pub either-false : x ≡ false → worked y ≡ disjoined (testOutcome a) (testOutcome b)
-  either-false e = ap (λ z. worked (z || y)) (sym e) ∙ ap₂ (λ v w. disjoined (testOutcome v) (testOutcome w)) (sym p) (sym q)
+  either-false e = ap (λ z. worked (z || y)) (sym e)
+      ∙ ap₂ (λ v w. disjoined (testOutcome v) (testOutcome w)) (sym p) (sym q)
 
 small-index : (o : Outcome ℤ) (n : ℕ) → worked (pos n) ≡ index o → n < 64
 small-index (worked (pos m)) n e = go (leb 0 m && leb m 63) refl e
@@ -115,7 +119,8 @@ module _ {x : Index} (i : Worked) (e : indexOutcome x ≡ index (outcome i)) whe
           ∙ ap₂ (λ h o. onWorked h λ k. onWorked o λ j. onWorked (outcome v) λ y. worked (withEntry k j y))
           (ap (λ y. fillOutcome y l) (sym d)) (found p)
 
-      pub replaced-stops : {k : ℕ} → x ≡ Index.Stops k → stops k ≡ replaced (fillOutcome array l) (outcome i) (outcome v)
+      pub replaced-stops : {k : ℕ} → x ≡ Index.Stops k →
+          stops k ≡ replaced (fillOutcome array l) (outcome i) (outcome v)
       replaced-stops p =
           ap₂ (λ h o. onWorked h λ k. onWorked o λ j. onWorked (outcome v) λ y. worked (withEntry k j y))
           (ap (λ y. fillOutcome y l) (sym d)) (outside p)

@@ -38,7 +38,8 @@ pub record Operand (file ends : List ℕ) (ss vs : List ℤ) (k : Sort) (at q : 
   pub listed : q < length ends
 
 module _ {file ends : List ℕ} {ss vs : List ℤ} {i : Sort} {at : ℕ} (c : CanEvaluate file ends ss vs i at) where
-  operand : {k : Sort} (e : Expr k) {q p : ℕ} → PartAt file (expressionPart e) q p → at < q → Operand file ends ss vs k at q
+  operand : {k : Sort} (e : Expr k) {q p : ℕ} → PartAt file (expressionPart e) q p → at < q →
+      Operand file ends ss vs k at q
   operand e {q} {p} s h =
       let x = expression-inside e s in
       let l = c .ends-of .long in

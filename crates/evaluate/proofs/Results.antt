@@ -36,7 +36,8 @@ use Rattle.arithmetic.specs.Worked.{outcome, checked}
 use Rattle.arithmetic.specs.declared.Worked.{Worked}
 use Rattle.arithmetic.specs.declared.Worked.the-variants as Worked
 use Rattle.arithmetic.proofs.Signed.{back}
-use Rattle.evaluate.specs.Evaluated.{testOutcome, fillOutcome, lent, operated, compared, conjoined, disjoined, negated}
+use Rattle.evaluate.specs.Evaluated.{testOutcome, fillOutcome, lent, operated, compared, conjoined, disjoined}
+use Rattle.evaluate.specs.Evaluated.{negated}
 use Rattle.evaluate.specs.Evaluated.{entry, entered, withEntry, replaced, Evaluates, Tests, Fills}
 use Rattle.evaluate.specs.declared.Tested.{Tested}
 use Rattle.evaluate.specs.declared.Tested.the-variants as Tested
@@ -76,7 +77,8 @@ put-in f n h (stops k) = refl
 
 update-is : (o : Outcome (ℤ → ℤ)) (i a : Outcome ℤ) →
     replaced (onWorked o λ f. worked (elements f)) i a
-    ≡ onWorked (onWorked o λ f. onWorked (index i) λ v. onWorked a λ w. worked (put sameInteger f v w)) λ g. worked (elements g)
+    ≡ onWorked (onWorked o λ f. onWorked (index i) λ v. onWorked a λ w. worked (put sameInteger f v w)) λ g.
+    worked (elements g)
 update-is (worked f) i a =
     on-index i (λ v. onWorked a λ w. worked (withEntry (elements f) v w))
     (λ v. onWorked (onWorked a λ w. worked (put sameInteger f v w)) λ g. worked (elements g)) (λ n h. put-in f n h a)
@@ -179,7 +181,8 @@ module _ {file : List ℕ} {ss vs : List ℤ} {at : ℕ} where
           let second = moved x (at + 1) next (t .first) (t .second) (t .first-at) (t .second-at) in
           let third = moved x q last (t .second) (t .third) second (t .third-at) in
           i
-          ∙ ap₂ (λ y w. replaced y (outcome b) w) (f .is (t .first) (t .middle) (t .first-at)) (k .is (t .third) p third)
+          ∙ ap₂ (λ y w. replaced y (outcome b) w) (f .is (t .first) (t .middle) (t .first-at))
+          (k .is (t .third) p third)
           ∙ ap (λ y. replaced (onWorked (evaluate (t .first) (storeOf (lent ss vs))) λ f. worked (elements f)) y
           (evaluate (t .third) (storeOf (lent ss vs)))) (g .is (t .second) (t .last) second)
           ∙ update-is (evaluate (t .first) (storeOf (lent ss vs))) (evaluate (t .second) (storeOf (lent ss vs)))
@@ -187,8 +190,10 @@ module _ {file : List ℕ} {ss vs : List ℤ} {at : ℕ} where
           ∙ sym (ap (λ y. onWorked (evaluate y (storeOf (lent ss vs))) λ f. worked (elements f)) (t .is));
     }
 
-    pub compare-tested : {c : Comparison} {a b : Worked} {r : Tested} → decodeOf (numberAt file at) ≡ Boolean (Compare c) →
-        Evaluates file ss vs (at + 1) a → Evaluates file ss vs q b → testOutcome r ≡ compared c (outcome a) (outcome b) →
+    pub compare-tested : {c : Comparison} {a b : Worked} {r : Tested} →
+        decodeOf (numberAt file at) ≡ Boolean (Compare c) →
+        Evaluates file ss vs (at + 1) a → Evaluates file ss vs q b →
+        testOutcome r ≡ compared c (outcome a) (outcome b) →
         Tests file ss vs at r
     unfolding evaluate
     compare-tested {c} h f g i = record {

@@ -1,4 +1,5 @@
--- What working out an expression at a place promises: the outcome of the runner's definition, of the tree that stands there.
+-- What working out an expression at a place promises: the outcome of the runner's definition, of the tree that stands
+-- there.
 -- Working. Assumes nothing.
 --     testOutcome, fillOutcome       the code's answers as outcomes
 --     lent                           a lent store

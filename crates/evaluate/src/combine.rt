@@ -10,7 +10,8 @@ use words::Operator;
 ghost use mathlib.Core.Path.{_≡_};
 ghost use lib.ListN.{length};
 ghost use Rattle.arithmetic.specs.Worked.{outcome};
-ghost use Rattle.evaluate.specs.Evaluated.{testOutcome, fillOutcome, operated, compared, conjoined, disjoined, negated, entered, replaced};
+ghost use Rattle.evaluate.specs.Evaluated.{testOutcome, fillOutcome, operated, compared, conjoined, disjoined};
+ghost use Rattle.evaluate.specs.Evaluated.{negated, entered, replaced};
 
 pub fn operate_both(o: Operator, a: Worked, b: Worked) -> Worked
     ensures { λ r. ⌜ outcome r ≡ operated o (outcome a) (outcome b) ⌝ }
@@ -86,7 +87,8 @@ pub fn element(array: Filled, scratch: &[i64], i: Worked) -> Worked
 // An update: the array in the scratch with the value at the index.
 pub fn replace(array: Filled, scratch: &mut [i64], i: Worked, v: Worked) -> Filled
     requires { ⌜ length (now scratch) ≡ 64 ⌝ }
-    ensures { λ r. ⌜ fillOutcome r (now (scratch .exit)) ≡ replaced (fillOutcome array (now (scratch .entry))) (outcome i) (outcome v) ⌝ }
+    ensures { λ r. ⌜ fillOutcome r (now (scratch .exit))
+        ≡ replaced (fillOutcome array (now (scratch .entry))) (outcome i) (outcome v) ⌝ }
 {
     match array {
         Filled::Done => match arithmetic::to_index(i) {

@@ -64,7 +64,8 @@ pub fn eval_array(
 ) -> Filled
     requires { ⌜ CanEvaluate (now w) (now ends) (now scalars) (now values) Array «at» ⌝ }
     requires { ⌜ length (now scratch) ≡ 64 ⌝ }
-    ensures { λ r. ⌜ Fills (now (w .entry)) (now (scalars .entry)) (now (values .entry)) «at» r (now (scratch .exit)) ⌝ }
+    ensures { λ r. ⌜ Fills (now (w .entry)) (now (scalars .entry)) (now (values .entry)) «at» r
+        (now (scratch .exit)) ⌝ }
 {
     let head = array_head(w, at);
     match head {

@@ -35,7 +35,8 @@ use Rattle.words.specs.declared.BooleanWord.the-variants.{Compare, Truth, And, 
 use Rattle.words.specs.declared.ArrayWord.{ArrayWord}
 use Rattle.words.specs.declared.ArrayWord.the-variants.{Identifier, Zeros, Update}
 use Rattle.words.specs.declared.CommandWord.{CommandWord}
-use Rattle.words.specs.declared.CommandWord.the-variants.{Skip, Sequence, Assert, AssignScalar, AssignArray, If, While, For}
+use Rattle.words.specs.declared.CommandWord.the-variants.{Skip, Sequence, Assert, AssignScalar, AssignArray, If, While}
+use Rattle.words.specs.declared.CommandWord.the-variants.{For}
 use Rattle.words.specs.declared.Word.{Word}
 use Rattle.words.specs.declared.Word.the-variants.{Arithmetic, Boolean, Array, Command}
 
@@ -77,13 +78,15 @@ commandHead (ifElse b c d) = If
 commandHead (while b c) = While
 commandHead (for q m c) = For q m
 
-operator-decoded : (o : syntax.Operator) → kindOf 3 (payloadOf (operatorPayload o)) ≡ Arithmetic (Operation (operatorHead o))
+operator-decoded : (o : syntax.Operator) →
+    kindOf 3 (payloadOf (operatorPayload o)) ≡ Arithmetic (Operation (operatorHead o))
 unfolding kindOf arithmeticOf
 operator-decoded plus = refl
 operator-decoded minus = refl
 operator-decoded times = refl
 
-comparison-decoded : (r : syntax.Comparison) → kindOf 8 (payloadOf (comparisonPayload r)) ≡ Boolean (Compare (comparisonHead r))
+comparison-decoded : (r : syntax.Comparison) →
+    kindOf 8 (payloadOf (comparisonPayload r)) ≡ Boolean (Compare (comparisonHead r))
 unfolding kindOf booleanOf
 comparison-decoded equal = refl
 comparison-decoded less = refl

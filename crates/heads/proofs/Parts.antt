@@ -31,11 +31,13 @@ use Rattle.words.specs.declared.BooleanWord.the-variants.{Compare, Truth, And, 
 use Rattle.words.specs.declared.ArrayWord.{ArrayWord}
 use Rattle.words.specs.declared.ArrayWord.the-variants.{Identifier, Zeros, Update}
 use Rattle.words.specs.declared.CommandWord.{CommandWord}
-use Rattle.words.specs.declared.CommandWord.the-variants.{Skip, Sequence, Assert, AssignScalar, AssignArray, If, While, For}
+use Rattle.words.specs.declared.CommandWord.the-variants.{Skip, Sequence, Assert, AssignScalar, AssignArray, If, While}
+use Rattle.words.specs.declared.CommandWord.the-variants.{For}
 use Rattle.words.specs.declared.Word.{Word}
 use Rattle.words.specs.declared.Word.the-variants.{Arithmetic, Boolean, Array, Command}
 use Rattle.heads.specs.Stands.{PartAt}
-use Rattle.heads.proofs.Decoded.{operatorHead, comparisonHead, arithmeticHead, booleanHead, arrayHead, commandHead}
+use Rattle.heads.proofs.Decoded.{operatorHead, comparisonHead, arithmeticHead, booleanHead, arrayHead}
+use Rattle.heads.proofs.Decoded.{commandHead}
 use Rattle.heads.proofs.Decoded.{arithmetic-decoded, boolean-decoded, array-head-decoded, command-decoded}
 
 pub record Inside (file : List ℕ) (at p : ℕ) : Type 0 where
@@ -118,7 +120,8 @@ comparison-meant less = refl
 comparison-meant atMost = refl
 
 module _ {file : List ℕ} where
-  inside : {w : spelled.Word} {l : List spelled.Word} {F : Type 0} {at p : ℕ} → Stands file (w ∷ l) F at p → Inside file at p
+  inside : {w : spelled.Word} {l : List spelled.Word} {F : Type 0} {at p : ℕ} → Stands file (w ∷ l) F at p →
+      Inside file at p
   inside {w} {l} {at = at} {p} s =
       let h = s .stand .0 in
       let e = stands-end file (at + 1) l p (s .stand .2) in

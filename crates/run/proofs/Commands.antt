@@ -1,4 +1,5 @@
--- The parts of a command can be run, and what comes of them is what the definition says of the command that stands there.
+-- The parts of a command can be run, and what comes of them is what the definition says of the command that stands
+-- there.
 -- Assumes nothing.
 --     words-end, command-place                  where a part ends, by its words
 --     can-test, can-assign-.., can-..           the parts of a command can be worked out and run
@@ -30,7 +31,8 @@ use Rattle.execution.specs.Run.{ended, stopped, onEnded, step, given, assigns, 
 use Rattle.ends.specs.Ends.{EndsOf}
 use Rattle.words.specs.Decode.{decodeOf}
 use Rattle.words.specs.declared.CommandWord.{CommandWord}
-use Rattle.words.specs.declared.CommandWord.the-variants.{Skip, Sequence, Assert, AssignScalar, AssignArray, If, While, For}
+use Rattle.words.specs.declared.CommandWord.the-variants.{Skip, Sequence, Assert, AssignScalar, AssignArray, If, While}
+use Rattle.words.specs.declared.CommandWord.the-variants.{For}
 use Rattle.words.specs.declared.Word.the-variants.{Command}
 use Rattle.heads.specs.Stands.{PartAt, ExpressionStands, CommandStands}
 use Rattle.heads.proofs.Parts.{expression-inside, command-inside, command-parts, One, Two, Three}
@@ -57,7 +59,8 @@ use Rattle.run.specs.declared.Loop.the-variants.{Test, Count}
 use Rattle.run.proofs.Steps.{passed-is, asserted-is, step-then, step-else, step-stopped}
 
 module _ {file ends : List ℕ} where
-  pub command-end-is : (c : syntax.Command) {at p : ℕ} → EndsOf file ends → PartAt file (commandPart c) at p → p ≡ getD ends at 0
+  pub command-end-is : (c : syntax.Command) {at p : ℕ} → EndsOf file ends → PartAt file (commandPart c) at p →
+      p ≡ getD ends at 0
   command-end-is c {at} {p} x s = sym (x .command-end c (s .levels) at p (s .stands))
 
 module _ {file : List ℕ} where
@@ -75,7 +78,8 @@ pub record Later (file ends : List ℕ) (at q : ℕ) : Type 0 where
   pub listed : q < length ends
 
 module _ {file ends : List ℕ} {m : Lent} {at : ℕ} (c : CanRun file ends m at) where
-  later-expression : {k : Sort} (e : Expr k) {q p : ℕ} → PartAt file (expressionPart e) q p → at < q → Later file ends at q
+  later-expression : {k : Sort} (e : Expr k) {q p : ℕ} → PartAt file (expressionPart e) q p → at < q →
+      Later file ends at q
   later-expression e s h =
       let x = expression-inside e s in
       let l = c .ends-of .long in
@@ -121,7 +125,8 @@ pub record Body (file ends : List ℕ) (m : Lent) (at q : ℕ) : Type 0 where
   pub place : Later file ends at q
 
 module _ {file ends : List ℕ} {m : Lent} {at : ℕ} where
-  pub assert-can : CanRunAt file ends m at Assert → CanEvaluate file ends (m .scalars) (m .values) syntax.Boolean (at + 1)
+  pub assert-can : CanRunAt file ends m at Assert →
+      CanEvaluate file ends (m .scalars) (m .values) syntax.Boolean (at + 1)
   assert-can x =
       let t = command-parts (x .can .command .tree) (x .can .command .there) (x .head) in
       can-evaluate (x .can) (t .first) (t .first-at)
@@ -177,7 +182,8 @@ module _ {file ends : List ℕ} {m : Lent} {at : ℕ} where
         place = later-command (x .can) (t .second) there (omega arith);
       }
 
-  pub if-else : CanRunAt file ends m at If → {q r : ℕ} → q ≡ getD ends (at + 1) 0 → r ≡ getD ends q 0 → Body file ends m at r
+  pub if-else : CanRunAt file ends m at If → {q r : ℕ} → q ≡ getD ends (at + 1) 0 → r ≡ getD ends q 0 →
+      Body file ends m at r
   if-else x {q} {r} e f =
       let t = command-parts (x .can .command .tree) (x .can .command .there) (x .head) in
       let i = expression-inside (t .first) (t .first-at) in
@@ -255,7 +261,8 @@ module _ {file : List ℕ} {at n : ℕ} where
     }
 
   module _ {ss vs : List ℤ} where
-    pub assert-runs : decodeOf (numberAt file at) ≡ Command Assert → {t : Tested} {r : End} → Tests file ss vs (at + 1) t →
+    pub assert-runs : decodeOf (numberAt file at) ≡ Command Assert → {t : Tested} {r : End} →
+        Tests file ss vs (at + 1) t →
         r ≡ asserted at n (testOutcome t) → RunsAs file at (lent ss vs) n r (lent ss vs)
     unfolding run
     assert-runs h f e = record {
@@ -266,7 +273,8 @@ module _ {file : List ℕ} {at n : ℕ} where
           ∙ asserted-is at n (evaluate (t .first) (storeOf m)) m ∙ sym (ap (λ x. run x at n m) (t .is));
     }
 
-    pub scalar-runs : {x : ℕ} → decodeOf (numberAt file at) ≡ Command (AssignScalar x) → {v : Worked} {r : End} {after : List ℤ} →
+    pub scalar-runs : {x : ℕ} → decodeOf (numberAt file at) ≡ Command (AssignScalar x) →
+        {v : Worked} {r : End} {after : List ℤ} →
         Evaluates file ss vs (at + 1) v → StoresScalar ss x (outcome v) at n r after →
         RunsAs file at (lent ss vs) n r (lent after vs)
     unfolding run
@@ -279,7 +287,8 @@ module _ {file : List ℕ} {at n : ℕ} where
           ∙ sym (ap (λ y. run y at n (lent ss vs)) (t .is));
     }
 
-    pub array-runs : {a : ℕ} → decodeOf (numberAt file at) ≡ Command (AssignArray a) → {v : Filled} {l : List ℤ} {r : End}
+    pub array-runs : {a : ℕ} → decodeOf (numberAt file at) ≡ Command (AssignArray a) →
+        {v : Filled} {l : List ℤ} {r : End}
         {after : List ℤ} → Fills file ss vs (at + 1) v l → StoresArray vs a (fillOutcome v l) at n r after →
         RunsAs file at (lent ss vs) n r (lent ss after)
     unfolding run
@@ -287,7 +296,8 @@ module _ {file : List ℕ} {at n : ℕ} where
       is = λ c p s.
           let t = command-parts c s h .0 in
           g .is ss
-          ∙ ap (λ o. step at n (lent ss vs) (onWorked o λ l. worked (lent ss (paste vs (64 * a) l 64))) λ m l. ended l m)
+          ∙ ap (λ o. step at n (lent ss vs) (onWorked o λ l. worked (lent ss (paste vs (64 * a) l 64))) λ m l.
+          ended l m)
           (f .is (t .first) p (t .first-at))
           ∙ ap (λ o. step at n (lent ss vs) o λ m l. ended l m)
           (after-both (evaluate (t .first) (storeOf (lent ss vs))) (λ f. worked (elements f))
@@ -296,7 +306,8 @@ module _ {file : List ℕ} {at n : ℕ} where
     }
 
     -- the start of a `for`
-    pub for-ended : {q r : ℕ} → decodeOf (numberAt file at) ≡ Command (For q r) → {e f : End} {after : List ℤ} {k : ℕ} {m : Lent} →
+    pub for-ended : {q r : ℕ} → decodeOf (numberAt file at) ≡ Command (For q r) →
+        {e f : End} {after : List ℤ} {k : ℕ} {m : Lent} →
         StoresScalar ss q (worked (pos 1)) at n e after → e ≡ Ended k → TurnsAs file at (lent after vs) k f m →
         RunsAs file at (lent ss vs) n f m
     unfolding run evaluate
@@ -305,19 +316,22 @@ module _ {file : List ℕ} {at n : ℕ} where
           let t = command-parts c s h .0 in
           f .is c p s
           ∙ ap (λ y. turns k (loopTest y) (loopBody y at) at k (lent after vs)) (t .is)
-          ∙ ap (λ y. onEnded y λ l m. turns l (loopTest (syntax.for q r (t .first))) (loopBody (syntax.for q r (t .first)) at) at l m)
+          ∙ ap (λ y. onEnded y λ l m. turns l (loopTest (syntax.for q r (t .first)))
+          (loopBody (syntax.for q r (t .first)) at) at l m)
           (ap (λ y. endAt y (lent after vs)) (sym i) ∙ g .is vs)
           ∙ sym (ap (λ y. run y at n (lent ss vs)) (t .is));
     }
 
-    pub for-stopped : {q r : ℕ} → decodeOf (numberAt file at) ≡ Command (For q r) → {e : End} {after : List ℤ} {k z l : ℕ} →
+    pub for-stopped : {q r : ℕ} → decodeOf (numberAt file at) ≡ Command (For q r) →
+        {e : End} {after : List ℤ} {k z l : ℕ} →
         StoresScalar ss q (worked (pos 1)) at n e after → e ≡ Stopped k z l →
         RunsAs file at (lent ss vs) n (Stopped k z l) (lent after vs)
     unfolding run evaluate
     for-stopped {q} {r} h {after = after} g i = record {
       is = λ c p s.
           let t = command-parts c s h .0 in
-          ap (λ y. onEnded y λ l m. turns l (loopTest (syntax.for q r (t .first))) (loopBody (syntax.for q r (t .first)) at) at l m)
+          ap (λ y. onEnded y λ l m. turns l (loopTest (syntax.for q r (t .first)))
+          (loopBody (syntax.for q r (t .first)) at) at l m)
           (ap (λ y. endAt y (lent after vs)) (sym i) ∙ g .is vs)
           ∙ sym (ap (λ y. run y at n (lent ss vs)) (t .is));
     }
@@ -328,10 +342,12 @@ module _ {file : List ℕ} {at n : ℕ} where
   while-runs h {m} f = record {
     is = λ c p s.
         let t = command-parts c s h in
-        f .is c p s ∙ ap (λ y. turns n (loopTest y) (loopBody y at) at n m) (t .is) ∙ sym (ap (λ y. run y at n m) (t .is));
+        f .is c p s ∙ ap (λ y. turns n (loopTest y) (loopBody y at) at n m) (t .is)
+        ∙ sym (ap (λ y. run y at n m) (t .is));
   }
 
-  module _ {m m₁ : Lent} (h : decodeOf (numberAt file at) ≡ Command Sequence) {e : End} (f : RunsAs file (at + 1) m n e m₁) where
+  module _ {m m₁ : Lent} (h : decodeOf (numberAt file at) ≡ Command Sequence) {e : End}
+      (f : RunsAs file (at + 1) m n e m₁) where
     pub sequence-ended : {ends : List ℕ} → EndsOf file ends → {q k : ℕ} {g : End} {m₂ : Lent} → e ≡ Ended k →
         q ≡ getD ends (at + 1) 0 → RunsAs file q m₁ k g m₂ → RunsAs file at m n g m₂
     unfolding run
@@ -357,7 +373,8 @@ module _ {file : List ℕ} {at n : ℕ} where
           ∙ sym (ap (λ y. run y at n m) (t .is));
     }
 
-  module _ {ends : List ℕ} (x : EndsOf file ends) {ss vs : List ℤ} (h : decodeOf (numberAt file at) ≡ Command If) {t : Tested}
+  module _ {ends : List ℕ} (x : EndsOf file ends) {ss vs : List ℤ}
+      (h : decodeOf (numberAt file at) ≡ Command If) {t : Tested}
       (f : Tests file ss vs (at + 1) t) {c : Choice} (g : c ≡ chosen at n (testOutcome t)) where
     pub then-runs : {q k : ℕ} {r : End} {m′ : Lent} → c ≡ Choice.Then k → q ≡ getD ends (at + 1) 0 →
         RunsAs file q (lent ss vs) k r m′ → RunsAs file at (lent ss vs) n r m′
@@ -373,11 +390,13 @@ module _ {file : List ℕ} {at n : ℕ} where
           ∙ step-then at m (λ v l. elim v [
             | true ↦ run (t .second) (at + 1 + length (words (t .first))) l m
             | false ↦ run (t .third) (at + 1 + length (words (t .first)) + length (commandWords (t .second))) l m
-          ]) n (evaluate (t .first) (storeOf m)) (sym i ∙ g ∙ ap (chosen at n) (f .is (t .first) (t .middle) (t .first-at)))
+          ]) n (evaluate (t .first) (storeOf m)) (sym i ∙ g
+          ∙ ap (chosen at n) (f .is (t .first) (t .middle) (t .first-at)))
           ∙ sym (ap (λ y. run y at n m) (t .is));
     }
 
-    pub else-runs : {q o k : ℕ} {r : End} {m′ : Lent} → c ≡ Choice.Else k → q ≡ getD ends (at + 1) 0 → o ≡ getD ends q 0 →
+    pub else-runs : {q o k : ℕ} {r : End} {m′ : Lent} → c ≡ Choice.Else k → q ≡ getD ends (at + 1) 0 →
+        o ≡ getD ends q 0 →
         RunsAs file o (lent ss vs) k r m′ → RunsAs file at (lent ss vs) n r m′
     unfolding run
     else-runs {q} {o} {k} i j u z = record {
@@ -394,7 +413,8 @@ module _ {file : List ℕ} {at n : ℕ} where
           ∙ step-else at m (λ v l. elim v [
             | true ↦ run (t .second) (at + 1 + length (words (t .first))) l m
             | false ↦ run (t .third) (at + 1 + length (words (t .first)) + length (commandWords (t .second))) l m
-          ]) n (evaluate (t .first) (storeOf m)) (sym i ∙ g ∙ ap (chosen at n) (f .is (t .first) (t .middle) (t .first-at)))
+          ]) n (evaluate (t .first) (storeOf m)) (sym i ∙ g
+          ∙ ap (chosen at n) (f .is (t .first) (t .middle) (t .first-at)))
           ∙ sym (ap (λ y. run y at n m) (t .is));
     }
 
@@ -407,20 +427,31 @@ module _ {file : List ℕ} {at n : ℕ} where
           step-stopped at m (λ v l. elim v [
             | true ↦ run (t .second) (at + 1 + length (words (t .first))) l m
             | false ↦ run (t .third) (at + 1 + length (words (t .first)) + length (commandWords (t .second))) l m
-          ]) n (evaluate (t .first) (storeOf m)) (sym i ∙ g ∙ ap (chosen at n) (f .is (t .first) (t .middle) (t .first-at)))
+          ]) n (evaluate (t .first) (storeOf m)) (sym i ∙ g
+          ∙ ap (chosen at n) (f .is (t .first) (t .middle) (t .first-at)))
           ∙ sym (ap (λ y. run y at n m) (t .is));
     }
 
   -- one turn, by its test
   module _ {m : Lent} {t : Tested} (f : TestsLoop file at m t) {c : Choice} (g : c ≡ chosen at n (testOutcome t)) where
-    pub turn-then : {k : ℕ} {r : Turn} {m′ : Lent} → c ≡ Choice.Then k → PassAs file at m k r m′ → TurnAs file at m n r m′
-    turn-then i z = record { is = λ d p s. z .is d p s ∙ ap (λ y. turnBy y m (loopBody d at)) (sym i ∙ g ∙ ap (chosen at n) (f .is d p s)) }
+    pub turn-then : {k : ℕ} {r : Turn} {m′ : Lent} → c ≡ Choice.Then k → PassAs file at m k r m′ →
+        TurnAs file at m n r m′
+    turn-then i z = record {
+      is = λ d p s. z .is d p s ∙ ap (λ y. turnBy y m (loopBody d at)) (sym i ∙ g
+          ∙ ap (chosen at n) (f .is d p s));
+    }
 
     pub turn-else : {k : ℕ} → c ≡ Choice.Else k → TurnAs file at m n (Turn.Ended k) m
-    turn-else i = record { is = λ d p s. ap (λ y. turnBy y m (loopBody d at)) (sym i ∙ g ∙ ap (chosen at n) (f .is d p s)) }
+    turn-else i = record {
+      is = λ d p s. ap (λ y. turnBy y m (loopBody d at)) (sym i ∙ g
+          ∙ ap (chosen at n) (f .is d p s));
+    }
 
     pub turn-stopped : {k z l : ℕ} → c ≡ Choice.Stopped k z l → TurnAs file at m n (Turn.Stopped k z l) m
-    turn-stopped i = record { is = λ d p s. ap (λ y. turnBy y m (loopBody d at)) (sym i ∙ g ∙ ap (chosen at n) (f .is d p s)) }
+    turn-stopped i = record {
+      is = λ d p s. ap (λ y. turnBy y m (loopBody d at)) (sym i ∙ g
+          ∙ ap (chosen at n) (f .is d p s));
+    }
 
   -- the body of a loop, and what follows it
   pub pass-runs : {ends : List ℕ} → EndsOf file ends → {m : Lent} (kind : Loop) →
@@ -452,7 +483,8 @@ module _ {file : List ℕ} {at : ℕ} {ss vs : List ℤ} where
   while-tests h f = record {
     is = λ c p s.
         let t = command-parts c s h in
-        f .is (t .first) (t .middle) (t .first-at) ∙ sym (ap (λ y. evaluate (loopTest y) (storeOf (lent ss vs))) (t .is));
+        f .is (t .first) (t .middle) (t .first-at)
+        ∙ sym (ap (λ y. evaluate (loopTest y) (storeOf (lent ss vs))) (t .is));
   }
 
   pub for-tests : {q r : ℕ} → decodeOf (numberAt file at) ≡ Command (For q r) → {b : Bool} →
@@ -464,7 +496,8 @@ module _ {file : List ℕ} {at : ℕ} {ss vs : List ℤ} where
         ap worked e ∙ sym (ap (λ y. evaluate (loopTest y) (storeOf (lent ss vs))) (t .is));
   }
 
-module _ {ss : List ℤ} {q at n : ℕ} (v : Worked) (o : outcome v ≡ checked (getD ss q (pos 0) +ℤ pos 1)) {e : End} {after : List ℤ}
+module _ {ss : List ℤ} {q at n : ℕ} (v : Worked)
+    (o : outcome v ≡ checked (getD ss q (pos 0) +ℤ pos 1)) {e : End} {after : List ℤ}
     (f : StoresScalar ss q (outcome v) at n e after) where
   incremented : (vs : List ℤ) → endAt e (lent after vs) ≡ assigns (increment q) at n (lent ss vs)
   unfolding evaluate checked
@@ -480,9 +513,13 @@ module _ {ss : List ℤ} {q at n : ℕ} (v : Worked) (o : outcome v ≡ checked 
 
 module _ {ss : List ℤ} {at : ℕ} {kind : Loop} {body : End} where
   pub pass-while : {k : ℕ} → body ≡ Ended k → kind ≡ Test → EndsPass ss at kind body (Turn.Again k) ss
-  pass-while e i = record { is = λ vs. ap₂ (λ y z. goOn (onEnded (endAt y (lent ss vs)) (afterBody z at))) (sym e) (sym i) }
+  pass-while e i = record {
+    is = λ vs. ap₂ (λ y z. goOn (onEnded (endAt y (lent ss vs)) (afterBody z at))) (sym e)
+        (sym i);
+  }
 
-  pub pass-for : {k q r : ℕ} → body ≡ Ended k → kind ≡ Count q r → {t : Turn} {after : List ℤ} → Increments ss q at k t after →
+  pub pass-for : {k q r : ℕ} → body ≡ Ended k → kind ≡ Count q r → {t : Turn} {after : List ℤ} →
+      Increments ss q at k t after →
       EndsPass ss at kind body t after
   pass-for e i f = record {
     is = λ vs.
@@ -493,15 +530,18 @@ module _ {ss : List ℤ} {at : ℕ} {kind : Loop} {body : End} where
   pass-stopped e = record { is = λ vs. ap (λ y. goOn (onEnded (endAt y (lent ss vs)) (afterBody kind at))) (sym e) }
 
 -- a loop whose kind is known
-pub by-kind : {file ends : List ℕ} {m : Lent} {at : ℕ} {kind k : Loop} → CanRunAt file ends m at (loopWord kind) → kind ≡ k →
+pub by-kind : {file ends : List ℕ} {m : Lent} {at : ℕ} {kind k : Loop} → CanRunAt file ends m at (loopWord kind) →
+    kind ≡ k →
     CanRunAt file ends m at (loopWord k)
 by-kind {file} {ends} {m} {at} x e = subst (λ k. CanRunAt file ends m at (loopWord k)) e x
 
 -- two scalars compared, as the code holds them
-pub both-read : {a b x y : ℤ} {t : Bool} → SFits w64 a → SFits w64 b → t ≡ leZ (toZ w64 (ofZ w64 a)) (toZ w64 (ofZ w64 b)) →
+pub both-read : {a b x y : ℤ} {t : Bool} → SFits w64 a → SFits w64 b →
+    t ≡ leZ (toZ w64 (ofZ w64 a)) (toZ w64 (ofZ w64 b)) →
     a ≡ x → b ≡ y → t ≡ leZ x y
 both-read f g h p q = h ∙ held-two leZ f g ∙ ap₂ leZ p q
 
 -- a scalar and one more, as the code holds them
-pub next-count : {o : Outcome ℤ} {a x : ℤ} → SFits w64 a → o ≡ checked (toZ w64 (ofZ w64 a) +ℤ pos 1) → a ≡ x → o ≡ checked (x +ℤ pos 1)
+pub next-count : {o : Outcome ℤ} {a x : ℤ} → SFits w64 a → o ≡ checked (toZ w64 (ofZ w64 a) +ℤ pos 1) → a ≡ x →
+    o ≡ checked (x +ℤ pos 1)
 next-count f h p = h ∙ ap (λ y. checked (y +ℤ pos 1)) (back f ∙ p)

@@ -60,7 +60,8 @@ module _ (at : ℕ) where
   pub assert-true : (n : ℕ) {t : Tested} {b : Bool} → (n ≡ 0 → ⊥) → t ≡ Tested.Is b → b ≡ true →
       Ended (n - 1) ≡ asserted at n (testOutcome t)
   assert-true zero z p q = absurd (z refl)
-  assert-true (suc k) z p q = ap Ended (less k) ∙ ap (λ o. asserted at (suc k) o) (ap worked (sym q) ∙ ap testOutcome (sym p))
+  assert-true (suc k) z p q = ap Ended (less k) ∙ ap (λ o. asserted at (suc k) o) (ap worked (sym q)
+      ∙ ap testOutcome (sym p))
 
   pub assert-false : (n : ℕ) {t : Tested} {b : Bool} → (n ≡ 0 → ⊥) → t ≡ Tested.Is b → b ≡ false →
       Stopped 12 at n ≡ asserted at n (testOutcome t)
@@ -75,12 +76,14 @@ module _ (at : ℕ) where
   pub choose-then : (n : ℕ) {t : Tested} {b : Bool} → (n ≡ 0 → ⊥) → t ≡ Tested.Is b → b ≡ true →
       Choice.Then (n - 1) ≡ chosen at n (testOutcome t)
   choose-then zero z p q = absurd (z refl)
-  choose-then (suc k) z p q = ap Choice.Then (less k) ∙ ap (λ o. chosen at (suc k) o) (ap worked (sym q) ∙ ap testOutcome (sym p))
+  choose-then (suc k) z p q = ap Choice.Then (less k) ∙ ap (λ o. chosen at (suc k) o) (ap worked (sym q)
+      ∙ ap testOutcome (sym p))
 
   pub choose-else : (n : ℕ) {t : Tested} {b : Bool} → (n ≡ 0 → ⊥) → t ≡ Tested.Is b → b ≡ false →
       Choice.Else (n - 1) ≡ chosen at n (testOutcome t)
   choose-else zero z p q = absurd (z refl)
-  choose-else (suc k) z p q = ap Choice.Else (less k) ∙ ap (λ o. chosen at (suc k) o) (ap worked (sym q) ∙ ap testOutcome (sym p))
+  choose-else (suc k) z p q = ap Choice.Else (less k) ∙ ap (λ o. chosen at (suc k) o) (ap worked (sym q)
+      ∙ ap testOutcome (sym p))
 
   pub choose-stops : (n : ℕ) {t : Tested} {j : ℕ} → (n ≡ 0 → ⊥) → t ≡ Tested.Stops j →
       Choice.Stopped j at n ≡ chosen at n (testOutcome t)
@@ -109,7 +112,10 @@ module _ (at : ℕ) where
   module _ (n : ℕ) (ss : List ℤ) (x : ℕ) where
     pub scalar-none : (o : Outcome ℤ) → n ≡ 0 → StoresScalar ss x o at n (Stopped 13 at n) ss
     scalar-none o h =
-        record { is = λ vs. step-none n (lent ss vs) (λ m l. ended l m) (onWorked o λ z. worked (lent (set ss x z) vs)) h }
+        record {
+          is = λ vs. step-none n (lent ss vs) (λ m l. ended l m) (onWorked o λ z.
+              worked (lent (set ss x z) vs)) h;
+        }
 
     pub scalar-given : {v : Worked} {z : ℤ} (after : List ℤ) → (n ≡ 0 → ⊥) → v ≡ Worked.Value z → SFits w64 z →
         after ≡ set ss x (toZ w64 (ofZ w64 z)) → StoresScalar ss x (outcome v) at n (Ended (n - 1)) after
@@ -117,7 +123,8 @@ module _ (at : ℕ) where
       is = λ vs.
           ap (λ l. ended (n - 1) (lent l vs)) (q ∙ ap (set ss x) (back f))
           ∙ step-worked n (lent ss vs) (λ m l. ended l m) (lent (set ss x z) vs) k
-          ∙ ap (λ w. step at n (lent ss vs) (onWorked (outcome w) λ y. worked (lent (set ss x y) vs)) λ m l. ended l m) (sym p);
+          ∙ ap (λ w. step at n (lent ss vs) (onWorked (outcome w) λ y. worked (lent (set ss x y) vs)) λ m l. ended l m)
+          (sym p);
     }
 
     pub scalar-stops : {v : Worked} {j : ℕ} → (n ≡ 0 → ⊥) → v ≡ Worked.Stops j →
@@ -125,7 +132,8 @@ module _ (at : ℕ) where
     scalar-stops {v} {j} k p = record {
       is = λ vs.
           step-stops n (lent ss vs) (λ m l. ended l m) j k
-          ∙ ap (λ w. step at n (lent ss vs) (onWorked (outcome w) λ y. worked (lent (set ss x y) vs)) λ m l. ended l m) (sym p);
+          ∙ ap (λ w. step at n (lent ss vs) (onWorked (outcome w) λ y. worked (lent (set ss x y) vs)) λ m l. ended l m)
+          (sym p);
     }
 
   module _ (n : ℕ) (vs : List ℤ) (a : ℕ) where
@@ -141,7 +149,8 @@ module _ (at : ℕ) where
       is = λ ss.
           ap (λ l. ended (n - 1) (lent ss l)) q
           ∙ step-worked n (lent ss vs) (λ m l. ended l m) (lent ss (paste vs (64 * a) s 64)) k
-          ∙ ap (λ w. step at n (lent ss vs) (onWorked (fillOutcome w s) λ l. worked (lent ss (paste vs (64 * a) l 64))) λ m l.
+          ∙ ap (λ w. step at n (lent ss vs) (onWorked (fillOutcome w s) λ l.
+          worked (lent ss (paste vs (64 * a) l 64))) λ m l.
           ended l m) (sym p);
     }
 
@@ -150,7 +159,8 @@ module _ (at : ℕ) where
     array-stops {v} s {j} k p = record {
       is = λ ss.
           step-stops n (lent ss vs) (λ m l. ended l m) j k
-          ∙ ap (λ w. step at n (lent ss vs) (onWorked (fillOutcome w s) λ l. worked (lent ss (paste vs (64 * a) l 64))) λ m l.
+          ∙ ap (λ w. step at n (lent ss vs) (onWorked (fillOutcome w s) λ l.
+          worked (lent ss (paste vs (64 * a) l 64))) λ m l.
           ended l m) (sym p);
     }
 

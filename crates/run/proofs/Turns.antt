@@ -19,7 +19,8 @@ use Rattle.execution.specs.Run as definition
 use Rattle.execution.specs.Run.{ended, stopped, onEnded, step, turns}
 use Rattle.heads.specs.Stands.{PartAt, CommandStands}
 use Rattle.run.specs.Steps.{endAt, chosen}
-use Rattle.run.specs.Turns.{loopTest, loopBody, Turned, again, over, turnedAt, goOn, turnBy, turnOf, TurnsAs, TurnAs}
+use Rattle.run.specs.Turns.{loopTest, loopBody, Turned, again, over, turnedAt, goOn, turnBy, turnOf, TurnsAs}
+use Rattle.run.specs.Turns.{TurnAs}
 use Rattle.run.specs.declared.End.the-variants.{Ended, Stopped}
 use Rattle.run.specs.declared.Turn.{Turn}
 use Rattle.run.specs.declared.Turn.the-variants as Turn
@@ -80,7 +81,8 @@ module _ (b : Expr syntax.Boolean) (body : ℕ → Lent → definition.End) (at 
     less-after l (ended i x) h {n} e = let q : n ≡ i = cc in omega arith
     less-after l (stopped k p i x) h e = never (cc)
 
-    less-by : (n : ℕ) (m : Lent) (o : Outcome Bool) {l : ℕ} {m′ : Lent} → again l m′ ≡ turnBy (chosen at n o) m body → l < n
+    less-by : (n : ℕ) (m : Lent) (o : Outcome Bool) {l : ℕ} {m′ : Lent} → again l m′ ≡ turnBy (chosen at n o) m body →
+        l < n
     less-by zero m o e = never (cc)
     less-by (suc n) m (worked true) e = let h = less-after n (body n m) (bounded n m) e in omega arith
     less-by (suc n) m (worked false) e = never (cc)

@@ -5,7 +5,7 @@
 --     Turned, turnedAt, goOn, turnBy   what comes of a turn
 --     turnOf                           a turn, by the definition's outcome of the test
 --     TestsLoop, Increments, EndsPass  what the parts of a turn promise
---     TurnsAs, TurnAs, PassAs          what all turns, one turn and its body promise, of the loop that stands at a place
+-- TurnsAs, TurnAs, PassAs          what all turns, one turn and its body promise, of the loop that stands at a place
 use mathlib.Core.Path.{_≡_}
 use mathlib.Core.Bool.{Bool, false}
 use mathlib.Core.List.{List}

@@ -30,7 +30,8 @@ pub fn run_command(
     left: usize,
 ) -> End
     requires { ⌜ CanRun (now w) (now ends) (lent (now scalars) (now values)) «at» ⌝ }
-    ensures { λ r. ⌜ RunsAs (now (w .entry)) «at» (lent (now (scalars .entry)) (now (values .entry))) left r (lent (now (scalars .exit)) (now (values .exit))) ⌝ }
+    ensures { λ r. ⌜ RunsAs (now (w .entry)) «at» (lent (now (scalars .entry)) (now (values .entry))) left r
+        (lent (now (scalars .exit)) (now (values .exit))) ⌝ }
 {
     let head = command_head(w, at);
     match head {
@@ -55,7 +56,8 @@ fn run_sequence(
     left: usize,
 ) -> End
     requires { ⌜ CanRunAt (now w) (now ends) (lent (now scalars) (now values)) «at» CommandWord.Sequence ⌝ }
-    ensures { λ r. ⌜ RunsAs (now (w .entry)) «at» (lent (now (scalars .entry)) (now (values .entry))) left r (lent (now (scalars .exit)) (now (values .exit))) ⌝ }
+    ensures { λ r. ⌜ RunsAs (now (w .entry)) «at» (lent (now (scalars .entry)) (now (values .entry))) left r
+        (lent (now (scalars .exit)) (now (values .exit))) ⌝ }
 {
     match run_command(w, ends, at + 1, scalars, values, left) {
         End::Ended(n) => {
@@ -75,7 +77,8 @@ fn run_if(
     left: usize,
 ) -> End
     requires { ⌜ CanRunAt (now w) (now ends) (lent (now scalars) (now values)) «at» CommandWord.If ⌝ }
-    ensures { λ r. ⌜ RunsAs (now (w .entry)) «at» (lent (now (scalars .entry)) (now (values .entry))) left r (lent (now (scalars .exit)) (now (values .exit))) ⌝ }
+    ensures { λ r. ⌜ RunsAs (now (w .entry)) «at» (lent (now (scalars .entry)) (now (values .entry))) left r
+        (lent (now (scalars .exit)) (now (values .exit))) ⌝ }
 {
     let test = eval_boolean(w, ends, at + 1, scalars, values);
     let first = end_at(ends, at + 1);
@@ -101,7 +104,8 @@ fn run_for(
     left: usize,
 ) -> End
     requires { ⌜ CanRunAt (now w) (now ends) (lent (now scalars) (now values)) «at» (CommandWord.For q m) ⌝ }
-    ensures { λ r. ⌜ RunsAs (now (w .entry)) «at» (lent (now (scalars .entry)) (now (values .entry))) left r (lent (now (scalars .exit)) (now (values .exit))) ⌝ }
+    ensures { λ r. ⌜ RunsAs (now (w .entry)) «at» (lent (now (scalars .entry)) (now (values .entry))) left r
+        (lent (now (scalars .exit)) (now (values .exit))) ⌝ }
 {
     match store_scalar(scalars, q as usize, Worked::Value(1), at, left) {
         End::Ended(n) => run_turns(w, ends, at, Loop::Count(q, m), scalars, values, n),
@@ -120,7 +124,8 @@ fn run_turns(
     left: usize,
 ) -> End
     requires { ⌜ CanRunAt (now w) (now ends) (lent (now scalars) (now values)) «at» (loopWord kind) ⌝ }
-    ensures { λ r. ⌜ TurnsAs (now (w .entry)) «at» (lent (now (scalars .entry)) (now (values .entry))) left r (lent (now (scalars .exit)) (now (values .exit))) ⌝ }
+    ensures { λ r. ⌜ TurnsAs (now (w .entry)) «at» (lent (now (scalars .entry)) (now (values .entry))) left r
+        (lent (now (scalars .exit)) (now (values .exit))) ⌝ }
 {
     let mut n = left;
     loop {
@@ -149,7 +154,8 @@ fn run_turn(
     left: usize,
 ) -> Turn
     requires { ⌜ CanRunAt (now w) (now ends) (lent (now scalars) (now values)) «at» (loopWord kind) ⌝ }
-    ensures { λ r. ⌜ TurnAs (now (w .entry)) «at» (lent (now (scalars .entry)) (now (values .entry))) left r (lent (now (scalars .exit)) (now (values .exit))) ⌝ }
+    ensures { λ r. ⌜ TurnAs (now (w .entry)) «at» (lent (now (scalars .entry)) (now (values .entry))) left r
+        (lent (now (scalars .exit)) (now (values .exit))) ⌝ }
 {
     let test = loop_test(w, ends, at, kind, scalars, values);
     match test_step(test, at, left) {
@@ -170,7 +176,8 @@ fn run_pass(
     left: usize,
 ) -> Turn
     requires { ⌜ CanRunAt (now w) (now ends) (lent (now scalars) (now values)) «at» (loopWord kind) ⌝ }
-    ensures { λ r. ⌜ PassAs (now (w .entry)) «at» (lent (now (scalars .entry)) (now (values .entry))) left r (lent (now (scalars .exit)) (now (values .exit))) ⌝ }
+    ensures { λ r. ⌜ PassAs (now (w .entry)) «at» (lent (now (scalars .entry)) (now (values .entry))) left r
+        (lent (now (scalars .exit)) (now (values .exit))) ⌝ }
 {
     let place = body_at(ends, at, kind);
     let body = run_command(w, ends, place, scalars, values, left);

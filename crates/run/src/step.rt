@@ -93,7 +93,8 @@ pub fn store_array(
     left: usize,
 ) -> End
     requires { ⌜ CanStore (now values) a (now scratch) ⌝ }
-    ensures { λ r. ⌜ StoresArray (now (values .entry)) a (fillOutcome array (now (scratch .entry))) «at» left r (now (values .exit)) ⌝ }
+    ensures { λ r. ⌜ StoresArray (now (values .entry)) a (fillOutcome array (now (scratch .entry))) «at» left r
+        (now (values .exit)) ⌝ }
 {
     if left == 0 {
         return End::Stopped(13, at, left);
@@ -117,7 +118,8 @@ pub fn run_assert(
     left: usize,
 ) -> End
     requires { ⌜ CanRunAt (now w) (now ends) (lent (now scalars) (now values)) «at» CommandWord.Assert ⌝ }
-    ensures { λ r. ⌜ RunsAs (now (w .entry)) «at» (lent (now (scalars .entry)) (now (values .entry))) left r (lent (now (scalars .entry)) (now (values .entry))) ⌝ }
+    ensures { λ r. ⌜ RunsAs (now (w .entry)) «at» (lent (now (scalars .entry)) (now (values .entry))) left r
+        (lent (now (scalars .entry)) (now (values .entry))) ⌝ }
 {
     let test = eval_boolean(w, ends, at + 1, scalars, values);
     assert_step(test, at, left)
@@ -134,7 +136,8 @@ pub fn assign_scalar(
     left: usize,
 ) -> End
     requires { ⌜ CanRunAt (now w) (now ends) (lent (now scalars) (now values)) «at» (CommandWord.AssignScalar x) ⌝ }
-    ensures { λ r. ⌜ RunsAs (now (w .entry)) «at» (lent (now (scalars .entry)) (now (values .entry))) left r (lent (now (scalars .exit)) (now (values .entry))) ⌝ }
+    ensures { λ r. ⌜ RunsAs (now (w .entry)) «at» (lent (now (scalars .entry)) (now (values .entry))) left r
+        (lent (now (scalars .exit)) (now (values .entry))) ⌝ }
 {
     let v = eval_arithmetic(w, ends, at + 1, scalars, values);
     store_scalar(scalars, x as usize, v, at, left)
@@ -151,7 +154,8 @@ pub fn assign_array(
     left: usize,
 ) -> End
     requires { ⌜ CanRunAt (now w) (now ends) (lent (now scalars) (now values)) «at» (CommandWord.AssignArray a) ⌝ }
-    ensures { λ r. ⌜ RunsAs (now (w .entry)) «at» (lent (now (scalars .entry)) (now (values .entry))) left r (lent (now (scalars .entry)) (now (values .exit))) ⌝ }
+    ensures { λ r. ⌜ RunsAs (now (w .entry)) «at» (lent (now (scalars .entry)) (now (values .entry))) left r
+        (lent (now (scalars .entry)) (now (values .exit))) ⌝ }
 {
     let mut scratch = [0i64; 64];
     let array = eval_array(w, ends, at + 1, scalars, values, &mut scratch);

@@ -1,6 +1,7 @@
 -- Refusals 1 to 7 on the runner's way, and what the words are that they let pass.
 -- Assumes nothing.
---     read-file                             words that refusals 2 to 6 let pass are a whole file, with its command at place 1
+-- read-file                             words that refusals 2 to 6 let pass are a whole file, with its command at place
+-- 1
 --     refused-words, unsteady-words         2 to 6, and 7
 --     steady-words                          words that 2 to 7 let pass
 --     bad-bytes, AllLoaded, all-loaded, loaded-bytes      1; the words of bytes that it lets pass
@@ -48,7 +49,8 @@ module _ (limits : context.Limits) (w : List ℕ) where
     pub whole : WholeFile limits w
     pub program : PartAt w (commandPart (f .program)) 1 (f .preAt)
 
-  ended-read : (x : Reading File) (f : File) (p : ℕ) → onRead x (ended w) ≡ read f p → (x ≡ read f p) × (wordCount w ≤ p)
+  ended-read : (x : Reading File) (f : File) (p : ℕ) → onRead x (ended w) ≡ read f p →
+      (x ≡ read f p) × (wordCount w ≤ p)
   unfolding ended
   ended-read (read g q) f p h = go (ltb q (wordCount w)) refl h
     where
@@ -102,11 +104,13 @@ pub refused-by : {x : Reading File} {k p : ℕ} (budget : ℕ) (m : Lent) {r : R
 refused-by budget m e h = record { is = ap (λ r. ranAt r m) e ∙ ap (λ x. ranBy x budget m) (sym h) }
 
 module _ (limits : Limits) (w : List ℕ) (budget : ℕ) (m : Lent) where
-  pub refused-words : {x : Layout} {n p : ℕ} {r : Ran} → x ≡ placesOf (readOf (limitsOf limits) w) → x ≡ Layout.Refused n p →
+  pub refused-words : {x : Layout} {n p : ℕ} {r : Ran} → x ≡ placesOf (readOf (limitsOf limits) w) →
+      x ≡ Layout.Refused n p →
       r ≡ refusedAt n p → RanBy (wordsRead (limitsOf limits) w) budget m r m
   refused-words {n = n} {p} e h q = refused-by budget m q (read-refused (limitsOf limits) w n p (sym h ∙ e))
 
-  pub unsteady-words : Found w limits → {x : Steadiness} {at : ℕ} {r : Ran} → FirstFound w x → x ≡ At at → r ≡ refusedAt 7 at →
+  pub unsteady-words : Found w limits → {x : Steadiness} {at : ℕ} {r : Ran} → FirstFound w x → x ≡ At at →
+      r ≡ refusedAt 7 at →
       RanBy (wordsRead (limitsOf limits) w) budget m r m
   unsteady-words h {at = at} f e q =
       let z = found-file (readOf (limitsOf limits) w) (h .places) (h .found) in
@@ -114,7 +118,8 @@ module _ (limits : Limits) (w : List ℕ) (budget : ℕ) (m : Lent) where
       let o = some-found (limitsOf limits) w _ at (sym e ∙ f .place (limitsOf limits) (v .whole)) in
       refused-by budget m q (read-unsteady (limitsOf limits) w (z .file) (h .places .end) at (z .was-read) o)
 
-pub steady-words : (limits : Limits) {w ends : List ℕ} → Found w limits → EndsOf w ends → {x : Steadiness} → FirstFound w x →
+pub steady-words : (limits : Limits) {w ends : List ℕ} → Found w limits → EndsOf w ends → {x : Steadiness} →
+    FirstFound w x →
     x ≡ Steady → CanRunFile w ends limits
 steady-words limits {w} h k f e =
     let z = found-file (readOf (limitsOf limits) w) (h .places) (h .found) in
@@ -176,13 +181,15 @@ loaded-bytes limits {bytes} {budget = budget} {m} h l f = record {
 }
 
 -- ---- the definition's answer
-by-reading : (x : Reading File) (limits : context.Limits) (bytes : List ℕ) → fileOf limits bytes ≡ x → (budget : ℕ) (m : Lent) →
+by-reading : (x : Reading File) (limits : context.Limits) (bytes : List ℕ) → fileOf limits bytes ≡ x →
+    (budget : ℕ) (m : Lent) →
     ranBy x budget m ≡ runOf limits bytes budget m
 unfolding runOf
 by-reading (read f p) limits bytes e budget m = sym (rw (e, runOf) refl)
 by-reading (fault k p) limits bytes e budget m = sym (rw (e, runOf) refl)
 
-pub run-of : {limits : Limits} → limitsOf limits ≡ context.standard → {bytes : List ℕ} {budget : ℕ} {m m′ : Lent} {r : Ran} →
+pub run-of : {limits : Limits} → limitsOf limits ≡ context.standard →
+    {bytes : List ℕ} {budget : ℕ} {m m′ : Lent} {r : Ran} →
     RanBy (fileOf (limitsOf limits) bytes) budget m r m′ → RunOf bytes budget m r m′
 run-of {limits} l {bytes} {budget} {m} {m′} {r} f =
     let e : ranAt r m′ ≡ runOf context.standard bytes budget m =

@@ -63,7 +63,8 @@ module _ {w ends : List ℕ} {limits : Limits} (c : CanRunFile w ends limits) (b
       RanBy (wordsRead (limitsOf limits) w) budget m r m′
   by-file h = record { is = h ∙ ap (λ x. ranBy x budget m) (sym (c .was-read)) }
 
-  pub over-budget : {r : Ran} → 1000000 < budget → r ≡ refusedAt 10 0 → RanBy (wordsRead (limitsOf limits) w) budget m r m
+  pub over-budget : {r : Ran} → 1000000 < budget → r ≡ refusedAt 10 0 →
+      RanBy (wordsRead (limitsOf limits) w) budget m r m
   over-budget l e = by-file (ap (λ r. ranAt r m) e ∙ sym (over-is (c .tree) budget m l))
 
   pub ill-scalars : {r : Ran} → budget ≤ 1000000 → (length (m .scalars) ≡ 32 → ⊥) → r ≡ refusedAt 11 0 →
@@ -90,7 +91,8 @@ module _ {w ends : List ℕ} {limits : Limits} (c : CanRunFile w ends limits) (b
     can-report =
         bounded-report e m′ budget (subst (Bounded budget) (sym came) (run-bounded (c .tree .program) 1 budget m))
 
-    pub reported : {r : Ran} → budget ≤ 1000000 → length (m .scalars) ≡ 32 → length (m .values) ≡ 2048 → Reports e budget r →
+    pub reported : {r : Ran} → budget ≤ 1000000 → length (m .scalars) ≡ 32 → length (m .values) ≡ 2048 →
+        Reports e budget r →
         RanBy (wordsRead (limitsOf limits) w) budget m r m′
     reported l k h g =
         by-file (g .is m′ ∙ ap (ranOf budget) came ∙ sym (run-is (c .tree) budget m l (both-sized m k h)))

@@ -113,7 +113,8 @@ run-placed (for q r c) b at n m h =
     (assigns-placed b (start q) at n m (omega arith))
     (λ l m′. turns-placed b l (compare atMost (scalar q) (scalar r))
     (λ k m″. onEnded (run c (at + 1) k m″) (assigns (increment q) at)) at (omega arith)
-    (λ k m″. after-placed b (run c (at + 1) k m″) (assigns (increment q) at) (run-placed c b (at + 1) k m″ (omega arith))
+    (λ k m″. after-placed b (run c (at + 1) k m″) (assigns (increment q) at)
+    (run-placed c b (at + 1) k m″ (omega arith))
     (λ i j. assigns-placed b (increment q) at i j (omega arith))) l m′)
 
 -- ---- refusals 1 to 7

@@ -53,7 +53,8 @@ fn run_program(
     budget: usize,
 ) -> Ran
     requires { ⌜ CanRunFile (now w) (now ends) limits ⌝ }
-    ensures { λ r. ⌜ RanBy (wordsRead (limitsOf limits) (now (w .entry))) budget (lent (now (scalars .entry)) (now (values .entry))) r (lent (now (scalars .exit)) (now (values .exit))) ⌝ }
+    ensures { λ r. ⌜ RanBy (wordsRead (limitsOf limits) (now (w .entry))) budget
+        (lent (now (scalars .entry)) (now (values .entry))) r (lent (now (scalars .exit)) (now (values .exit))) ⌝ }
 {
     if 1000000 < budget {
         return refused(10, 0);
@@ -77,7 +78,8 @@ fn run_found(
     budget: usize,
 ) -> Ran
     requires { ⌜ Found (now w) limits ⌝ }
-    ensures { λ r. ⌜ RanBy (wordsRead (limitsOf limits) (now (w .entry))) budget (lent (now (scalars .entry)) (now (values .entry))) r (lent (now (scalars .exit)) (now (values .exit))) ⌝ }
+    ensures { λ r. ⌜ RanBy (wordsRead (limitsOf limits) (now (w .entry))) budget
+        (lent (now (scalars .entry)) (now (values .entry))) r (lent (now (scalars .exit)) (now (values .exit))) ⌝ }
 {
     let mut ends = [0u32; 8192];
     fill_ends(w, &mut ends);
@@ -97,7 +99,8 @@ fn run_words(
     budget: usize,
 ) -> Ran
     requires { ⌜ Small (now w) ⌝ }
-    ensures { λ r. ⌜ RanBy (wordsRead (limitsOf limits) (now (w .entry))) budget (lent (now (scalars .entry)) (now (values .entry))) r (lent (now (scalars .exit)) (now (values .exit))) ⌝ }
+    ensures { λ r. ⌜ RanBy (wordsRead (limitsOf limits) (now (w .entry))) budget
+        (lent (now (scalars .entry)) (now (values .entry))) r (lent (now (scalars .exit)) (now (values .exit))) ⌝ }
 {
     let found = read_words(w, limits);
     match found {
@@ -128,7 +131,8 @@ pub(crate) fn run_bytes(
     values: &mut [i64],
     budget: usize,
 ) -> Ran
-    ensures { λ r. ⌜ RanBy (fileOf (limitsOf limits) (now (file .entry))) budget (lent (now (scalars .entry)) (now (values .entry))) r (lent (now (scalars .exit)) (now (values .exit))) ⌝ }
+    ensures { λ r. ⌜ RanBy (fileOf (limitsOf limits) (now (file .entry))) budget
+        (lent (now (scalars .entry)) (now (values .entry))) r (lent (now (scalars .exit)) (now (values .exit))) ⌝ }
 {
     if bad_length(file) {
         return refused(1, 0);

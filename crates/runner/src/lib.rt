@@ -36,9 +36,10 @@ fn limits() -> Limits
     }
 }
 
-// Runs a file's command in a store of 32 scalars and 2,048 array values, of which array a's index i is value 64 × a + i.
+// Runs a file's command in a lent store: 32 scalars, and 2,048 values, where array a's index i is value 64 × a + i.
 pub fn run(file: &[u8], scalars: &mut [i64], values: &mut [i64], budget: usize) -> Ran
-    ensures { λ r. ⌜ RunOf (now (file .entry)) budget (lent (now (scalars .entry)) (now (values .entry))) r (lent (now (scalars .exit)) (now (values .exit))) ⌝ }
+    ensures { λ r. ⌜ RunOf (now (file .entry)) budget (lent (now (scalars .entry)) (now (values .entry))) r
+        (lent (now (scalars .exit)) (now (values .exit))) ⌝ }
 {
     run_bytes(file, limits(), scalars, values, budget)
 }
@@ -57,7 +58,8 @@ fn pack(ran: Ran) -> u64
 }
 
 // The runner for callers in C: `uint64_t flow_run(const uint8_t *file, size_t count, int64_t *scalars, size_t n,
-// int64_t *values, size_t k, size_t budget)`. The upper 32 bits are the steps finished; the lower are 0 if the run ended,
+// int64_t *values, size_t k, size_t budget)`. The upper 32 bits are the steps finished; the lower are 0 if the run
+// ended,
 // else number × 65,536 + place.
 #[no_mangle]
 pub extern "C" fn flow_run(
@@ -66,7 +68,8 @@ pub extern "C" fn flow_run(
     values: &mut [i64],
     budget: usize,
 ) -> u64
-    ensures { λ r. ⌜ PackedRun (now (file .entry)) budget (lent (now (scalars .entry)) (now (values .entry))) r (lent (now (scalars .exit)) (now (values .exit))) ⌝ }
+    ensures { λ r. ⌜ PackedRun (now (file .entry)) budget (lent (now (scalars .entry)) (now (values .entry))) r
+        (lent (now (scalars .exit)) (now (values .exit))) ⌝ }
 {
     let ran = run(file, scalars, values, budget);
     pack(ran)

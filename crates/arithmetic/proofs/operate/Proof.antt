@@ -19,6 +19,12 @@ operate-spec =
     (λ c κs. search needs)
     (λ c. search needs)
     (λ c κs. search needs)
-    (λ c. let s = c .before .before .before in c .sum .ensures ∙ held-two (λ x y. checked (x +ℤ y)) (s .fits .a) (s .fits .b) ∙ ap (λ o. checked (apply (operatorMeant o) (s .args .a) (s .args .b))) (sym (c .before .enum-told .given .1)))
-    (λ c. let s = c .before .before .before in c .difference .ensures ∙ held-two (λ x y. checked (x -ℤ y)) (s .fits .a) (s .fits .b) ∙ ap (λ o. checked (apply (operatorMeant o) (s .args .a) (s .args .b))) (sym (c .before .enum-told2 .given .1)))
-    (λ c. let s = c .before .before .before in c .product .ensures ∙ held-two (λ x y. checked (x *ℤ y)) (s .fits .a) (s .fits .b) ∙ ap (λ o. checked (apply (operatorMeant o) (s .args .a) (s .args .b))) (sym (c .before .enum-told3 .given .1))))
+    (λ c. let s = c .before .before .before in
+    c .sum .ensures ∙ held-two (λ x y. checked (x +ℤ y)) (s .fits .a) (s .fits .b)
+    ∙ ap (λ o. checked (apply (operatorMeant o) (s .args .a) (s .args .b))) (sym (c .before .enum-told .given .1)))
+    (λ c. let s = c .before .before .before in
+    c .difference .ensures ∙ held-two (λ x y. checked (x -ℤ y)) (s .fits .a) (s .fits .b)
+    ∙ ap (λ o. checked (apply (operatorMeant o) (s .args .a) (s .args .b))) (sym (c .before .enum-told2 .given .1)))
+    (λ c. let s = c .before .before .before in
+    c .product .ensures ∙ held-two (λ x y. checked (x *ℤ y)) (s .fits .a) (s .fits .b)
+    ∙ ap (λ o. checked (apply (operatorMeant o) (s .args .a) (s .args .b))) (sym (c .before .enum-told3 .given .1))))

@@ -15,13 +15,16 @@ cast-n : tie.Need-cast-n
 cast-n c = (non-neg-of (c .before .fits .z) (c .if1 .taken), fits-natAbs tt (held (c .before .fits .z)))
 
 returns : tie.Need-returns
-returns c = index-in (toZ w64 (ofZ w64 (c .before .before .args .z))) (non-neg-of (c .before .before .fits .z) (c .before .if1 .taken)) (c .if2 .taken) ∙ ap (λ z. index (worked z)) (back (c .before .before .fits .z))
+returns c = index-in (toZ w64 (ofZ w64 (c .before .before .args .z))) (non-neg-of (c .before .before .fits .z)
+    (c .before .if1 .taken)) (c .if2 .taken) ∙ ap (λ z. index (worked z)) (back (c .before .before .fits .z))
 
 returns-2 : tie.Need-returns-2
-returns-2 c = index-past (toZ w64 (ofZ w64 (c .before .before .args .z))) (c .if2 .left) ∙ ap (λ z. index (worked z)) (back (c .before .before .fits .z))
+returns-2 c = index-past (toZ w64 (ofZ w64 (c .before .before .args .z))) (c .if2 .left)
+    ∙ ap (λ z. index (worked z)) (back (c .before .before .fits .z))
 
 returns-3 : tie.Need-returns-3
-returns-3 c = index-neg (toZ w64 (ofZ w64 (c .before .args .z))) (c .if1 .left) ∙ ap (λ z. index (worked z)) (back (c .before .fits .z))
+returns-3 c = index-neg (toZ w64 (ofZ w64 (c .before .args .z))) (c .if1 .left)
+    ∙ ap (λ z. index (worked z)) (back (c .before .fits .z))
 
 pub place-spec : {M : Type 1} → statement M
 place-spec = tie.close (tie.spec cast-n returns returns-2 returns-3)

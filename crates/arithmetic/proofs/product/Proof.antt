@@ -34,7 +34,8 @@ size-requires-2 c κs = search needs
 returns : tie.Need-returns
 returns c =
     let s = c .before .before .before in
-    value zero-fits ∙ ap checked (mul-zero-r (hold (s .args .a)) (hold (s .args .b)) (sym (c .before .size2 .ensures) ∙ c .if1 .taken) ∙ prod (s .fits .a) (s .fits .b))
+    value zero-fits ∙ ap checked (mul-zero-r (hold (s .args .a)) (hold (s .args .b)) (sym (c .before .size2 .ensures)
+    ∙ c .if1 .taken) ∙ prod (s .fits .a) (s .fits .b))
 
 most-requires : tie.Need-most-requires
 most-requires c κs = search needs
@@ -45,7 +46,9 @@ div-if2 c = search needs
 mul-t9 : tie.Need-mul-t9
 mul-t9 c =
     let s = c .before .before .before .before .before in
-    mul-ok (hold (s .args .a)) (hold (s .args .b)) _ _ _ (c .before .before .before .before .size .ensures) (c .before .before .before .size2 .ensures) (c .before .most .ensures) (c .before .before .if1 .left) (c .if2 .taken)
+    mul-ok (hold (s .args .a)) (hold (s .args .b)) _ _ _ (c .before .before .before .before .size .ensures)
+    (c .before .before .before .size2 .ensures) (c .before .most .ensures) (c .before .before .if1 .left)
+    (c .if2 .taken)
 
 returns-2 : tie.Need-returns-2
 returns-2 c =
@@ -55,7 +58,10 @@ returns-2 c =
 returns-3 : tie.Need-returns-3
 returns-3 c =
     let s = c .before .before .before .before .before in
-    too-large _ (mul-no (hold (s .args .a)) (hold (s .args .b)) _ _ _ (c .before .before .before .before .size .ensures) (c .before .before .before .size2 .ensures) (c .before .most .ensures) (c .before .before .if1 .left) (c .if2 .left)) ∙ ap checked (prod (s .fits .a) (s .fits .b))
+    too-large _ (mul-no (hold (s .args .a)) (hold (s .args .b)) _ _ _
+    (c .before .before .before .before .size .ensures) (c .before .before .before .size2 .ensures)
+    (c .before .most .ensures) (c .before .before .if1 .left) (c .if2 .left))
+    ∙ ap checked (prod (s .fits .a) (s .fits .b))
 
 pub product-spec : {M : Type 1} → statement M
 product-spec =

@@ -22,10 +22,15 @@ sub-result : tie.Need-sub-result
 sub-result c = flip-fits _ (c .before .fits .x) (c .if1 .left)
 
 cast-result-2 : tie.Need-cast-result-2
-cast-result-2 c = (flip-non-neg _ (c .before .fits .x) (c .if1 .left), fits-natAbs tt (held (flip-fits _ (c .before .fits .x) (c .if1 .left))))
+cast-result-2 c = (
+  flip-non-neg _ (c .before .fits .x) (c .if1 .left),
+  fits-natAbs tt
+      (held (flip-fits _ (c .before .fits .x) (c .if1 .left))),
+)
 
 add-result-2 : tie.Need-add-result-2
-add-result-2 c = subst (Fits w64) (sym (flip-size _ (c .before .fits .x) (c .if1 .left))) (fits-natAbs tt (c .before .fits .x))
+add-result-2 c = subst (Fits w64) (sym (flip-size _ (c .before .fits .x) (c .if1 .left)))
+    (fits-natAbs tt (c .before .fits .x))
 
 returns : tie.Need-returns
 returns c = search needs

@@ -14,5 +14,6 @@ to-index-spec =
     (λ c. search needs)
     (λ c κs. search needs)
     (λ c. search needs)
-    (λ c. index-of (c .before .before .i .given .0 .0) _ (record { sfits = c .before .known-told .given .0 .1 }) (c .before .before .i .given .1) (c .place .ensures))
+    (λ c. index-of (c .before .before .i .given .0 .0) _ (record { sfits = c .before .known-told .given .0 .1 })
+    (c .before .before .i .given .1) (c .place .ensures))
     (λ c. ap (λ i. index (outcome i)) (sym (c .before .i2 .given .1))))

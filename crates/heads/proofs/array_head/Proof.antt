@@ -15,4 +15,5 @@ array-head-spec =
     (λ c κs. search needs)
     (λ c. search needs)
     (λ c. sym (c .before .before .before .decode .ensures) ∙ c .before .word .given .1)
-    (λ c. let s = c .before .before .before .before in no-array (c .before .decode .ensures) (s .pre) (c .match .keys2)))
+    (λ c. let s = c .before .before .before .before in
+    no-array (c .before .decode .ensures) (s .pre) (c .match .keys2)))

@@ -1,4 +1,5 @@
--- `evaluate::boolean::eval_boolean` meets its contract: what comes of a boolean is what comes of its operands. The measure is the
+-- `evaluate::boolean::eval_boolean` meets its contract: what comes of a boolean is what comes of its operands. The
+-- measure is the
 -- words left from it on.
 -- Assumes nothing.
 use mathlib.Core.Path.{sym, ap, _∙_}
@@ -64,33 +65,84 @@ pub +eval-boolean-spec : {M : Type 1} → statement M
     eval-boolean.Post
     (λ c κs. (c .before .before) .pre .1 .expression)
     (λ c. search needs)
-    (λ c. let s = (c .before .before .before .before .before .before) in let p = s .pre .1 in let i = expression-starts (p .expression) in omega arith)
-    (λ c κs. let s = (c .before .before .before .before .before .before) in let p = s .pre .1 in let x = boolean-parts (p .expression .tree) (p .expression .there) (c .before .before .before .boolean-head .ensures ∙ ap Boolean (c .before .head .given .1)) in first-operand p x .can)
-    (λ c. let s = (c .before .before .before .before .before .before .before) in let p = s .pre .1 in let i = expression-starts (p .expression) in omega arith)
-    (λ c κs. let s = (c .before .before .before .before .before .before .before) in let p = s .pre .1 in let x = boolean-parts (p .expression .tree) (p .expression .there) (c .before .before .before .before .boolean-head .ensures ∙ ap Boolean (c .before .before .head .given .1)) in first-operand p x .listed)
-    (λ c κs. let s = (c .before .before .before .before .before .before .before .before) in let p = s .pre .1 in let x = boolean-parts (p .expression .tree) (p .expression .there) (c .before .before .before .before .before .boolean-head .ensures ∙ ap Boolean (c .before .before .before .head .given .1)) in second-operand p x (c .end-at .ensures) .can)
+    (λ c. let s = (c .before .before .before .before .before .before) in let p = s .pre .1 in
+    let i = expression-starts (p .expression) in omega arith)
+    (λ c κs. let s = (c .before .before .before .before .before .before) in let p = s .pre .1 in
+    let x = boolean-parts (p .expression .tree) (p .expression .there)
+    (c .before .before .before .boolean-head .ensures ∙ ap Boolean (c .before .head .given .1)) in
+    first-operand p x .can)
+    (λ c. let s = (c .before .before .before .before .before .before .before) in let p = s .pre .1 in
+    let i = expression-starts (p .expression) in omega arith)
+    (λ c κs. let s = (c .before .before .before .before .before .before .before) in let p = s .pre .1 in
+    let x = boolean-parts (p .expression .tree) (p .expression .there)
+    (c .before .before .before .before .boolean-head .ensures ∙ ap Boolean (c .before .before .head .given .1)) in
+    first-operand p x .listed)
+    (λ c κs. let s = (c .before .before .before .before .before .before .before .before) in let p = s .pre .1 in
+    let x = boolean-parts (p .expression .tree) (p .expression .there)
+    (c .before .before .before .before .before .boolean-head .ensures
+    ∙ ap Boolean (c .before .before .before .head .given .1)) in second-operand p x (c .end-at .ensures) .can)
     (λ c κs. search needs)
     (λ c. search needs)
     (λ c. search needs)
-    (λ c. let s = (c .before .before .before .before .before) in let p = s .pre .1 in let i = expression-starts (p .expression) in omega arith)
-    (λ c κs. let s = (c .before .before .before .before .before) in let p = s .pre .1 in let x = boolean-parts (p .expression .tree) (p .expression .there) (c .before .before .boolean-head .ensures ∙ ap Boolean (c .enum-told .given .1)) in let o = first-operand p x in let m = s .pre .0 in (omega arith, o .can))
-    (λ c. let s = (c .before .before .before .before .before .before) in let p = s .pre .1 in let i = expression-starts (p .expression) in omega arith)
-    (λ c κs. let s = (c .before .before .before .before .before .before) in let p = s .pre .1 in let x = boolean-parts (p .expression .tree) (p .expression .there) (c .before .before .before .boolean-head .ensures ∙ ap Boolean (c .before .enum-told .given .1)) in first-operand p x .listed)
-    (λ c κs. let s = (c .before .before .before .before .before .before .before) in let p = s .pre .1 in let x = boolean-parts (p .expression .tree) (p .expression .there) (c .before .before .before .before .boolean-head .ensures ∙ ap Boolean (c .before .before .enum-told .given .1)) in let o = second-operand p x (c .end-at2 .ensures) in let m = s .pre .0 in (omega arith, o .can))
+    (λ c. let s = (c .before .before .before .before .before) in let p = s .pre .1 in
+    let i = expression-starts (p .expression) in omega arith)
+    (λ c κs. let s = (c .before .before .before .before .before) in let p = s .pre .1 in
+    let x = boolean-parts (p .expression .tree) (p .expression .there) (c .before .before .boolean-head .ensures
+    ∙ ap Boolean (c .enum-told .given .1)) in let o = first-operand p x in let m = s .pre .0 in (omega arith, o .can))
+    (λ c. let s = (c .before .before .before .before .before .before) in let p = s .pre .1 in
+    let i = expression-starts (p .expression) in omega arith)
+    (λ c κs. let s = (c .before .before .before .before .before .before) in let p = s .pre .1 in
+    let x = boolean-parts (p .expression .tree) (p .expression .there)
+    (c .before .before .before .boolean-head .ensures ∙ ap Boolean (c .before .enum-told .given .1)) in
+    first-operand p x .listed)
+    (λ c κs. let s = (c .before .before .before .before .before .before .before) in let p = s .pre .1 in
+    let x = boolean-parts (p .expression .tree) (p .expression .there)
+    (c .before .before .before .before .boolean-head .ensures ∙ ap Boolean (c .before .before .enum-told .given .1)) in
+    let o = second-operand p x (c .end-at2 .ensures) in let m = s .pre .0 in (omega arith, o .can))
     (λ c κs. search needs)
     (λ c. search needs)
-    (λ c. let s = (c .before .before .before .before .before) in let p = s .pre .1 in let i = expression-starts (p .expression) in omega arith)
-    (λ c κs. let s = (c .before .before .before .before .before) in let p = s .pre .1 in let x = boolean-parts (p .expression .tree) (p .expression .there) (c .before .before .boolean-head .ensures ∙ ap Boolean (c .enum-told2 .given .1)) in let o = first-operand p x in let m = s .pre .0 in (omega arith, o .can))
-    (λ c. let s = (c .before .before .before .before .before .before) in let p = s .pre .1 in let i = expression-starts (p .expression) in omega arith)
-    (λ c κs. let s = (c .before .before .before .before .before .before) in let p = s .pre .1 in let x = boolean-parts (p .expression .tree) (p .expression .there) (c .before .before .before .boolean-head .ensures ∙ ap Boolean (c .before .enum-told2 .given .1)) in first-operand p x .listed)
-    (λ c κs. let s = (c .before .before .before .before .before .before .before) in let p = s .pre .1 in let x = boolean-parts (p .expression .tree) (p .expression .there) (c .before .before .before .before .boolean-head .ensures ∙ ap Boolean (c .before .before .enum-told2 .given .1)) in let o = second-operand p x (c .end-at3 .ensures) in let m = s .pre .0 in (omega arith, o .can))
+    (λ c. let s = (c .before .before .before .before .before) in let p = s .pre .1 in
+    let i = expression-starts (p .expression) in omega arith)
+    (λ c κs. let s = (c .before .before .before .before .before) in let p = s .pre .1 in
+    let x = boolean-parts (p .expression .tree) (p .expression .there) (c .before .before .boolean-head .ensures
+    ∙ ap Boolean (c .enum-told2 .given .1)) in let o = first-operand p x in let m = s .pre .0 in (omega arith, o .can))
+    (λ c. let s = (c .before .before .before .before .before .before) in let p = s .pre .1 in
+    let i = expression-starts (p .expression) in omega arith)
+    (λ c κs. let s = (c .before .before .before .before .before .before) in let p = s .pre .1 in
+    let x = boolean-parts (p .expression .tree) (p .expression .there)
+    (c .before .before .before .boolean-head .ensures ∙ ap Boolean (c .before .enum-told2 .given .1)) in
+    first-operand p x .listed)
+    (λ c κs. let s = (c .before .before .before .before .before .before .before) in let p = s .pre .1 in
+    let x = boolean-parts (p .expression .tree) (p .expression .there)
+    (c .before .before .before .before .boolean-head .ensures
+    ∙ ap Boolean (c .before .before .enum-told2 .given .1)) in let o = second-operand p x (c .end-at3 .ensures) in
+    let m = s .pre .0 in (omega arith, o .can))
     (λ c κs. search needs)
     (λ c. search needs)
-    (λ c. let s = (c .before .before .before .before .before) in let p = s .pre .1 in let i = expression-starts (p .expression) in omega arith)
-    (λ c κs. let s = (c .before .before .before .before .before) in let p = s .pre .1 in let x = boolean-parts (p .expression .tree) (p .expression .there) (c .before .before .boolean-head .ensures ∙ ap Boolean (c .enum-told3 .given .1)) in let o = only-operand p x in let m = s .pre .0 in (omega arith, o .can))
+    (λ c. let s = (c .before .before .before .before .before) in let p = s .pre .1 in
+    let i = expression-starts (p .expression) in omega arith)
+    (λ c κs. let s = (c .before .before .before .before .before) in let p = s .pre .1 in
+    let x = boolean-parts (p .expression .tree) (p .expression .there) (c .before .before .boolean-head .ensures
+    ∙ ap Boolean (c .enum-told3 .given .1)) in let o = only-operand p x in let m = s .pre .0 in (omega arith, o .can))
     (λ c κs. search needs)
-    (λ c. let s = (c .before .before .before .before .before .before .before .before .before .before) in let p = s .pre .1 in compare-tested (p .ends-of) (c .before .before .end-at .ensures) (c .before .before .before .before .before .before .before .boolean-head .ensures ∙ ap Boolean (c .before .before .before .before .before .head .given .1)) (c .before .before .before .eval-arithmetic .ensures) (c .before .eval-arithmetic2 .ensures) (c .compare-both .ensures))
-    (λ c. truth-tested (c .before .head2 .given .0 .0) (c .before .before .before .boolean-head .ensures ∙ ap Boolean (c .before .head2 .given .1)))
-    (λ c. let s = (c .before .before .before .before .before .before .before .before .before) in let p = s .pre .1 in and-tested (p .ends-of) (c .before .before .end-at2 .ensures) (c .before .before .before .before .before .before .boolean-head .ensures ∙ ap Boolean (c .before .before .before .before .enum-told .given .1)) (c .before .before .before .eval-boolean .ensures) (c .before .eval-boolean2 .ensures) (c .both .ensures))
-    (λ c. let s = (c .before .before .before .before .before .before .before .before .before) in let p = s .pre .1 in or-tested (p .ends-of) (c .before .before .end-at3 .ensures) (c .before .before .before .before .before .before .boolean-head .ensures ∙ ap Boolean (c .before .before .before .before .enum-told2 .given .1)) (c .before .before .before .eval-boolean3 .ensures) (c .before .eval-boolean4 .ensures) (c .either .ensures))
-    (λ c. not-tested (c .before .before .before .before .boolean-head .ensures ∙ ap Boolean (c .before .before .enum-told3 .given .1)) (c .before .eval-boolean5 .ensures) (c .negate .ensures))
+    (λ c. let s = (c .before .before .before .before .before .before .before .before .before .before) in
+    let p = s .pre .1 in
+    compare-tested (p .ends-of) (c .before .before .end-at .ensures)
+    (c .before .before .before .before .before .before .before .boolean-head .ensures
+    ∙ ap Boolean (c .before .before .before .before .before .head .given .1))
+    (c .before .before .before .eval-arithmetic .ensures) (c .before .eval-arithmetic2 .ensures)
+    (c .compare-both .ensures))
+    (λ c. truth-tested (c .before .head2 .given .0 .0) (c .before .before .before .boolean-head .ensures
+    ∙ ap Boolean (c .before .head2 .given .1)))
+    (λ c. let s = (c .before .before .before .before .before .before .before .before .before) in let p = s .pre .1 in
+    and-tested (p .ends-of) (c .before .before .end-at2 .ensures)
+    (c .before .before .before .before .before .before .boolean-head .ensures
+    ∙ ap Boolean (c .before .before .before .before .enum-told .given .1))
+    (c .before .before .before .eval-boolean .ensures) (c .before .eval-boolean2 .ensures) (c .both .ensures))
+    (λ c. let s = (c .before .before .before .before .before .before .before .before .before) in let p = s .pre .1 in
+    or-tested (p .ends-of) (c .before .before .end-at3 .ensures)
+    (c .before .before .before .before .before .before .boolean-head .ensures
+    ∙ ap Boolean (c .before .before .before .before .enum-told2 .given .1))
+    (c .before .before .before .eval-boolean3 .ensures) (c .before .eval-boolean4 .ensures) (c .either .ensures))
+    (λ c. not-tested (c .before .before .before .before .boolean-head .ensures
+    ∙ ap Boolean (c .before .before .enum-told3 .given .1)) (c .before .eval-boolean5 .ensures) (c .negate .ensures))

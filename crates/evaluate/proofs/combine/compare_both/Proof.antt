@@ -16,6 +16,11 @@ compare-both-spec =
     (λ c κs. search needs)
     (λ c. search needs)
     (λ c. search needs)
-    (λ c. let x = c .before .before .before .before in compare-worked (record { sfits = x .known-told .given .0 .1 }) (record { sfits = c .before .known-told2 .given .0 .1 }) (x .before .a .given .1) (c .before .before .b .given .1) (x .before .before .before .args .c) _ (c .relate .ensures))
-    (λ c. ap₂ (λ v w. compared (c .before .before .before .before .before .before .args .c) (outcome v) (outcome w)) (sym (c .before .before .before .before .a .given .1)) (sym (c .before .b2 .given .1)))
-    (λ c. let s = c .before .before .before in ap (λ v. compared (s .args .c) (outcome v) (outcome (s .args .b))) (sym (c .before .a2 .given .1))))
+    (λ c. let x = c .before .before .before .before in
+    compare-worked (record { sfits = x .known-told .given .0 .1 })
+    (record { sfits = c .before .known-told2 .given .0 .1 }) (x .before .a .given .1) (c .before .before .b .given .1)
+    (x .before .before .before .args .c) _ (c .relate .ensures))
+    (λ c. ap₂ (λ v w. compared (c .before .before .before .before .before .before .args .c) (outcome v) (outcome w))
+    (sym (c .before .before .before .before .a .given .1)) (sym (c .before .b2 .given .1)))
+    (λ c. let s = c .before .before .before in
+    ap (λ v. compared (s .args .c) (outcome v) (outcome (s .args .b))) (sym (c .before .a2 .given .1))))

@@ -14,7 +14,11 @@ either-spec =
     (λ c. search needs)
     (λ c. search needs)
     (λ c. search needs)
-    (λ c. let x = c .before .before .before .before .before in either-true (x .a .given .1) (c .before .before .b .given .1) (c .if1 .taken))
-    (λ c. let x = c .before .before .before .before .before in either-false (x .a .given .1) (c .before .before .b .given .1) (c .if1 .left))
-    (λ c. ap₂ (λ v w. disjoined (testOutcome v) (testOutcome w)) (sym (c .before .before .before .before .a .given .1)) (sym (c .before .b2 .given .1)))
-    (λ c. ap (λ v. disjoined (testOutcome v) (testOutcome (c .before .before .before .args .b))) (sym (c .before .a2 .given .1))))
+    (λ c. let x = c .before .before .before .before .before in
+    either-true (x .a .given .1) (c .before .before .b .given .1) (c .if1 .taken))
+    (λ c. let x = c .before .before .before .before .before in
+    either-false (x .a .given .1) (c .before .before .b .given .1) (c .if1 .left))
+    (λ c. ap₂ (λ v w. disjoined (testOutcome v) (testOutcome w)) (sym (c .before .before .before .before .a .given .1))
+    (sym (c .before .b2 .given .1)))
+    (λ c. ap (λ v. disjoined (testOutcome v) (testOutcome (c .before .before .before .args .b)))
+    (sym (c .before .a2 .given .1))))

@@ -15,9 +15,18 @@ element-spec =
     (λ c. search needs)
     (λ c κs. search needs)
     (λ c. search needs)
-    (λ c κs. let s = c .before .before .before .before .before .before in let h = index-small (s .args .i) (c .before .before .before .to-index .ensures) (c .before .n .given .1) in let l = s .pre in omega arith)
+    (λ c κs. let s = c .before .before .before .before .before .before in
+    let h = index-small (s .args .i) (c .before .before .before .to-index .ensures) (c .before .n .given .1) in
+    let l = s .pre in omega arith)
     (λ c. search needs)
     (λ c. search needs)
-    (λ c. let s = c .before .before .before .before .before .before .before in let x = c .before .before .before .before in entered-at (s .args .i) (x .to-index .ensures) (s .args .scratch .now) (x .before .enum-told .given .1) (c .before .before .n .given .1) (record { sfits = c .value-at .ok }) (c .value-at .ensures))
-    (λ c. let s = c .before .before .before .before .before .before in let x = c .before .before .before in entered-stops (s .args .i) (x .to-index .ensures) (s .args .scratch .now) (x .before .enum-told .given .1) (c .before .k .given .1))
-    (λ c. let s = c .before .before .before in ap (λ v. entered (fillOutcome v (s .args .scratch .now)) (outcome (s .args .i))) (sym (c .before .array .given .1))))
+    (λ c. let s = c .before .before .before .before .before .before .before in
+    let x = c .before .before .before .before in
+    entered-at (s .args .i) (x .to-index .ensures) (s .args .scratch .now) (x .before .enum-told .given .1)
+    (c .before .before .n .given .1) (record { sfits = c .value-at .ok }) (c .value-at .ensures))
+    (λ c. let s = c .before .before .before .before .before .before in let x = c .before .before .before in
+    entered-stops (s .args .i) (x .to-index .ensures) (s .args .scratch .now) (x .before .enum-told .given .1)
+    (c .before .k .given .1))
+    (λ c. let s = c .before .before .before in
+    ap (λ v. entered (fillOutcome v (s .args .scratch .now)) (outcome (s .args .i)))
+    (sym (c .before .array .given .1))))

@@ -16,6 +16,11 @@ operate-both-spec =
     (λ c κs. search needs)
     (λ c. search needs)
     (λ c. search needs)
-    (λ c. let x = c .before .before .before .before in operate-worked (record { sfits = x .known-told .given .0 .1 }) (record { sfits = c .before .known-told2 .given .0 .1 }) (x .before .a .given .1) (c .before .before .b .given .1) (x .before .before .before .args .o) _ (c .operate .ensures))
-    (λ c. ap₂ (λ v w. operated (c .before .before .before .before .before .before .args .o) (outcome v) (outcome w)) (sym (c .before .before .before .before .a .given .1)) (sym (c .before .b2 .given .1)))
-    (λ c. let s = c .before .before .before in ap (λ v. operated (s .args .o) (outcome v) (outcome (s .args .b))) (sym (c .before .a2 .given .1))))
+    (λ c. let x = c .before .before .before .before in
+    operate-worked (record { sfits = x .known-told .given .0 .1 })
+    (record { sfits = c .before .known-told2 .given .0 .1 }) (x .before .a .given .1) (c .before .before .b .given .1)
+    (x .before .before .before .args .o) _ (c .operate .ensures))
+    (λ c. ap₂ (λ v w. operated (c .before .before .before .before .before .before .args .o) (outcome v) (outcome w))
+    (sym (c .before .before .before .before .a .given .1)) (sym (c .before .b2 .given .1)))
+    (λ c. let s = c .before .before .before in
+    ap (λ v. operated (s .args .o) (outcome v) (outcome (s .args .b))) (sym (c .before .a2 .given .1))))

@@ -1,5 +1,7 @@
--- The cycle of calls in which arithmetic and array expressions are worked out meets its contracts: what comes of an expression is
--- what comes of its operands. The measure is the words left from the expression on, twice; one less for a select's own function.
+-- The cycle of calls in which arithmetic and array expressions are worked out meets its contracts: what comes of an
+-- expression is
+-- what comes of its operands. The measure is the words left from the expression on, twice; one less for a select's own
+-- function.
 -- Assumes nothing.
 use mathlib.Core.Path.{sym, ap, _∙_}
 use native.Mathlib.Omega.{arith}
@@ -7,7 +9,8 @@ use Prim.Native.Nat.{_+_}
 use Rattle.words.specs.declared.Word.the-variants.{Arithmetic, Array}
 use Rattle.heads.proofs.Heads.{expression-starts}
 use Rattle.heads.proofs.Parts.{arithmetic-parts, array-parts}
-use Rattle.evaluate.proofs.Places.{left, first-operand, second-operand, first-of-three, second-of-three, third-of-three}
+use Rattle.evaluate.proofs.Places.{left, first-operand, second-operand, first-of-three, second-of-three}
+use Rattle.evaluate.proofs.Places.{third-of-three}
 use Rattle.evaluate.proofs.Results.{constant-worked, scalar-worked, operation-worked, select-worked}
 use Rattle.evaluate.proofs.Results.{identifier-filled, zeros-filled, update-filled}
 use borrow.Author.Needs.{needs}
@@ -97,20 +100,54 @@ pub +eval-arithmetic+eval-array+eval-select-spec : {M : Type 1} → statement M
     (λ c κs. (c .before .before) .pre .1 .expression)
     (λ c. search needs)
     (λ c. search needs)
-    (λ c. let s = (c .before .before .before .before .before .before) in let p = s .pre .1 in let x = arithmetic-parts (p .expression .tree) (p .expression .there) (c .before .before .before .arithmetic-head .ensures ∙ ap Arithmetic (c .before .head2 .given .1)) in let h = x .1 in omega arith)
-    (λ c κs. let s = (c .before .before .before .before .before .before) in let p = s .pre .1 in let x = arithmetic-parts (p .expression .tree) (p .expression .there) (c .before .before .before .arithmetic-head .ensures ∙ ap Arithmetic (c .before .head2 .given .1)) in let h = x .1 in let l = p .scalars-sized in omega arith)
+    (λ c. let s = (c .before .before .before .before .before .before) in let p = s .pre .1 in
+    let x = arithmetic-parts (p .expression .tree) (p .expression .there)
+    (c .before .before .before .arithmetic-head .ensures ∙ ap Arithmetic (c .before .head2 .given .1)) in
+    let h = x .1 in omega arith)
+    (λ c κs. let s = (c .before .before .before .before .before .before) in let p = s .pre .1 in
+    let x = arithmetic-parts (p .expression .tree) (p .expression .there)
+    (c .before .before .before .arithmetic-head .ensures ∙ ap Arithmetic (c .before .head2 .given .1)) in
+    let h = x .1 in let l = p .scalars-sized in omega arith)
     (λ c. search needs)
-    (λ c. let s = (c .before .before .before .before .before .before) in let p = s .pre .1 in let i = expression-starts (p .expression) in omega arith)
-    (λ c κs. let s = (c .before .before .before .before .before .before) in let p = s .pre .1 in let x = arithmetic-parts (p .expression .tree) (p .expression .there) (c .before .before .before .arithmetic-head .ensures ∙ ap Arithmetic (c .before .head3 .given .1)) in let o = first-operand p x in let m = s .pre .0 in (omega arith, o .can))
-    (λ c. let s = (c .before .before .before .before .before .before .before) in let p = s .pre .1 in let i = expression-starts (p .expression) in omega arith)
-    (λ c κs. let s = (c .before .before .before .before .before .before .before) in let p = s .pre .1 in let x = arithmetic-parts (p .expression .tree) (p .expression .there) (c .before .before .before .before .arithmetic-head .ensures ∙ ap Arithmetic (c .before .before .head3 .given .1)) in first-operand p x .listed)
-    (λ c κs. let s = (c .before .before .before .before .before .before .before .before) in let p = s .pre .1 in let x = arithmetic-parts (p .expression .tree) (p .expression .there) (c .before .before .before .before .before .arithmetic-head .ensures ∙ ap Arithmetic (c .before .before .before .head3 .given .1)) in let o = second-operand p x (c .end-at .ensures) in let m = s .pre .0 in (omega arith, o .can))
+    (λ c. let s = (c .before .before .before .before .before .before) in let p = s .pre .1 in
+    let i = expression-starts (p .expression) in omega arith)
+    (λ c κs. let s = (c .before .before .before .before .before .before) in let p = s .pre .1 in
+    let x = arithmetic-parts (p .expression .tree) (p .expression .there)
+    (c .before .before .before .arithmetic-head .ensures ∙ ap Arithmetic (c .before .head3 .given .1)) in
+    let o = first-operand p x in let m = s .pre .0 in (omega arith, o .can))
+    (λ c. let s = (c .before .before .before .before .before .before .before) in let p = s .pre .1 in
+    let i = expression-starts (p .expression) in omega arith)
+    (λ c κs. let s = (c .before .before .before .before .before .before .before) in let p = s .pre .1 in
+    let x = arithmetic-parts (p .expression .tree) (p .expression .there)
+    (c .before .before .before .before .arithmetic-head .ensures
+    ∙ ap Arithmetic (c .before .before .head3 .given .1)) in first-operand p x .listed)
+    (λ c κs. let s = (c .before .before .before .before .before .before .before .before) in let p = s .pre .1 in
+    let x = arithmetic-parts (p .expression .tree) (p .expression .there)
+    (c .before .before .before .before .before .arithmetic-head .ensures
+    ∙ ap Arithmetic (c .before .before .before .head3 .given .1)) in let o = second-operand p x (c .end-at .ensures) in
+    let m = s .pre .0 in (omega arith, o .can))
     (λ c κs. search needs)
     (λ c. search needs)
-    (λ c κs. let s = (c .before .before .before .before .before) in let p = s .pre .1 in let m = s .pre .0 in (omega arith, record { can = p; head = c .before .before .arithmetic-head .ensures ∙ ap Arithmetic (c .enum-told .given .1) }))
-    (λ c. constant-worked (c .before .head .given .0 .0) (record { sfits = c .known-told .given .0 .1 }) (c .before .before .before .arithmetic-head .ensures ∙ ap Arithmetic (c .before .head .given .1)))
-    (λ c. scalar-worked (c .before .before .head2 .given .0 .0) _ (record { sfits = c .value-at .ok }) (c .before .before .before .before .arithmetic-head .ensures ∙ ap Arithmetic (c .before .before .head2 .given .1)) (c .value-at .ensures))
-    (λ c. let s = (c .before .before .before .before .before .before .before .before .before .before) in let p = s .pre .1 in operation-worked (p .ends-of) (c .before .before .end-at .ensures) (c .before .before .before .before .before .before .before .arithmetic-head .ensures ∙ ap Arithmetic (c .before .before .before .before .before .head3 .given .1)) (c .before .before .before .eval-arithmetic .ensures) (c .before .eval-arithmetic2 .ensures) (c .operate-both .ensures))
+    (λ c κs. let s = (c .before .before .before .before .before) in let p = s .pre .1 in let m = s .pre .0 in (
+      omega arith,
+      record {
+        can = p;
+        head = c .before .before .arithmetic-head .ensures
+            ∙ ap Arithmetic (c .enum-told .given .1);
+      },
+    ))
+    (λ c. constant-worked (c .before .head .given .0 .0) (record { sfits = c .known-told .given .0 .1 })
+    (c .before .before .before .arithmetic-head .ensures ∙ ap Arithmetic (c .before .head .given .1)))
+    (λ c. scalar-worked (c .before .before .head2 .given .0 .0) _ (record { sfits = c .value-at .ok })
+    (c .before .before .before .before .arithmetic-head .ensures
+    ∙ ap Arithmetic (c .before .before .head2 .given .1)) (c .value-at .ensures))
+    (λ c. let s = (c .before .before .before .before .before .before .before .before .before .before) in
+    let p = s .pre .1 in
+    operation-worked (p .ends-of) (c .before .before .end-at .ensures)
+    (c .before .before .before .before .before .before .before .arithmetic-head .ensures
+    ∙ ap Arithmetic (c .before .before .before .before .before .head3 .given .1))
+    (c .before .before .before .eval-arithmetic .ensures) (c .before .eval-arithmetic2 .ensures)
+    (c .operate-both .ensures))
     (λ c. c .eval-select .ensures))
     (λ t. eval-array-lts.spec (
       array-head-reads.Asked,
@@ -132,25 +169,67 @@ pub +eval-arithmetic+eval-array+eval-select-spec : {M : Type 1} → statement M
     eval-array.Post
     (λ c κs. (c .before .before) .pre .1 .0 .expression)
     (λ c. search needs)
-    (λ c. let s = (c .before .before .before .before .before .before) in let p = s .pre .1 .0 in let x = array-parts (p .expression .tree) (p .expression .there) (c .before .before .before .array-head .ensures ∙ ap Array (c .before .head .given .1)) in let h = x .1 in omega arith)
-    (λ c κs. let s = (c .before .before .before .before .before .before .before) in let p = s .pre .1 .0 in let x = array-parts (p .expression .tree) (p .expression .there) (c .before .before .before .before .array-head .ensures ∙ ap Array (c .before .before .head .given .1)) in let h = x .1 in (omega arith, p .values-sized, s .pre .1 .1))
+    (λ c. let s = (c .before .before .before .before .before .before) in let p = s .pre .1 .0 in
+    let x = array-parts (p .expression .tree) (p .expression .there) (c .before .before .before .array-head .ensures
+    ∙ ap Array (c .before .head .given .1)) in let h = x .1 in omega arith)
+    (λ c κs. let s = (c .before .before .before .before .before .before .before) in let p = s .pre .1 .0 in
+    let x = array-parts (p .expression .tree) (p .expression .there)
+    (c .before .before .before .before .array-head .ensures ∙ ap Array (c .before .before .head .given .1)) in
+    let h = x .1 in (omega arith, p .values-sized, s .pre .1 .1))
     (λ c. search needs)
     (λ c κs. (c .before .before .before .before .before .before) .pre .1 .1)
     (λ c. search needs)
-    (λ c. let s = (c .before .before .before .before .before) in let p = s .pre .1 .0 in let i = expression-starts (p .expression) in omega arith)
-    (λ c κs. let s = (c .before .before .before .before .before .before) in let p = s .pre .1 .0 in let x = array-parts (p .expression .tree) (p .expression .there) (c .before .before .before .array-head .ensures ∙ ap Array (c .before .enum-told2 .given .1)) in let o = first-of-three p x in let m = s .pre .0 in (omega arith, (o .can, s .pre .1 .1)))
-    (λ c. let s = (c .before .before .before .before .before .before .before .before) in let p = s .pre .1 .0 in let i = expression-starts (p .expression) in omega arith)
-    (λ c κs. let s = (c .before .before .before .before .before .before .before .before) in let p = s .pre .1 .0 in let x = array-parts (p .expression .tree) (p .expression .there) (c .before .before .before .before .before .array-head .ensures ∙ ap Array (c .before .before .before .enum-told2 .given .1)) in first-of-three p x .listed)
-    (λ c κs. let s = (c .before .before .before .before .before .before .before .before .before) in let p = s .pre .1 .0 in let x = array-parts (p .expression .tree) (p .expression .there) (c .before .before .before .before .before .before .array-head .ensures ∙ ap Array (c .before .before .before .before .enum-told2 .given .1)) in let o = second-of-three p x (c .end-at .ensures) in let m = s .pre .0 in (omega arith, o .can))
-    (λ c κs. let s = (c .before .before .before .before .before .before .before .before .before .before) in let p = s .pre .1 .0 in let x = array-parts (p .expression .tree) (p .expression .there) (c .before .before .before .before .before .before .before .array-head .ensures ∙ ap Array (c .before .before .before .before .before .enum-told2 .given .1)) in second-of-three p x (c .before .end-at .ensures) .listed)
-    (λ c κs. let s = (c .before .before .before .before .before .before .before .before .before .before .before) in let p = s .pre .1 .0 in let x = array-parts (p .expression .tree) (p .expression .there) (c .before .before .before .before .before .before .before .before .array-head .ensures ∙ ap Array (c .before .before .before .before .before .before .enum-told2 .given .1)) in let o = third-of-three p x (c .before .before .end-at .ensures) (c .end-at2 .ensures) in let m = s .pre .0 in (omega arith, o .can))
-    (λ c κs. let l = c .before .before .before .before .before .before .eval-array .kept .1 .1 .1 .1 .1 .0 in let k = (c .before .before .before .before .before .before .before .before .before .before .before .before .before) .pre .1 .1 in omega arith)
+    (λ c. let s = (c .before .before .before .before .before) in let p = s .pre .1 .0 in
+    let i = expression-starts (p .expression) in omega arith)
+    (λ c κs. let s = (c .before .before .before .before .before .before) in let p = s .pre .1 .0 in
+    let x = array-parts (p .expression .tree) (p .expression .there) (c .before .before .before .array-head .ensures
+    ∙ ap Array (c .before .enum-told2 .given .1)) in let o = first-of-three p x in let m = s .pre .0 in
+    (omega arith, (o .can, s .pre .1 .1)))
+    (λ c. let s = (c .before .before .before .before .before .before .before .before) in let p = s .pre .1 .0 in
+    let i = expression-starts (p .expression) in omega arith)
+    (λ c κs. let s = (c .before .before .before .before .before .before .before .before) in let p = s .pre .1 .0 in
+    let x = array-parts (p .expression .tree) (p .expression .there)
+    (c .before .before .before .before .before .array-head .ensures
+    ∙ ap Array (c .before .before .before .enum-told2 .given .1)) in first-of-three p x .listed)
+    (λ c κs. let s = (c .before .before .before .before .before .before .before .before .before) in
+    let p = s .pre .1 .0 in
+    let x = array-parts (p .expression .tree) (p .expression .there)
+    (c .before .before .before .before .before .before .array-head .ensures
+    ∙ ap Array (c .before .before .before .before .enum-told2 .given .1)) in
+    let o = second-of-three p x (c .end-at .ensures) in let m = s .pre .0 in (omega arith, o .can))
+    (λ c κs. let s = (c .before .before .before .before .before .before .before .before .before .before) in
+    let p = s .pre .1 .0 in
+    let x = array-parts (p .expression .tree) (p .expression .there)
+    (c .before .before .before .before .before .before .before .array-head .ensures
+    ∙ ap Array (c .before .before .before .before .before .enum-told2 .given .1)) in
+    second-of-three p x (c .before .end-at .ensures) .listed)
+    (λ c κs. let s = (c .before .before .before .before .before .before .before .before .before .before .before) in
+    let p = s .pre .1 .0 in
+    let x = array-parts (p .expression .tree) (p .expression .there)
+    (c .before .before .before .before .before .before .before .before .array-head .ensures
+    ∙ ap Array (c .before .before .before .before .before .before .enum-told2 .given .1)) in
+    let o = third-of-three p x (c .before .before .end-at .ensures) (c .end-at2 .ensures) in let m = s .pre .0 in
+    (omega arith, o .can))
+    (λ c κs. let l = c .before .before .before .before .before .before .eval-array .kept .1 .1 .1 .1 .1 .0 in
+    let k = (c .before .before .before .before .before .before .before .before .before .before .before .before .before)
+    .pre .1 .1 in omega arith)
     (λ c. search needs)
-    (λ c. identifier-filled (c .before .before .before .before .head .given .0 .0) _ (c .before .before .before .before .before .before .array-head .ensures ∙ ap Array (c .before .before .before .before .head .given .1)) (c .before .fetch .ensures))
+    (λ c. identifier-filled (c .before .before .before .before .head .given .0 .0) _
+    (c .before .before .before .before .before .before .array-head .ensures
+    ∙ ap Array (c .before .before .before .before .head .given .1)) (c .before .fetch .ensures))
     (λ c. search needs)
-    (λ c. zeros-filled _ (c .before .before .before .before .before .array-head .ensures ∙ ap Array (c .before .before .before .enum-told .given .1)) (c .before .clear .ensures))
+    (λ c. zeros-filled _ (c .before .before .before .before .before .array-head .ensures
+    ∙ ap Array (c .before .before .before .enum-told .given .1)) (c .before .clear .ensures))
     (λ c. search needs)
-    (λ c. let s = (c .before .before .before .before .before .before .before .before .before .before .before .before .before .before .before) in let p = s .pre .1 .0 in update-filled (p .ends-of) (c .before .before .before .before .before .before .end-at .ensures) (c .before .before .before .before .end-at2 .ensures) (c .before .before .before .before .before .before .before .before .before .before .before .before .array-head .ensures ∙ ap Array (c .before .before .before .before .before .before .before .before .before .before .enum-told2 .given .1)) (c .before .before .before .before .before .before .before .before .eval-array .ensures) (c .before .before .before .before .before .eval-arithmetic .ensures) (c .before .before .before .eval-arithmetic2 .ensures) (c .before .replace .ensures)))
+    (λ c. let s = (c .before .before .before .before .before .before .before .before .before .before .before .before
+    .before .before .before) in let p = s .pre .1 .0 in
+    update-filled (p .ends-of) (c .before .before .before .before .before .before .end-at .ensures)
+    (c .before .before .before .before .end-at2 .ensures)
+    (c .before .before .before .before .before .before .before .before .before .before .before .before .array-head
+    .ensures ∙ ap Array (c .before .before .before .before .before .before .before .before .before .before .enum-told2
+    .given .1)) (c .before .before .before .before .before .before .before .before .eval-array .ensures)
+    (c .before .before .before .before .before .eval-arithmetic .ensures)
+    (c .before .before .before .eval-arithmetic2 .ensures) (c .before .replace .ensures)))
     λ t. eval-select-lts.spec (
       eval-array-below t,
       eval-array.Post,
@@ -163,12 +242,23 @@ pub +eval-arithmetic+eval-array+eval-select-spec : {M : Type 1} → statement M
     )
     (eval-select-at t)
     eval-select.Post
-    (λ c. let s = (c .before .before) in let p = s .pre .1 in let i = expression-starts (p .can .expression) in omega arith)
+    (λ c. let s = (c .before .before) in let p = s .pre .1 in let i = expression-starts (p .can .expression) in
+    omega arith)
     (λ c. search needs)
-    (λ c κs. let s = (c .before .before .before) in let p = s .pre .1 in let x = arithmetic-parts (p .can .expression .tree) (p .can .expression .there) (p .head) in let o = first-operand (p .can) x in let m = s .pre .0 in (omega arith, (o .can, search needs)))
-    (λ c. let s = (c .before .before .before .before .before) in let p = s .pre .1 in let i = expression-starts (p .can .expression) in omega arith)
-    (λ c κs. let s = (c .before .before .before .before .before) in let p = s .pre .1 in let x = arithmetic-parts (p .can .expression .tree) (p .can .expression .there) (p .head) in first-operand (p .can) x .listed)
-    (λ c κs. let s = (c .before .before .before .before .before .before) in let p = s .pre .1 in let x = arithmetic-parts (p .can .expression .tree) (p .can .expression .there) (p .head) in let o = second-operand (p .can) x (c .end-at .ensures) in let m = s .pre .0 in (omega arith, o .can))
+    (λ c κs. let s = (c .before .before .before) in let p = s .pre .1 in
+    let x = arithmetic-parts (p .can .expression .tree) (p .can .expression .there) (p .head) in
+    let o = first-operand (p .can) x in let m = s .pre .0 in (omega arith, (o .can, search needs)))
+    (λ c. let s = (c .before .before .before .before .before) in let p = s .pre .1 in
+    let i = expression-starts (p .can .expression) in omega arith)
+    (λ c κs. let s = (c .before .before .before .before .before) in let p = s .pre .1 in
+    let x = arithmetic-parts (p .can .expression .tree) (p .can .expression .there) (p .head) in
+    first-operand (p .can) x .listed)
+    (λ c κs. let s = (c .before .before .before .before .before .before) in let p = s .pre .1 in
+    let x = arithmetic-parts (p .can .expression .tree) (p .can .expression .there) (p .head) in
+    let o = second-operand (p .can) x (c .end-at .ensures) in let m = s .pre .0 in (omega arith, o .can))
     (λ c. search needs)
     (λ c κs. search needs)
-    (λ c. let s = (c .before .before .before .before .before .before .before .before .before) in let p = s .pre .1 in select-worked (p .can .ends-of) (c .before .before .before .end-at .ensures) (p .head) (c .before .before .before .before .before .eval-array .ensures) (c .before .before .eval-arithmetic .ensures) (c .element .ensures))
+    (λ c. let s = (c .before .before .before .before .before .before .before .before .before) in let p = s .pre .1 in
+    select-worked (p .can .ends-of) (c .before .before .before .end-at .ensures) (p .head)
+    (c .before .before .before .before .before .eval-array .ensures) (c .before .before .eval-arithmetic .ensures)
+    (c .element .ensures))

@@ -12,4 +12,5 @@ clear-spec =
     (λ c. search needs)
     (λ c κs. search needs)
     (λ c. search needs)
-    (λ c. let s = c .before .before .before .before in c .before .copy .ensures ∙ cleared (s .args .scratch .now) (s .pre)))
+    (λ c. let s = c .before .before .before .before in
+    c .before .copy .ensures ∙ cleared (s .args .scratch .now) (s .pre)))

@@ -21,23 +21,37 @@ record Copied (d₀ : List ℤ) (at : ℕ) (s : List ℤ) (from n : ℕ) (d : Li
   long : length d ≡ length d₀
   is : d ≡ paste d₀ at (drop from s) j
 
-copied-none : (d₀ : List ℤ) (at : ℕ) (s : List ℤ) (from n : ℕ) → at + n ≤ length d₀ → from + n ≤ length s → Copied d₀ at s from n d₀ 0
-copied-none d₀ at s from n a b = record { upto = omega arith; to-fits = a; from-fits = b; long = refl; is = paste-zero d₀ at (drop from s) }
+copied-none : (d₀ : List ℤ) (at : ℕ) (s : List ℤ) (from n : ℕ) → at + n ≤ length d₀ → from + n ≤ length s →
+    Copied d₀ at s from n d₀ 0
+copied-none d₀ at s from n a b = record {
+  upto = omega arith;
+  to-fits = a;
+  from-fits = b;
+  long = refl;
+  is =
+      paste-zero d₀ at (drop from s);
+}
 
-copied-all : {d₀ : List ℤ} {at : ℕ} {s : List ℤ} {from n : ℕ} {d : List ℤ} {j : ℕ} → Copied d₀ at s from n d j → n ≤ j → d ≡ paste d₀ at (drop from s) n
+copied-all : {d₀ : List ℤ} {at : ℕ} {s : List ℤ} {from n : ℕ} {d : List ℤ} {j : ℕ} → Copied d₀ at s from n d j →
+    n ≤ j → d ≡ paste d₀ at (drop from s) n
 copied-all {d₀} {at} {s} {from} {n} {d} {j} i h =
     let u = i .upto in
     let e : j ≡ n = omega arith in
     i .is ∙ ap (paste d₀ at (drop from s)) e
 
-copied-more : {d₀ : List ℤ} {at : ℕ} {s : List ℤ} {from n : ℕ} {d : List ℤ} {j : ℕ} → Copied d₀ at s from n d j → j < n → {d′ : List ℤ} (v : ℤ) → SFits w64 v → v ≡ getD s (from + j) (pos 0) → d′ ≡ set d (at + j) (toZ w64 (ofZ w64 v)) → Copied d₀ at s from n d′ (j + 1)
-copied-more {d₀} {at} {s} {from} {n} {d} {j} i h {d′} v f e q = let u = i .upto in let a = i .to-fits in let b = i .from-fits in record {
-  upto = omega arith;
-  to-fits = i .to-fits;
-  from-fits = i .from-fits;
-  long = ap length q ∙ length-set d (at + j) _ ∙ i .long;
-  is = q ∙ ap (set d (at + j)) (toZ-ofZ f ∙ e ∙ sym (getD-drop from s j (pos 0))) ∙ rw (i .is) (paste-suc d₀ at (drop from s) j (pos 0) (omega arith) (rw length-drop (omega arith)) ∙ ap (paste d₀ at (drop from s)) (sym (add-one j)));
-}
+copied-more : {d₀ : List ℤ} {at : ℕ} {s : List ℤ} {from n : ℕ} {d : List ℤ} {j : ℕ} → Copied d₀ at s from n d j →
+    j < n → {d′ : List ℤ} (v : ℤ) → SFits w64 v → v ≡ getD s (from + j) (pos 0) →
+    d′ ≡ set d (at + j) (toZ w64 (ofZ w64 v)) → Copied d₀ at s from n d′ (j + 1)
+copied-more {d₀} {at} {s} {from} {n} {d} {j} i h {d′} v f e q = let u = i .upto in let a = i .to-fits in
+    let b = i .from-fits in record {
+      upto = omega arith;
+      to-fits = i .to-fits;
+      from-fits = i .from-fits;
+      long = ap length q ∙ length-set d (at + j) _ ∙ i .long;
+      is = q ∙ ap (set d (at + j)) (toZ-ofZ f ∙ e ∙ sym (getD-drop from s j (pos 0)))
+          ∙ rw (i .is) (paste-suc d₀ at (drop from s) j (pos 0) (omega arith) (rw length-drop (omega arith))
+          ∙ ap (paste d₀ at (drop from s)) (sym (add-one j)));
+    }
 
 abbrev Inv-loop : tie.InvT-loop
 Inv-loop dst₀ at src from n j₀ dst j = Copied dst₀ at src from n dst j
@@ -46,7 +60,8 @@ abbrev μ-loop : tie.MeasureT-loop
 μ-loop dst₀ at src from n j₀ dst j = n - j
 
 loop-holds : tie.Need-loop-holds Inv-loop μ-loop
-loop-holds c = copied-none (c .args .dst .now) (c .args .at) (c .args .src .now) (c .args .from) (c .args .n) (c .pre .0) (c .pre .1)
+loop-holds c = copied-none (c .args .dst .now) (c .args .at) (c .args .src .now) (c .args .from) (c .args .n)
+    (c .pre .0) (c .pre .1)
 
 add-value-at : tie.Need-add-value-at Inv-loop μ-loop
 add-value-at c = omega arith
@@ -69,7 +84,8 @@ loop-less c = omega arith
 loop-again : tie.Need-loop-again Inv-loop μ-loop
 loop-again c =
     let w = c .before .before .before in
-    copied-more (w .before .before .loop .inv) (w .before .loop-test .taken) _ (record { sfits = w .value-at .ok }) (w .value-at .ensures) (c .before .put-at .ensures)
+    copied-more (w .before .before .loop .inv) (w .before .loop-test .taken) _ (record { sfits = w .value-at .ok })
+    (w .value-at .ensures) (c .before .put-at .ensures)
 
 same-length : tie.Need-same-length Inv-loop μ-loop
 same-length c = c .before .loop .inv .long

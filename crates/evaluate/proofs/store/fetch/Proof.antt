@@ -12,4 +12,6 @@ fetch-spec =
     (λ c. search needs)
     (λ c κs. search needs)
     (λ c. search needs)
-    (λ c. let s = c .before .before .before in c .before .copy .ensures ∙ fetched (s .args .scratch .now) (s .args .values .now) (s .args .array) (s .pre .2) (s .pre .0) (s .pre .1)))
+    (λ c. let s = c .before .before .before in
+    c .before .copy .ensures
+    ∙ fetched (s .args .scratch .now) (s .args .values .now) (s .args .array) (s .pre .2) (s .pre .0) (s .pre .1)))

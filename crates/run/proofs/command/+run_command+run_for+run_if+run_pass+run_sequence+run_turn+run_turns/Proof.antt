@@ -1,5 +1,7 @@
--- The cycle of calls in which commands are run meets its contracts: what comes of a command is what comes of its parts, and a loop
--- goes on as long as one turn after the other is due. The measure is the words left from the command on, five times, so that
+-- The cycle of calls in which commands are run meets its contracts: what comes of a command is what comes of its parts,
+-- and a loop
+-- goes on as long as one turn after the other is due. The measure is the words left from the command on, five times, so
+-- that
 -- the functions for parts of a command come between it and its own parts; a loop's is the steps left.
 -- Assumes nothing.
 use mathlib.Core.Path.{refl, sym, ap, subst, _∙_}
@@ -134,7 +136,8 @@ run-turns-below t =
     and 4 run-turns-kinds.ps (falls 4 run-turns-kinds.ps _<_ μ-run-turns t) run-turns.Pre
 
 abbrev run-turns-Inv-loop : run-turns-lts.InvT-loop
-run-turns-Inv-loop w ends at kind scalars₀ values₀ left n₀ scalars values n = Going w at (lent scalars₀ values₀) left (lent scalars values) n
+run-turns-Inv-loop w ends at kind scalars₀ values₀ left n₀ scalars values n =
+    Going w at (lent scalars₀ values₀) left (lent scalars values) n
 
 abbrev run-turns-μ-loop : run-turns-lts.MeasureT-loop
 run-turns-μ-loop w ends at kind scalars₀ values₀ left n₀ scalars values n = n
@@ -176,20 +179,68 @@ pub +run-command+run-for+run-if+run-pass+run-sequence+run-turn+run-turns-spec :
     (λ c. search needs)
     (λ c κs. search needs)
     (λ c. search needs)
-    (λ c κs. let s = (c .before .before .before .before .before .before .before) in let p = s .pre .1 in let m = s .pre .0 in (omega arith, record { can = p; head = c .before .before .before .before .command-head .ensures ∙ ap Command (c .before .before .enum-told2 .given .1) }))
+    (λ c κs. let s = (c .before .before .before .before .before .before .before) in let p = s .pre .1 in
+    let m = s .pre .0 in (
+      omega arith,
+      record {
+        can = p;
+        head = c .before .before .before .before .command-head .ensures
+            ∙ ap Command (c .before .before .enum-told2 .given .1);
+      },
+    ))
     (λ c. search needs)
-    (λ c κs. let s = (c .before .before .before .before .before .before .before) in let p = s .pre .1 in record { can = p; head = c .before .before .before .before .command-head .ensures ∙ ap Command (c .before .before .enum-told3 .given .1) })
+    (λ c κs. let s = (c .before .before .before .before .before .before .before) in let p = s .pre .1 in
+    record {
+      can = p;
+      head = c .before .before .before .before .command-head .ensures
+          ∙ ap Command (c .before .before .enum-told3 .given .1);
+    })
     (λ c. search needs)
-    (λ c κs. let s = (c .before .before .before .before .before .before .before .before) in let p = s .pre .1 in record { can = p; head = c .before .before .before .before .before .command-head .ensures ∙ ap Command (c .before .before .before .head .given .1) })
+    (λ c κs. let s = (c .before .before .before .before .before .before .before .before) in let p = s .pre .1 in
+    record {
+      can = p;
+      head = c .before .before .before .before .before .command-head .ensures
+          ∙ ap Command (c .before .before .before .head .given .1);
+    })
     (λ c. search needs)
-    (λ c κs. let s = (c .before .before .before .before .before .before .before .before) in let p = s .pre .1 in record { can = p; head = c .before .before .before .before .before .command-head .ensures ∙ ap Command (c .before .before .before .head2 .given .1) })
+    (λ c κs. let s = (c .before .before .before .before .before .before .before .before) in let p = s .pre .1 in
+    record {
+      can = p;
+      head = c .before .before .before .before .before .command-head .ensures
+          ∙ ap Command (c .before .before .before .head2 .given .1);
+    })
     (λ c. search needs)
-    (λ c κs. let s = (c .before .before .before .before .before .before .before) in let p = s .pre .1 in let m = s .pre .0 in (omega arith, record { can = p; head = c .before .before .before .before .command-head .ensures ∙ ap Command (c .before .before .enum-told4 .given .1) }))
+    (λ c κs. let s = (c .before .before .before .before .before .before .before) in let p = s .pre .1 in
+    let m = s .pre .0 in (
+      omega arith,
+      record {
+        can = p;
+        head = c .before .before .before .before .command-head .ensures
+            ∙ ap Command (c .before .before .enum-told4 .given .1);
+      },
+    ))
     (λ c. search needs)
-    (λ c κs. let s = (c .before .before .before .before .before .before .before) in let p = s .pre .1 in let m = s .pre .0 in (omega arith, record { can = p; head = c .before .before .before .before .command-head .ensures ∙ ap Command (c .before .before .enum-told5 .given .1) }))
+    (λ c κs. let s = (c .before .before .before .before .before .before .before) in let p = s .pre .1 in
+    let m = s .pre .0 in (
+      omega arith,
+      record {
+        can = p;
+        head = c .before .before .before .before .command-head .ensures
+            ∙ ap Command (c .before .before .enum-told5 .given .1);
+      },
+    ))
     (λ c. search needs)
-    (λ c κs. let s = (c .before .before .before .before .before .before .before .before) in let p = s .pre .1 in let m = s .pre .0 in (omega arith, record { can = p; head = c .before .before .before .before .before .command-head .ensures ∙ ap Command (c .before .before .before .head3 .given .1) }))
-    (λ c. skip-runs (c .before .before .before .command-head .ensures ∙ ap Command (c .before .enum-told .given .1)) (c .pass-step .ensures))
+    (λ c κs. let s = (c .before .before .before .before .before .before .before .before) in let p = s .pre .1 in
+    let m = s .pre .0 in (
+      omega arith,
+      record {
+        can = p;
+        head = c .before .before .before .before .before .command-head .ensures
+            ∙ ap Command (c .before .before .before .head3 .given .1);
+      },
+    ))
+    (λ c. skip-runs (c .before .before .before .command-head .ensures
+    ∙ ap Command (c .before .enum-told .given .1)) (c .pass-step .ensures))
     (λ c. search needs)
     (λ c. search needs)
     (λ c. c .before .before .run-sequence .ensures)
@@ -207,7 +258,9 @@ pub +run-command+run-for+run-if+run-pass+run-sequence+run-turn+run-turns-spec :
     (λ c. c .before .before .run-if .ensures)
     (λ c. search needs)
     (λ c. search needs)
-    (λ c. while-runs (c .before .before .before .before .before .before .before .command-head .ensures ∙ ap Command (c .before .before .before .before .before .enum-told5 .given .1)) (c .before .before .run-turns .ensures))
+    (λ c. while-runs (c .before .before .before .before .before .before .before .command-head .ensures
+    ∙ ap Command (c .before .before .before .before .before .enum-told5 .given .1))
+    (c .before .before .run-turns .ensures))
     (λ c. search needs)
     (λ c. search needs)
     (λ c. c .before .before .run-for .ensures))
@@ -219,15 +272,28 @@ pub +run-command+run-for+run-if+run-pass+run-sequence+run-turn+run-turns-spec :
     )
     (run-for-at t)
     run-for.Post
-    (λ c κs. let s = (c .before .before .before) in let p = s .pre .1 in let h = for-small p .0 in let l = p .can .scalars-sized in omega arith)
+    (λ c κs. let s = (c .before .before .before) in let p = s .pre .1 in let h = for-small p .0 in
+    let l = p .can .scalars-sized in omega arith)
     (λ c. search needs)
-    (λ c κs. let s = (c .before .before .before .before .before .before .before .before .before .before) in let p = s .pre .1 in let m = s .pre .0 in (omega arith, record { can = can-again (p .can) (c .before .before .before .before .before .before .store-scalar .kept .0) refl; head = p .head }))
+    (λ c κs. let s = (c .before .before .before .before .before .before .before .before .before .before) in
+    let p = s .pre .1 in let m = s .pre .0 in (
+      omega arith,
+      record {
+        can = can-again (p .can)
+            (c .before .before .before .before .before .before .store-scalar .kept .0) refl;
+        head = p .head;
+      },
+    ))
     (λ c. search needs)
     (λ c. search needs)
     (λ c. search needs)
-    (λ c. let s = (c .before .before .before .before .before .before .before .before .before .before .before .before .before) in let p = s .pre .1 in for-ended (p .head) (c .before .before .before .before .before .before .before .before .before .store-scalar .ensures) (c .before .before .before .before .before .before .n .given .1) (c .before .before .run-turns .ensures))
+    (λ c. let s = (c .before .before .before .before .before .before .before .before .before .before .before .before
+    .before) in let p = s .pre .1 in
+    for-ended (p .head) (c .before .before .before .before .before .before .before .before .before .store-scalar
+    .ensures) (c .before .before .before .before .before .before .n .given .1) (c .before .before .run-turns .ensures))
     (λ c. search needs)
-    (λ c. let s = (c .before .before .before .before .before .before .before .before) in let p = s .pre .1 in for-stopped (p .head) (c .before .before .before .before .store-scalar .ensures) (c .before .k .given .1)))
+    (λ c. let s = (c .before .before .before .before .before .before .before .before) in let p = s .pre .1 in
+    for-stopped (p .head) (c .before .before .before .before .store-scalar .ensures) (c .before .k .given .1)))
     (λ t. run-if-lts.spec (
       eval-boolean-reads.Asked,
       eval-boolean-reads.Learnt,
@@ -242,24 +308,50 @@ pub +run-command+run-for+run-if+run-pass+run-sequence+run-turn+run-turns-spec :
     run-if.Post
     (λ c. let s = (c .before .before) in let p = s .pre .1 in let h = command-starts (p .can .command) in omega arith)
     (λ c κs. if-can ((c .before .before .before .before) .pre .1) .0)
-    (λ c. let s = (c .before .before .before .before .before) in let p = s .pre .1 in let h = command-starts (p .can .command) in omega arith)
+    (λ c. let s = (c .before .before .before .before .before) in let p = s .pre .1 in
+    let h = command-starts (p .can .command) in omega arith)
     (λ c κs. if-can ((c .before .before .before .before .before) .pre .1) .1 .listed)
     (λ c κs. search needs)
     (λ c. search needs)
-    (λ c κs. let s = (c .before .before .before .before .before .before .before .before .before .before .before .before) in let p = s .pre .1 in let b = if-then p (c .before .before .before .before .before .before .end-at .ensures) in let m = s .pre .0 in (omega (arith, b .place .later, b .place .inside), b .can))
+    (λ c κs. let s = (c .before .before .before .before .before .before .before .before .before .before .before
+    .before) in let p = s .pre .1 in
+    let b = if-then p (c .before .before .before .before .before .before .end-at .ensures) in let m = s .pre .0 in
+    (omega (arith, b .place .later, b .place .inside), b .can))
     (λ c. search needs)
-    (λ c κs. if-then ((c .before .before .before .before .before .before .before .before .before .before) .pre .1) (c .before .before .before .before .end-at .ensures) .place .listed)
-    (λ c κs. let s = (c .before .before .before .before .before .before .before .before .before .before .before .before .before) in let p = s .pre .1 in let b = if-else p (c .before .before .before .before .before .before .before .end-at .ensures) (c .before .before .end-at2 .ensures) in let m = s .pre .0 in (omega (arith, b .place .later, b .place .inside), b .can))
+    (λ c κs. if-then ((c .before .before .before .before .before .before .before .before .before .before) .pre .1)
+    (c .before .before .before .before .end-at .ensures) .place .listed)
+    (λ c κs. let s = (c .before .before .before .before .before .before .before .before .before .before .before .before
+    .before) in let p = s .pre .1 in
+    let b = if-else p (c .before .before .before .before .before .before .before .end-at .ensures)
+    (c .before .before .end-at2 .ensures) in let m = s .pre .0 in
+    (omega (arith, b .place .later, b .place .inside), b .can))
     (λ c. search needs)
     (λ c. search needs)
     (λ c. search needs)
-    (λ c. let s = (c .before .before .before .before .before .before .before .before .before .before .before .before .before .before .before) in let p = s .pre .1 in then-runs (p .can .ends-of) (p .head) (c .before .before .before .before .before .before .before .before .before .before .eval-boolean .ensures) (c .before .before .before .before .before .before .before .before .test-step .ensures) (c .before .before .before .before .before .before .n .given .1) (c .before .before .before .before .before .before .before .before .before .end-at .ensures) (c .before .before .run-command .ensures))
+    (λ c. let s = (c .before .before .before .before .before .before .before .before .before .before .before .before
+    .before .before .before) in let p = s .pre .1 in
+    then-runs (p .can .ends-of) (p .head)
+    (c .before .before .before .before .before .before .before .before .before .before .eval-boolean .ensures)
+    (c .before .before .before .before .before .before .before .before .test-step .ensures)
+    (c .before .before .before .before .before .before .n .given .1)
+    (c .before .before .before .before .before .before .before .before .before .end-at .ensures)
+    (c .before .before .run-command .ensures))
     (λ c. search needs)
     (λ c. search needs)
-    (λ c. let s = (c .before .before .before .before .before .before .before .before .before .before .before .before .before .before .before .before) in let p = s .pre .1 in else-runs (p .can .ends-of) (p .head) (c .before .before .before .before .before .before .before .before .before .before .before .eval-boolean .ensures) (c .before .before .before .before .before .before .before .before .before .test-step .ensures) (c .before .before .before .before .before .before .before .n2 .given .1) (c .before .before .before .before .before .before .before .before .before .before .end-at .ensures) (c .before .before .before .before .before .end-at2 .ensures) (c .before .before .run-command2 .ensures))
+    (λ c. let s = (c .before .before .before .before .before .before .before .before .before .before .before .before
+    .before .before .before .before) in let p = s .pre .1 in
+    else-runs (p .can .ends-of) (p .head)
+    (c .before .before .before .before .before .before .before .before .before .before .before .eval-boolean .ensures)
+    (c .before .before .before .before .before .before .before .before .before .test-step .ensures)
+    (c .before .before .before .before .before .before .before .n2 .given .1)
+    (c .before .before .before .before .before .before .before .before .before .before .end-at .ensures)
+    (c .before .before .before .before .before .end-at2 .ensures) (c .before .before .run-command2 .ensures))
     (λ c. search needs)
     (λ c. search needs)
-    (λ c. let s = (c .before .before .before .before .before .before .before .before .before .before) in let p = s .pre .1 in if-stopped (p .can .ends-of) (p .head) (c .before .before .before .before .before .eval-boolean .ensures) (c .before .before .before .test-step .ensures) (c .before .k .given .1)))
+    (λ c. let s = (c .before .before .before .before .before .before .before .before .before .before) in
+    let p = s .pre .1 in
+    if-stopped (p .can .ends-of) (p .head) (c .before .before .before .before .before .eval-boolean .ensures)
+    (c .before .before .before .test-step .ensures) (c .before .k .given .1)))
     (λ t. run-pass-lts.spec (
       body-at-reads.Asked,
       body-at-reads.Learnt,
@@ -271,11 +363,20 @@ pub +run-command+run-for+run-if+run-pass+run-sequence+run-turn+run-turns-spec :
     (run-pass-at t)
     run-pass.Post
     (λ c κs. let s = (c .before .before) in let p = s .pre .1 in loop-next (s .args .kind) p)
-    (λ c κs. let s = (c .before .before .before .before .before) in let p = s .pre .1 in let b = loop-body (s .args .kind) p (c .before .before .body-at .ensures) in let m = s .pre .0 in (omega (arith, b .place .later, b .place .inside), b .can))
-    (λ c κs. let s = (c .before .before .before .before .before .before .before .before .before) in let p = s .pre .1 in subst (CountsIn (s .args .kind)) (sym (c .before .before .before .run-command .kept .1 .1 .1 .0 ∙ p .can .scalars-sized)) (loop-counts (s .args .kind) p))
+    (λ c κs. let s = (c .before .before .before .before .before) in let p = s .pre .1 in
+    let b = loop-body (s .args .kind) p (c .before .before .body-at .ensures) in let m = s .pre .0 in
+    (omega (arith, b .place .later, b .place .inside), b .can))
+    (λ c κs. let s = (c .before .before .before .before .before .before .before .before .before) in
+    let p = s .pre .1 in
+    subst (CountsIn (s .args .kind)) (sym (c .before .before .before .run-command .kept .1 .1 .1 .0
+    ∙ p .can .scalars-sized)) (loop-counts (s .args .kind) p))
     (λ c. search needs)
     (λ c. search needs)
-    (λ c. let s = (c .before .before .before .before .before .before .before .before .before .before .before) in let p = s .pre .1 in pass-runs (p .can .ends-of) (s .args .kind) (p .head) (c .before .before .before .before .before .before .before .before .body-at .ensures) (c .before .before .before .before .before .run-command .ensures) (c .before .end-pass .ensures)))
+    (λ c. let s = (c .before .before .before .before .before .before .before .before .before .before .before) in
+    let p = s .pre .1 in
+    pass-runs (p .can .ends-of) (s .args .kind) (p .head)
+    (c .before .before .before .before .before .before .before .before .body-at .ensures)
+    (c .before .before .before .before .before .run-command .ensures) (c .before .end-pass .ensures)))
     (λ t. run-sequence-lts.spec (
       run-command-below t,
       run-command.Post,
@@ -285,18 +386,34 @@ pub +run-command+run-for+run-if+run-pass+run-sequence+run-turn+run-turns-spec :
     (run-sequence-at t)
     run-sequence.Post
     (λ c. let s = (c .before .before) in let p = s .pre .1 in let h = command-starts (p .can .command) in omega arith)
-    (λ c κs. let s = (c .before .before .before .before) in let p = s .pre .1 in let b = sequence-first p in let m = s .pre .0 in (omega (arith, b .place .later, b .place .inside), b .can))
+    (λ c κs. let s = (c .before .before .before .before) in let p = s .pre .1 in let b = sequence-first p in
+    let m = s .pre .0 in (omega (arith, b .place .later, b .place .inside), b .can))
     (λ c. search needs)
-    (λ c. let s = (c .before .before .before .before .before .before .before .before .before .before) in let p = s .pre .1 in let h = command-starts (p .can .command) in omega arith)
-    (λ c κs. sequence-first ((c .before .before .before .before .before .before .before .before .before .before) .pre .1) .place .listed)
-    (λ c κs. let s = (c .before .before .before .before .before .before .before .before .before .before .before .before .before) in let p = s .pre .1 in let b = sequence-second p (c .before .before .end-at .ensures) (c .before .before .before .before .before .before .before .before .run-command .kept .1 .1 .1 .0) (c .before .before .before .before .before .before .before .before .run-command .kept .1 .1 .1 .1 .0) in let m = s .pre .0 in (omega (arith, b .place .later, b .place .inside), b .can))
+    (λ c. let s = (c .before .before .before .before .before .before .before .before .before .before) in
+    let p = s .pre .1 in let h = command-starts (p .can .command) in omega arith)
+    (λ c κs. sequence-first
+    ((c .before .before .before .before .before .before .before .before .before .before) .pre .1) .place .listed)
+    (λ c κs. let s = (c .before .before .before .before .before .before .before .before .before .before .before .before
+    .before) in let p = s .pre .1 in
+    let b = sequence-second p (c .before .before .end-at .ensures)
+    (c .before .before .before .before .before .before .before .before .run-command .kept .1 .1 .1 .0)
+    (c .before .before .before .before .before .before .before .before .run-command .kept .1 .1 .1 .1 .0) in
+    let m = s .pre .0 in (omega (arith, b .place .later, b .place .inside), b .can))
     (λ c. search needs)
     (λ c. search needs)
     (λ c. search needs)
-    (λ c. let s = (c .before .before .before .before .before .before .before .before .before .before .before .before .before .before .before .before) in let p = s .pre .1 in sequence-ended (p .head) (c .before .before .before .before .before .before .before .before .before .before .before .run-command .ensures) (p .can .ends-of) (c .before .before .before .before .before .before .before .n .given .1) (c .before .before .before .before .before .end-at .ensures) (c .before .before .run-command2 .ensures))
+    (λ c. let s = (c .before .before .before .before .before .before .before .before .before .before .before .before
+    .before .before .before .before) in let p = s .pre .1 in
+    sequence-ended (p .head)
+    (c .before .before .before .before .before .before .before .before .before .before .before .run-command .ensures)
+    (p .can .ends-of) (c .before .before .before .before .before .before .before .n .given .1)
+    (c .before .before .before .before .before .end-at .ensures) (c .before .before .run-command2 .ensures))
     (λ c. search needs)
     (λ c. search needs)
-    (λ c. let s = (c .before .before .before .before .before .before .before .before .before .before) in let p = s .pre .1 in sequence-stopped (p .head) (c .before .before .before .before .before .run-command .ensures) (c .before .k .given .1)))
+    (λ c. let s = (c .before .before .before .before .before .before .before .before .before .before) in
+    let p = s .pre .1 in
+    sequence-stopped (p .head) (c .before .before .before .before .before .run-command .ensures)
+    (c .before .k .given .1)))
     (λ t. run-turn-lts.spec (
       loop-test-reads.Asked,
       loop-test-reads.Learnt,
@@ -310,34 +427,52 @@ pub +run-command+run-for+run-if+run-pass+run-sequence+run-turn+run-turns-spec :
     (λ c κs. (c .before .before .before .before) .pre .1)
     (λ c κs. search needs)
     (λ c. search needs)
-    (λ c κs. let s = (c .before .before .before .before .before .before .before .before .before .before .before) in let p = s .pre .1 in let m = s .pre .0 in (omega arith, p))
+    (λ c κs. let s = (c .before .before .before .before .before .before .before .before .before .before .before) in
+    let p = s .pre .1 in let m = s .pre .0 in (omega arith, p))
     (λ c. search needs)
     (λ c. search needs)
     (λ c. search needs)
     (λ c. search needs)
-    (λ c. turn-then (c .before .before .before .before .before .before .before .before .before .loop-test .ensures) (c .before .before .before .before .before .before .before .before .test-step .ensures) (c .before .before .before .before .before .before .n .given .1) (c .before .before .run-pass .ensures))
+    (λ c. turn-then (c .before .before .before .before .before .before .before .before .before .loop-test .ensures)
+    (c .before .before .before .before .before .before .before .before .test-step .ensures)
+    (c .before .before .before .before .before .before .n .given .1) (c .before .before .run-pass .ensures))
     (λ c. search needs)
     (λ c. search needs)
-    (λ c. turn-else (c .before .before .before .before .loop-test .ensures) (c .before .before .before .test-step .ensures) (c .before .n2 .given .1))
+    (λ c. turn-else (c .before .before .before .before .loop-test .ensures)
+    (c .before .before .before .test-step .ensures) (c .before .n2 .given .1))
     (λ c. search needs)
     (λ c. search needs)
-    (λ c. turn-stopped (c .before .before .before .before .loop-test .ensures) (c .before .before .before .test-step .ensures) (c .before .k .given .1)))
+    (λ c. turn-stopped (c .before .before .before .before .loop-test .ensures)
+    (c .before .before .before .test-step .ensures) (c .before .k .given .1)))
     λ t. run-turns-lts.spec
     (run-turn-below t, run-turn.Post)
     (run-turns-at t)
     run-turns.Post
     run-turns-Inv-loop
     run-turns-μ-loop
-    (λ c. let s = (c .before .before) in going-none (s .args .w .now) (s .args .at) (lent (s .args .scalars .now) (s .args .values .now)) (s .args .left))
-    (λ c κs. let s = (c .before .before .before .before .before) in let p = s .pre .1 in let m = s .pre .0 in let i = c .before .before .loop .inv in (omega arith, record { can = can-again (p .can) (i .scalars-kept) (i .values-kept); head = p .head }))
+    (λ c. let s = (c .before .before) in
+    going-none (s .args .w .now) (s .args .at) (lent (s .args .scalars .now) (s .args .values .now)) (s .args .left))
+    (λ c κs. let s = (c .before .before .before .before .before) in let p = s .pre .1 in let m = s .pre .0 in
+    let i = c .before .before .loop .inv in
+    (omega arith, record { can = can-again (p .can) (i .scalars-kept) (i .values-kept); head = p .head }))
     (λ c. search needs)
-    (λ c. turn-falls ((c .before .before .before .before .before .before .before .before .before .before .before) .pre .1 .can .command) (c .before .before .before .before .before .run-turn .ensures) (c .before .l .given .1))
-    (λ c. going-on (c .before .before .before .before .before .before .before .before .loop .inv) (c .before .before .before .before .before .run-turn .ensures) (c .before .l .given .1) (c .before .before .before .before .before .run-turn .kept .1 .1 .1 .1 .0) (c .before .before .before .before .before .run-turn .kept .1 .1 .1 .1 .1 .0))
+    (λ c. turn-falls ((c .before .before .before .before .before .before .before .before .before .before .before) .pre
+    .1 .can .command) (c .before .before .before .before .before .run-turn .ensures) (c .before .l .given .1))
+    (λ c. going-on (c .before .before .before .before .before .before .before .before .loop .inv)
+    (c .before .before .before .before .before .run-turn .ensures) (c .before .l .given .1)
+    (c .before .before .before .before .before .run-turn .kept .1 .1 .1 .1 .0)
+    (c .before .before .before .before .before .run-turn .kept .1 .1 .1 .1 .1 .0))
     (λ c. search needs)
-    (λ c. c .before .before .before .before .before .run-turn .kept .1 .1 .1 .1 .0 ∙ c .before .before .before .before .before .before .before .before .loop .inv .scalars-kept)
-    (λ c. c .before .before .before .before .before .run-turn .kept .1 .1 .1 .1 .1 .0 ∙ c .before .before .before .before .before .before .before .before .loop .inv .values-kept)
-    (λ c. going-ended (c .before .before .before .before .before .before .before .before .loop .inv) (c .before .before .before .before .before .run-turn .ensures) (c .before .l2 .given .1))
+    (λ c. c .before .before .before .before .before .run-turn .kept .1 .1 .1 .1 .0
+    ∙ c .before .before .before .before .before .before .before .before .loop .inv .scalars-kept)
+    (λ c. c .before .before .before .before .before .run-turn .kept .1 .1 .1 .1 .1 .0
+    ∙ c .before .before .before .before .before .before .before .before .loop .inv .values-kept)
+    (λ c. going-ended (c .before .before .before .before .before .before .before .before .loop .inv)
+    (c .before .before .before .before .before .run-turn .ensures) (c .before .l2 .given .1))
     (λ c. search needs)
-    (λ c. c .before .before .before .before .before .run-turn .kept .1 .1 .1 .1 .0 ∙ c .before .before .before .before .before .before .before .before .loop .inv .scalars-kept)
-    (λ c. c .before .before .before .before .before .run-turn .kept .1 .1 .1 .1 .1 .0 ∙ c .before .before .before .before .before .before .before .before .loop .inv .values-kept)
-    (λ c. going-stopped (c .before .before .before .before .before .before .before .before .loop .inv) (c .before .before .before .before .before .run-turn .ensures) (c .before .k .given .1))
+    (λ c. c .before .before .before .before .before .run-turn .kept .1 .1 .1 .1 .0
+    ∙ c .before .before .before .before .before .before .before .before .loop .inv .scalars-kept)
+    (λ c. c .before .before .before .before .before .run-turn .kept .1 .1 .1 .1 .1 .0
+    ∙ c .before .before .before .before .before .before .before .before .loop .inv .values-kept)
+    (λ c. going-stopped (c .before .before .before .before .before .before .before .before .loop .inv)
+    (c .before .before .before .before .before .run-turn .ensures) (c .before .k .given .1))

@@ -15,9 +15,11 @@ end-pass-spec =
     (λ c. search needs)
     (λ c. search needs)
     (λ c. search needs)
-    (λ c κs. let s = (c .before .before .before .before .before .before .before) in subst (λ k. CountsIn k (length (s .args .scalars .now))) (c .before .before .kind .given .1) (s .pre))
+    (λ c κs. let s = (c .before .before .before .before .before .before .before) in
+    subst (λ k. CountsIn k (length (s .args .scalars .now))) (c .before .before .kind .given .1) (s .pre))
     (λ c. search needs)
     (λ c. pass-while (c .before .before .before .body .given .1) (c .enum-told .given .1))
     (λ c. search needs)
-    (λ c. pass-for (c .before .before .before .before .before .before .before .body .given .1) (c .before .before .before .before .kind .given .1) (c .before .increment .ensures))
+    (λ c. pass-for (c .before .before .before .before .before .before .before .body .given .1)
+    (c .before .before .before .before .kind .given .1) (c .before .increment .ensures))
     (λ c. pass-stopped (c .before .body2 .given .1)))

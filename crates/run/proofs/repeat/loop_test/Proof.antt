@@ -17,12 +17,22 @@ loop-test-spec =
     (tie.spec
     (λ c. search needs)
     (λ c. let s = (c .before .before .before .before) in let h = command-starts (s .pre .can .command) in omega arith)
-    (λ c κs. let s = (c .before .before .before .before) in let p = by-kind (s .pre) (c .enum-told .given .1) in while-can p)
+    (λ c κs. let s = (c .before .before .before .before) in let p = by-kind (s .pre) (c .enum-told .given .1) in
+    while-can p)
     (λ c. search needs)
     (λ c. search needs)
-    (λ c κs. let s = (c .before .before .before .before .before) in let p = by-kind (s .pre) (c .before .kind .given .1) in let h = for-small p .0 in let l = s .pre .can .scalars-sized in omega arith)
+    (λ c κs. let s = (c .before .before .before .before .before) in
+    let p = by-kind (s .pre) (c .before .kind .given .1) in let h = for-small p .0 in
+    let l = s .pre .can .scalars-sized in omega arith)
     (λ c. search needs)
-    (λ c κs. let s = (c .before .before .before .before .before .before) in let p = by-kind (s .pre) (c .before .before .kind .given .1) in let h = for-small p .1 in let l = s .pre .can .scalars-sized in omega arith)
+    (λ c κs. let s = (c .before .before .before .before .before .before) in
+    let p = by-kind (s .pre) (c .before .before .kind .given .1) in let h = for-small p .1 in
+    let l = s .pre .can .scalars-sized in omega arith)
     (λ c κs. search needs)
-    (λ c. let s = (c .before .before .before .before .before) in let p = by-kind (s .pre) (c .before .enum-told .given .1) in while-tests (p .head) (c .eval-boolean .ensures))
-    (λ c. let s = (c .before .before .before .before .before .before .before .before) in let p = by-kind (s .pre) (c .before .before .before .before .kind .given .1) in for-tests (p .head) (both-read (record { sfits = c .before .before .value-at .ok }) (record { sfits = c .before .value-at2 .ok }) (c .at-most .ensures) (c .before .before .value-at .ensures) (c .before .value-at2 .ensures))))
+    (λ c. let s = (c .before .before .before .before .before) in
+    let p = by-kind (s .pre) (c .before .enum-told .given .1) in while-tests (p .head) (c .eval-boolean .ensures))
+    (λ c. let s = (c .before .before .before .before .before .before .before .before) in
+    let p = by-kind (s .pre) (c .before .before .before .before .kind .given .1) in
+    for-tests (p .head) (both-read (record { sfits = c .before .before .value-at .ok })
+    (record { sfits = c .before .value-at2 .ok }) (c .at-most .ensures) (c .before .before .value-at .ensures)
+    (c .before .value-at2 .ensures))))

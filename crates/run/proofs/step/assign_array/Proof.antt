@@ -14,6 +14,8 @@ assign-array-spec =
     (λ c. search needs)
     (λ c κs. (array-can ((c .before .before .before .before) .pre) .0, search needs))
     (λ c. search needs)
-    (λ c κs. let s = (c .before .before .before .before .before .before .before .before) in record { values-sized = s .pre .can .values-sized; array = array-can (s .pre) .1; scratch-sized = search needs })
+    (λ c κs. let s = (c .before .before .before .before .before .before .before .before) in
+    record { values-sized = s .pre .can .values-sized; array = array-can (s .pre) .1; scratch-sized = search needs })
     (λ c. search needs)
-    (λ c. array-runs ((c .before .before .before .before .before .before .before .before .before .before) .pre .head) (c .before .before .before .before .before .eval-array .ensures) (c .before .store-array .ensures)))
+    (λ c. array-runs ((c .before .before .before .before .before .before .before .before .before .before) .pre .head)
+    (c .before .before .before .before .before .eval-array .ensures) (c .before .store-array .ensures)))

@@ -12,6 +12,8 @@ assign-scalar-spec =
     (tie.spec
     (λ c. let s = (c .before .before) in let h = command-starts (s .pre .can .command) in omega arith)
     (λ c κs. scalar-can ((c .before .before .before) .pre) .0)
-    (λ c κs. let s = (c .before .before .before .before .before) in let h = scalar-can (s .pre) .1 in let l = s .pre .can .scalars-sized in omega arith)
+    (λ c κs. let s = (c .before .before .before .before .before) in let h = scalar-can (s .pre) .1 in
+    let l = s .pre .can .scalars-sized in omega arith)
     (λ c. search needs)
-    (λ c. scalar-runs ((c .before .before .before .before .before .before .before) .pre .head) (c .before .before .before .eval-arithmetic .ensures) (c .before .store-scalar .ensures)))
+    (λ c. scalar-runs ((c .before .before .before .before .before .before .before) .pre .head)
+    (c .before .before .before .eval-arithmetic .ensures) (c .before .store-scalar .ensures)))

@@ -13,4 +13,5 @@ run-assert-spec =
     (λ c. let s = (c .before .before) in let h = command-starts (s .pre .can .command) in omega arith)
     (λ c κs. assert-can ((c .before .before) .pre))
     (λ c κs. search needs)
-    (λ c. assert-runs ((c .before .before .before .before) .pre .head) (c .before .eval-boolean .ensures) (c .assert-step .ensures)))
+    (λ c. assert-runs ((c .before .before .before .before) .pre .head) (c .before .eval-boolean .ensures)
+    (c .assert-step .ensures)))

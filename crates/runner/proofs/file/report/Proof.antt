@@ -13,8 +13,12 @@ report-spec =
     tie.close
     (tie.spec
     (λ c. search needs)
-    (λ c. let s = (c .before .before .before) in let h = subst (λ e. CanReport e (s .args .budget)) (c .before .end .given .1) (s .pre) in omega arith)
+    (λ c. let s = (c .before .before .before) in
+    let h = subst (λ e. CanReport e (s .args .budget)) (c .before .end .given .1) (s .pre) in omega arith)
     (λ c. search needs)
-    (λ c. let s = (c .before .before .before) in let h = subst (λ e. CanReport e (s .args .budget)) (c .before .end2 .given .1) (s .pre) in omega arith)
-    (λ c. let s = (c .before .before .before) in record { is = λ m. ap (λ x. ranOf (s .args .budget) (endAt x m)) (sym (c .before .end .given .1)) })
-    (λ c. let s = (c .before .before .before) in record { is = λ m. ap (λ x. ranOf (s .args .budget) (endAt x m)) (sym (c .before .end2 .given .1)) }))
+    (λ c. let s = (c .before .before .before) in
+    let h = subst (λ e. CanReport e (s .args .budget)) (c .before .end2 .given .1) (s .pre) in omega arith)
+    (λ c. let s = (c .before .before .before) in
+    record { is = λ m. ap (λ x. ranOf (s .args .budget) (endAt x m)) (sym (c .before .end .given .1)) })
+    (λ c. let s = (c .before .before .before) in
+    record { is = λ m. ap (λ x. ranOf (s .args .budget) (endAt x m)) (sym (c .before .end2 .given .1)) }))

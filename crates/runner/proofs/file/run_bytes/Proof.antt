@@ -21,7 +21,9 @@ run-bytes-spec =
     (tie.spec
     (λ c κs. search needs)
     (λ c κs. search needs)
-    (λ c. let s = (c .before .before .before .before) in let m = lent (s .args .scalars .now) (s .args .values .now) in bad-bytes (limitsOf (s .args .limits)) (s .args .file .now) (s .args .budget) m (sym (c .before .before .bad-length .ensures) ∙ c .before .if1 .taken) (c .refused .ensures))
+    (λ c. let s = (c .before .before .before .before) in let m = lent (s .args .scalars .now) (s .args .values .now) in
+    bad-bytes (limitsOf (s .args .limits)) (s .args .file .now) (s .args .budget) m
+    (sym (c .before .before .bad-length .ensures) ∙ c .before .if1 .taken) (c .refused .ensures))
     (λ c. search needs)
     (λ c κs. search needs)
     (λ c. loaded c .inside)
@@ -29,4 +31,8 @@ run-bytes-spec =
     (λ c κs. record { size = loaded (c .before .before .before) .size })
     (λ c. search needs)
     (λ c. search needs)
-    (λ c. let s = (c .before .before .before .before .before .before .before .before .before .before .before .before) in loaded-bytes (limitsOf (s .args .limits)) (sym (c .before .before .before .before .before .before .before .before .before .before .bad-length .ensures) ∙ c .before .before .before .before .before .before .before .before .before .if1 .left) (loaded (c .before .before .before .before .before .before)) (c .before .before .run-words .ensures)))
+    (λ c. let s = (c .before .before .before .before .before .before .before .before .before .before .before .before)
+    in loaded-bytes (limitsOf (s .args .limits))
+    (sym (c .before .before .before .before .before .before .before .before .before .before .bad-length .ensures)
+    ∙ c .before .before .before .before .before .before .before .before .before .if1 .left)
+    (loaded (c .before .before .before .before .before .before)) (c .before .before .run-words .ensures)))

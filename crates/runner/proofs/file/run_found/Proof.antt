@@ -15,10 +15,18 @@ run-found-spec =
     (λ c κs. search needs)
     (λ c. search needs)
     (λ c. search needs)
-    (λ c κs. let s = (c .before .before .before .before .before .before .before .before .before .before .before) in steady-words (s .args .limits) (s .pre) (c .before .before .before .before .before .before .before .before .fill-ends .ensures .ends) (c .before .before .before .before .before .first-unsteady .ensures) (c .before .before .before .enum-told .given .1))
+    (λ c κs. let s = (c .before .before .before .before .before .before .before .before .before .before .before) in
+    steady-words (s .args .limits) (s .pre)
+    (c .before .before .before .before .before .before .before .before .fill-ends .ensures .ends)
+    (c .before .before .before .before .before .first-unsteady .ensures)
+    (c .before .before .before .enum-told .given .1))
     (λ c. search needs)
     (λ c κs. search needs)
     (λ c. search needs)
     (λ c. search needs)
     (λ c. c .before .before .run-program .ensures)
-    (λ c. let s = (c .before .before .before .before .before .before .before .before .before .before) in let m = lent (s .args .scalars .now) (s .args .values .now) in unsteady-words (s .args .limits) (s .args .w .now) (s .args .budget) m (s .pre) (c .before .before .before .before .first-unsteady .ensures) (c .before .before .first .given .1) (c .refused .ensures)))
+    (λ c. let s = (c .before .before .before .before .before .before .before .before .before .before) in
+    let m = lent (s .args .scalars .now) (s .args .values .now) in
+    unsteady-words (s .args .limits) (s .args .w .now) (s .args .budget) m (s .pre)
+    (c .before .before .before .before .first-unsteady .ensures) (c .before .before .first .given .1)
+    (c .refused .ensures)))

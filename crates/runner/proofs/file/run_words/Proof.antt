@@ -12,10 +12,20 @@ run-words-spec =
     (tie.spec
     (λ c κs. search needs)
     (λ c. search needs)
-    (λ c κs. let s = (c .before .before .before .before .before .before) in record { small = s .pre; places = c .before .before .enum-told .given .0 .0; found = sym (c .before .before .enum-told .given .1) ∙ c .before .before .before .before .read-words .ensures })
+    (λ c κs. let s = (c .before .before .before .before .before .before) in
+    record {
+      small = s .pre;
+      places = c .before .before .enum-told .given .0 .0;
+      found = sym
+          (c .before .before .enum-told .given .1) ∙ c .before .before .before .before .read-words .ensures;
+    })
     (λ c. search needs)
     (λ c κs. search needs)
     (λ c. search needs)
     (λ c. search needs)
     (λ c. c .before .before .run-found .ensures)
-    (λ c. let s = (c .before .before .before .before .before .before) in let m = lent (s .args .scalars .now) (s .args .values .now) in refused-words (s .args .limits) (s .args .w .now) (s .args .budget) m (c .before .before .before .before .read-words .ensures) (c .before .before .found .given .1) (c .refused .ensures)))
+    (λ c. let s = (c .before .before .before .before .before .before) in
+    let m = lent (s .args .scalars .now) (s .args .values .now) in
+    refused-words (s .args .limits) (s .args .w .now) (s .args .budget) m
+    (c .before .before .before .before .read-words .ensures) (c .before .before .found .given .1)
+    (c .refused .ensures)))
