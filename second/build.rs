@@ -32,4 +32,5 @@ fn main() {
     let runner = dir.join("librunner.a");
     println!("cargo:rerun-if-changed={}", runner.display());
     println!("cargo:rustc-link-arg-bin=compare_runs={}", runner.display());
+    println!("cargo:rustc-link-arg-bin=bench_run={}", runner.display());
 }

@@ -1,12 +1,18 @@
--- When a sum, a difference or a product of two signed 64-bit integers is in range. Assumes nothing.
+-- When a sum, a difference or a product of two signed 64-bit integers is in range, as the code tests it.
+-- Assumes nothing.
+--     back, held, held-two        what a signed local holds is what was put there
+--     value, too-large            a value in range, and one that is not, as outcomes
+--     top-.., bot-.., add-.., sub-..    sums and differences, by the tests against the ends of the range
+--     mul-.., most-..             products, by their factors' sizes
+--     next-fits, flip-..          the size of a negative number
 use mathlib.Core.Path.{_≡_, refl, sym, ap, subst, _∙_}
 use mathlib.Core.Bool.{Bool, true, false, not}
-use Prim.Native.Nat.{ℕ, zero, suc, _+_, _*_, _-_, _/_, _^_, _<_, _≤_}
+use Prim.Native.Nat.{ℕ, zero, suc, _+_, _*_, _/_, _^_, _<_, _≤_}
 use native.Mathlib.Nat.{le-div-iff-mul-le, div-lt-iff-lt-mul}
 use native.Mathlib.Omega.{arith}
-use lib.Dec.{T, ltb, leb, lit<}
-use lib.IntN.{ℤ, pos, negsuc, negℤ, natAbs, subℕ, _+ℤ_, _-ℤ_, _*ℤ_, *ℤ-zero}
-use lib.Signed.{mag, nonNeg, leZ, ltZ}
+use lib.Dec.{T, lit<}
+use lib.IntN.{ℤ, pos, negsuc, negℤ, natAbs, _+ℤ_, _-ℤ_, _*ℤ_, *ℤ-zero}
+use lib.Signed.{mag, nonNeg, leZ}
 use mir.Syntax.{w64}
 use mir.Val.{SFits, toZ, ofZ}
 use mir.Facts.{toZ-ofZ, sfits-toZ, fits-ofZ}

@@ -6,13 +6,13 @@
 --     set-elements                    a value replaced
 use mathlib.Core.Path.{_≡_, refl, sym, ap, subst, _∙_}
 use mathlib.Core.Bool.{Bool, true, false, cond}
-use mathlib.Core.List.{List, [], _∷_, _++_, append-nil}
-use Prim.Native.Nat.{ℕ, zero, suc, _+_, _*_, _<_, _≤_}
+use mathlib.Core.List.{List, _++_, append-nil}
+use Prim.Native.Nat.{ℕ, zero, suc, _+_, _*_, _<_}
 use native.Mathlib.Omega.{arith}
 use borrow.Author.Tests.{eqb-true, eqb-false}
 use lib.Dec.{eqb}
 use lib.IntN.{ℤ, pos}
-use lib.ListN.{length, getD, take, drop, set, replicate, length-take, length-drop, length-set, length-replicate}
+use lib.ListN.{length, getD, take, drop, set, replicate, length-take, length-drop, length-set}
 use lib.ListN.{getD-replicate}
 use lib.ListN.{drop-of-length-le}
 use lib.Seq.{paste, ext-getD, getD-take, getD-drop, getD-set-same, getD-set-other}

@@ -5,18 +5,17 @@
 --     first-middle                                      the end of the first part is in the list of ends
 --     only-operand, first-operand, second-operand       the operands, by the parts
 --     first-of-three, second-of-three, third-of-three
-use mathlib.Core.Path.{_≡_, refl, sym, ap, subst, _∙_}
+use mathlib.Core.Path.{_≡_, sym, ap, subst, _∙_}
 use mathlib.Core.List.{List}
-use Prim.Native.Nat.{ℕ, _+_, _-_, _<_, _≤_}
+use Prim.Native.Nat.{ℕ, _+_, _-_, _<_}
 use native.Mathlib.Omega.{arith}
 use lib.IntN.{ℤ}
 use lib.ListN.{length, getD}
 use Rattle.language.specs.Syntax.{Sort, Expr}
 use Rattle.layout.specs.EvidenceWords.{Part, expressionPart}
 use Rattle.ends.specs.Ends.{EndsOf}
-use Rattle.heads.specs.Stands.{PartAt, ExpressionStands}
+use Rattle.heads.specs.Stands.{PartAt}
 use Rattle.heads.proofs.Parts.{expression-inside, One, Two, Three}
-use Rattle.heads.proofs.Heads.{expression-starts}
 use Rattle.evaluate.specs.Evaluated.{CanEvaluate}
 
 abbrev pub left : List ℕ → ℕ → ℕ

@@ -6,7 +6,7 @@
 use mathlib.Core.Path.{_≡_, refl, sym, ap, ap₂, subst, _∙_}
 use mathlib.Core.Bool.{Bool, true, false, _&&_}
 use mathlib.Core.List.{List}
-use Prim.Native.Nat.{ℕ, _+_, _<_, _≤_}
+use Prim.Native.Nat.{ℕ, _+_, _<_}
 use native.Mathlib.Omega.{arith}
 use borrow.Author.Tests.{leb-true}
 use lib.Dec.{leb}
@@ -15,7 +15,6 @@ use lib.ListN.{getD}
 use mir.Syntax.{w64}
 use mir.Val.{SFits, toZ, ofZ}
 use Rattle.laws.proofs.Bools.{and-right}
-use Rattle.language.specs.Syntax as syntax
 use Rattle.language.specs.Syntax.{Sort, Expr}
 use Rattle.language.specs.Store.{Value, sameInteger, put}
 use Rattle.layout.specs.Bytes.{numberAt}
@@ -58,7 +57,7 @@ on-index (worked (negsuc m)) f g h = refl
 on-index (stops k) f g h = refl
 
 -- one outcome after another
-after-both : {A B C : Type 0} (o : Outcome A) (f : A → Outcome B) (g : B → Outcome C) →
+pub after-both : {A B C : Type 0} (o : Outcome A) (f : A → Outcome B) (g : B → Outcome C) →
     onWorked (onWorked o f) g ≡ onWorked o λ a. onWorked (f a) g
 after-both (worked a) f g = refl
 after-both (stops k) f g = refl

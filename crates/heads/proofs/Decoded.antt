@@ -2,13 +2,12 @@
 -- Assumes nothing.
 --     arithmeticHead, booleanHead, arrayHead, commandHead    the first word of a tree
 --     arithmetic-decoded, boolean-decoded, ..                is what stands there
-use mathlib.Core.Path.{_≡_, refl, sym, ap, ap₂, _∙_}
+use mathlib.Core.Path.{_≡_, refl, ap, ap₂, _∙_}
 use mathlib.Core.Bool.{Bool, true, false}
-use mathlib.Core.List.{List, [], _∷_, _++_}
-use Prim.Native.Nat.{ℕ, zero, suc, _+_, _*_, _/_, _%_, _<_, _≤_}
+use mathlib.Core.List.{List, _∷_}
+use Prim.Native.Nat.{ℕ, zero, suc, _+_, _*_, _/_, _%_, _≤_}
 use native.Mathlib.Omega.{arith}
 use borrow.Author.Tests.{le-leb}
-use lib.IntN.{ℤ, pos}
 use Rattle.language.specs.Syntax as syntax
 use Rattle.language.specs.Syntax.{plus, minus, times, equal, less, atMost}
 use Rattle.language.specs.Syntax.{Expr, constant, scalar, operation, select, compare, truth, and, or, neg}
@@ -16,8 +15,8 @@ use Rattle.language.specs.Syntax.{array, zeros, update, toScalar, toArray}
 use Rattle.language.specs.Syntax.{skip, sequence, assert, assign, ifElse, while, for}
 use Rattle.rules.specs.Words as spelled
 use Rattle.rules.specs.Words.{words, commandWords, operatorPayload, comparisonPayload, truthPayload}
-use Rattle.layout.specs.Bytes.{numberAt, signed}
-use Rattle.layout.specs.Spelling.{encode, payloadOf, FitsExpression, FitsCommand}
+use Rattle.layout.specs.Bytes.{numberAt}
+use Rattle.layout.specs.Spelling.{payloadOf, FitsExpression, FitsCommand}
 use Rattle.layout.specs.EvidenceWords.{expressionPart, commandPart}
 use Rattle.layout.specs.Standing.{Stands, PartStands}
 use Rattle.layout.proofs.Words.{signed-payload}

@@ -4,8 +4,8 @@
 --     One, Two, Three                                        so many parts, one after the other
 --     ArithmeticParts, BooleanParts, ArrayParts, CommandParts     the parts by the first word
 --     arithmetic-parts, boolean-parts, array-parts, command-parts are what stands there
-use mathlib.Core.Path.{_≡_, refl, sym, ap, subst, _∙_}
-use mathlib.Core.List.{List, [], _∷_, _++_}
+use mathlib.Core.Path.{_≡_, refl, sym, ap, subst}
+use mathlib.Core.List.{List, _∷_, _++_}
 use Prim.Native.Nat.{ℕ, zero, suc, _+_, _<_, _≤_}
 use native.Mathlib.Omega.{arith}
 use lib.ListN.{length}

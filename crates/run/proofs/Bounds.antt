@@ -2,7 +2,6 @@
 -- Assumes nothing.
 --     Bounded                     an end has at most so many steps left
 --     run-bounded, body-bounded   of a run, and of the body of a loop
-use mathlib.Core.Path.{_≡_, refl}
 use mathlib.Core.Bool.{Bool, true, false, cond}
 use Prim.Native.Nat.{ℕ, zero, suc, _+_, _<_, _≤_}
 use native.Mathlib.Omega.{arith}

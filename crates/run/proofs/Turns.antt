@@ -4,10 +4,10 @@
 --     turn-less                  a turn takes a step
 --     Going                      what a loop has done so far
 --     going-on, going-ended ..   its turns
-use mathlib.Core.Path.{_≡_, refl, sym, ap, subst, _∙_}
+use mathlib.Core.Path.{_≡_, refl, sym, ap, _∙_}
 use mathlib.Core.Bool.{Bool, true, false}
 use mathlib.Core.List.{List}
-use Prim.Native.Nat.{ℕ, zero, suc, _+_, _<_, _≤_}
+use Prim.Native.Nat.{ℕ, zero, suc, _<_, _≤_}
 use native.Mathlib.Omega.{arith}
 use lib.ListN.{length}
 use Rattle.language.specs.Syntax as syntax
@@ -18,7 +18,7 @@ use Rattle.execution.specs.Evaluate.{Outcome, worked, stops, evaluate}
 use Rattle.execution.specs.Run as definition
 use Rattle.execution.specs.Run.{ended, stopped, onEnded, step, turns}
 use Rattle.heads.specs.Stands.{PartAt, CommandStands}
-use Rattle.run.specs.Steps.{endAt, chosen}
+use Rattle.run.specs.Steps.{chosen}
 use Rattle.run.specs.Turns.{loopTest, loopBody, Turned, again, over, turnedAt, goOn, turnBy, turnOf, TurnsAs}
 use Rattle.run.specs.Turns.{TurnAs}
 use Rattle.run.specs.declared.End.the-variants.{Ended, Stopped}

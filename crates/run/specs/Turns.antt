@@ -7,7 +7,7 @@
 --     TestsLoop, Increments, EndsPass  what the parts of a turn promise
 -- TurnsAs, TurnAs, PassAs          what all turns, one turn and its body promise, of the loop that stands at a place
 use mathlib.Core.Path.{_≡_}
-use mathlib.Core.Bool.{Bool, false}
+use mathlib.Core.Bool.{false}
 use mathlib.Core.List.{List}
 use Prim.Native.Nat.{ℕ, _+_, _<_}
 use lib.IntN.{ℤ}
@@ -19,7 +19,7 @@ use Rattle.language.specs.Runs.{increment}
 use Rattle.rules.specs.Words.{words}
 use Rattle.layout.specs.EvidenceWords.{commandPart}
 use Rattle.execution.specs.Lent.{Lent, storeOf}
-use Rattle.execution.specs.Evaluate.{Outcome, evaluate}
+use Rattle.execution.specs.Evaluate.{evaluate}
 use Rattle.execution.specs.Run as definition
 use Rattle.execution.specs.Run.{ended, stopped, onEnded, assigns, turns, run}
 use Rattle.words.specs.declared.CommandWord.{CommandWord}

@@ -6,7 +6,7 @@
 --     steady-words                          words that 2 to 7 let pass
 --     bad-bytes, AllLoaded, all-loaded, loaded-bytes      1; the words of bytes that it lets pass
 --     run-of                                the definition's answer on bytes
-use mathlib.Core.Path.{_≡_, refl, sym, ap, subst, _∙_}
+use mathlib.Core.Path.{_≡_, refl, sym, ap, _∙_}
 use mathlib.Core.Bool.{Bool, true, false, not, _||_}
 use mathlib.Core.List.{List}
 use mathlib.Core.Option.{Option, none, some}
@@ -31,14 +31,14 @@ use Rattle.reader.specs.File.{placesOf, ended, headed, readOf}
 use Rattle.reader.specs.declared.Limits.{Limits}
 use Rattle.reader.specs.declared.Layout.{Layout}
 use Rattle.reader.specs.declared.Layout.the-variants as Layout
-use Rattle.reader.proofs.Whole.{words-read, FileAt, found-file, refused-file}
+use Rattle.reader.proofs.Whole.{words-read, found-file, refused-file}
 use Rattle.scan.specs.Steady.{WholeFile, FirstFound, steadinessOf}
 use Rattle.scan.specs.declared.steady.Steadiness.{Steadiness}
 use Rattle.scan.specs.declared.steady.Steadiness.the-variants.{Steady, At}
 use Rattle.scan.proofs.Files.{file-stands, whole-file}
 use Rattle.heads.specs.Stands.{PartAt}
 use Rattle.runner.specs.Ran.{RunOf}
-use Rattle.runner.specs.Running.{ranAt, refusedAt, ranBy, RanBy, Small, Found, CanRunFile}
+use Rattle.runner.specs.Running.{ranAt, refusedAt, ranBy, RanBy, Found, CanRunFile}
 use Rattle.runner.specs.declared.Ran.{Ran}
 
 pub never : {A : Type 0} → _≡_ {A = ℕ} 0 1 → A

@@ -3,17 +3,14 @@
 --     over-budget, ill-sized    10 and 11
 --     can-report, reported      the steps left are within the budget; the run
 use mathlib.Core.Path.{_≡_, refl, sym, ap, subst, _∙_}
-use mathlib.Core.Bool.{Bool, true, false, _&&_}
+use mathlib.Core.Bool.{Bool, true, false}
 use mathlib.Core.List.{List}
-use Prim.Native.Nat.{ℕ, _-_, _<_, _≤_}
-use native.Mathlib.Omega.{arith}
+use Prim.Native.Nat.{ℕ, _<_, _≤_}
 use borrow.Author.Tests.{lt-ltb, le-ltb, eq-eqb, ne-eqb}
-use lib.Dec.{eqb, ltb}
 use lib.ListN.{length}
 use Rattle.layout.specs.File.{File, wordsRead}
 use Rattle.execution.specs.Lent.{Lent}
-use Rattle.execution.specs.Run as definition
-use Rattle.execution.specs.Run.{ended, stopped, run}
+use Rattle.execution.specs.Run.{run}
 use Rattle.execution.specs.Ran.{notRun, ranOf, wellSized, runFile}
 use Rattle.reader.specs.Walk.{limitsOf}
 use Rattle.reader.specs.declared.Limits.{Limits}

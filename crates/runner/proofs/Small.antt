@@ -8,7 +8,7 @@ use mathlib.Core.Path.{_≡_, refl, sym, ap, ap₂, subst, _∙_}
 use mathlib.Core.Bool.{Bool, true, false, cond}
 use mathlib.Core.List.{List, [], _∷_, _++_}
 use mathlib.Core.Option.{Option, none, some}
-use Prim.Native.Nat.{ℕ, zero, suc, _+_, _*_, _-_, _<_, _≤_}
+use Prim.Native.Nat.{ℕ, zero, suc, _+_, _*_, _<_, _≤_}
 use native.Mathlib.Omega.{arith}
 use borrow.Author.Tests.{eqb-true, ltb-true}
 use lib.Dec.{eqb, ltb}
@@ -29,7 +29,7 @@ use Rattle.execution.specs.Lent.{Lent, storeOf}
 use Rattle.execution.specs.Evaluate.{Outcome, worked, stops, evaluate}
 use Rattle.execution.specs.Run.{End, ended, stopped, onEnded, step, given, assigns, turns, run}
 use Rattle.execution.specs.Ran as definition
-use Rattle.execution.specs.Ran.{notRun, ranOf, runOf}
+use Rattle.execution.specs.Ran.{ranOf, runOf}
 use Rattle.execution.proofs.Order.{Judged, not-read, over-budget, ill-sized, is-run, judged}
 use Rattle.words.proofs.Loading.{words-length}
 use Rattle.runner.specs.Ran.{answerOf, RunOf}

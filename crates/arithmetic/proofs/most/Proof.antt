@@ -1,5 +1,5 @@
 -- `arithmetic::most` meets its contract. Assumes nothing.
-use mathlib.Core.Path.{_≡_, sym, _∙_}
+use mathlib.Core.Path.{sym, _∙_}
 use Rattle.arithmetic.proofs.Signed.{sign, most-pp, most-pn, most-np, most-nn}
 use Rattle.arithmetic.proofs.most.Statement.{statement}
 use Rattle.arithmetic.proofs.most.Tie as tie

@@ -1,5 +1,5 @@
 -- `arithmetic::operate` meets its contract, by the operator. Assumes nothing.
-use mathlib.Core.Path.{_≡_, sym, ap, _∙_}
+use mathlib.Core.Path.{sym, ap, _∙_}
 use lib.IntN.{_+ℤ_, _-ℤ_, _*ℤ_}
 use Rattle.language.specs.Store.{apply}
 use Rattle.words.specs.Meaning.{operatorMeant}

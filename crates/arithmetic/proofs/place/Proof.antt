@@ -1,7 +1,5 @@
 -- `arithmetic::place` meets its contract. Assumes nothing.
-use mathlib.Core.Path.{_≡_, sym, ap, _∙_, subst}
-use Prim.Native.Nat.{_<_}
-use lib.IntN.{ℤ, natAbs}
+use mathlib.Core.Path.{ap, _∙_}
 use mir.Syntax.{w64}
 use mir.Val.{toZ, ofZ}
 use mir.Facts.{fits-natAbs}

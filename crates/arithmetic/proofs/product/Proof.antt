@@ -1,20 +1,14 @@
 -- `arithmetic::product` meets its contract. Assumes nothing.
 use borrow.Author.Needs.{needs}
-use mathlib.Core.Path.{_≡_, sym, ap, _∙_, subst}
-use native.Mathlib.Omega.{arith}
-use Prim.Native.Nat.{ℕ, _/_, _<_, _≤_}
+use mathlib.Core.Path.{_≡_, sym, ap, _∙_}
 use lib.Dec.{lit<}
-use lib.IntN.{ℤ, pos, natAbs, _*ℤ_}
+use lib.IntN.{ℤ, pos, _*ℤ_}
 use mir.Syntax.{w64}
 use mir.Val.{SFits, toZ, ofZ}
-use Rattle.arithmetic.specs.Worked.{checked, mostOf}
-use Rattle.arithmetic.proofs.Signed.{back, value, too-large, mul-in, mul-out, mul-zero-r, mul-ok, mul-no}
+use Rattle.arithmetic.specs.Worked.{checked}
+use Rattle.arithmetic.proofs.Signed.{back, value, too-large, mul-zero-r, mul-ok, mul-no}
 use Rattle.arithmetic.proofs.product.Statement.{statement}
 use Rattle.arithmetic.proofs.product.Tie as tie
-use Rattle.arithmetic.proofs.product.Reads as reads
-use Rattle.arithmetic.proofs.product.Lts as lts
-use Rattle.arithmetic.proofs.most.Reads as most-reads
-use Rattle.arithmetic.proofs.size.Reads as size-reads
 
 prod : {a b : ℤ} → SFits w64 a → SFits w64 b → toZ w64 (ofZ w64 a) *ℤ toZ w64 (ofZ w64 b) ≡ a *ℤ b
 prod f g = rw (back f, back g)

@@ -1,5 +1,5 @@
 -- `arithmetic::relate` meets its contract, by the comparison. Assumes nothing.
-use mathlib.Core.Path.{_≡_, sym, ap, _∙_}
+use mathlib.Core.Path.{sym, ap, _∙_}
 use lib.Signed.{ltZ, leZ}
 use Rattle.language.specs.Store.{sameInteger, relate}
 use Rattle.words.specs.Meaning.{comparisonMeant}

@@ -1,14 +1,10 @@
 -- `arithmetic::size` meets its contract. Assumes nothing.
 use borrow.Author.Needs.{needs}
-use mathlib.Core.Path.{_≡_, sym, _∙_, subst}
-use native.Mathlib.Omega.{arith}
-use lib.IntN.{ℤ, pos, natAbs}
-use lib.Signed.{leZ, leZ-yes, yes-nonNeg}
-use lib.Dec.{T}
+use mathlib.Core.Path.{sym, subst}
 use mir.Syntax.{w64}
-use mir.Val.{SFits, toZ, ofZ, Fits}
+use mir.Val.{Fits}
 use mir.Facts.{fits-natAbs}
-use Rattle.arithmetic.proofs.Signed.{back, held, next-fits, flip-fits, flip-non-neg, flip-size, non-neg-of}
+use Rattle.arithmetic.proofs.Signed.{held, next-fits, flip-fits, flip-non-neg, flip-size, non-neg-of}
 use Rattle.arithmetic.proofs.size.Statement.{statement}
 use Rattle.arithmetic.proofs.size.Tie as tie
 

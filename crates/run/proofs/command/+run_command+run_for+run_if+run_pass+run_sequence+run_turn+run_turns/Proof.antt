@@ -13,10 +13,11 @@ use Rattle.heads.proofs.Heads.{command-starts}
 use Rattle.evaluate.specs.Evaluated.{lent}
 use Rattle.run.specs.Turns.{CountsIn}
 use Rattle.run.proofs.Turns.{Going, going-none, falls as turn-falls, going-on, going-ended, going-stopped}
-use Rattle.run.proofs.Commands.{can-again, sequence-first, sequence-second, if-can, if-then, if-else, for-small}
-use Rattle.run.proofs.Commands.{loop-next, loop-body, loop-counts, skip-runs, while-runs, for-ended, for-stopped}
-use Rattle.run.proofs.Commands.{sequence-ended, sequence-stopped, then-runs, else-runs, if-stopped}
-use Rattle.run.proofs.Commands.{turn-then, turn-else, turn-stopped, pass-runs}
+use Rattle.run.proofs.Bodies.{can-again, sequence-first, sequence-second, if-can, if-then, if-else, for-small}
+use Rattle.run.proofs.Bodies.{loop-next, loop-body, loop-counts}
+use Rattle.run.proofs.Commands.{skip-runs, while-runs, for-ended, for-stopped, sequence-ended}
+use Rattle.run.proofs.Commands.{sequence-stopped, then-runs, else-runs, if-stopped, turn-then, turn-else}
+use Rattle.run.proofs.Commands.{turn-stopped, pass-runs}
 use borrow.Author.Needs.{needs}
 use Prim.Native.Nat.{ℕ, _<_}
 use borrow.Fn.Kinds.{In}

@@ -1,12 +1,8 @@
 -- `run::repeat::loop_test` meets its contract, by the kind of the loop. Assumes nothing.
-use mathlib.Core.Path.{ap, subst, _∙_}
 use native.Mathlib.Omega.{arith}
-use lib.Signed.{leZ}
 use Rattle.heads.proofs.Heads.{command-starts}
-use Rattle.arithmetic.proofs.Signed.{held-two}
-use Rattle.run.specs.Places.{CanRunAt}
-use Rattle.run.specs.Turns.{loopWord}
-use Rattle.run.proofs.Commands.{by-kind, while-can, for-small, while-tests, for-tests, both-read}
+use Rattle.run.proofs.Bodies.{by-kind, while-can, for-small}
+use Rattle.run.proofs.Commands.{while-tests, for-tests, both-read}
 use borrow.Author.Needs.{needs}
 use Rattle.run.proofs.repeat.loop_test.Statement.{statement}
 use Rattle.run.proofs.repeat.loop_test.Tie as tie

@@ -1,7 +1,8 @@
 -- `run::step::assign_array` meets its contract. Assumes nothing.
 use native.Mathlib.Omega.{arith}
 use Rattle.heads.proofs.Heads.{command-starts}
-use Rattle.run.proofs.Commands.{array-can, array-runs}
+use Rattle.run.proofs.Bodies.{array-can}
+use Rattle.run.proofs.Commands.{array-runs}
 use borrow.Author.Needs.{needs}
 use Rattle.run.proofs.step.assign_array.Statement.{statement}
 use Rattle.run.proofs.step.assign_array.Tie as tie

@@ -1,7 +1,8 @@
 -- `run::step::assign_scalar` meets its contract. Assumes nothing.
 use native.Mathlib.Omega.{arith}
 use Rattle.heads.proofs.Heads.{command-starts}
-use Rattle.run.proofs.Commands.{scalar-can, scalar-runs}
+use Rattle.run.proofs.Bodies.{scalar-can}
+use Rattle.run.proofs.Commands.{scalar-runs}
 use borrow.Author.Needs.{needs}
 use Rattle.run.proofs.step.assign_scalar.Statement.{statement}
 use Rattle.run.proofs.step.assign_scalar.Tie as tie

@@ -1,7 +1,8 @@
 -- `run::step::run_assert` meets its contract. Assumes nothing.
 use native.Mathlib.Omega.{arith}
 use Rattle.heads.proofs.Heads.{command-starts}
-use Rattle.run.proofs.Commands.{assert-can, assert-runs}
+use Rattle.run.proofs.Bodies.{assert-can}
+use Rattle.run.proofs.Commands.{assert-runs}
 use borrow.Author.Needs.{needs}
 use Rattle.run.proofs.step.run_assert.Statement.{statement}
 use Rattle.run.proofs.step.run_assert.Tie as tie
