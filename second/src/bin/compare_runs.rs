@@ -97,6 +97,18 @@ fn main() {
             check(fields[0].to_string(), &bytes, first_run(&bytes, budget, &store), want);
         }
     }
+    // refusal 11: a store of another size, untouched, with no step
+    let file = run_case(&mut file_prng(seed, 0)).bytes;
+    for (n, k) in [(31, 2048), (33, 2048), (32, 2047), (32, 2049), (0, 0)] {
+        let (mut scalars, mut values) = (vec![7i64; n], vec![7i64; k]);
+        if let Some(got) = first::answer(&file, 10, &mut scalars, &mut values) {
+            compared += 1;
+            if got != (0, 11 * 65_536) || scalars.iter().chain(&values).any(|v| *v != 7) {
+                differences += 1;
+                println!("a store of {n} and {k}: {got:?}");
+            }
+        }
+    }
     println!("seed {seed}: {compared} runs compared, {differences} differences");
     std::process::exit(i32::from(differences > 0));
 }
