@@ -79,7 +79,8 @@ fn has_either(
     at: usize,
 ) -> bool
     requires { ⌜ CanEither (now w) (now ends) x l leave k «at» ⌝ }
-    ensures { λ r. ⌜ r ≡ (standsIn (between (now (w .entry)) x (pastMember (now (ends .entry)) x)) (written (now (w .entry)) (now (ends .entry)) k «at») || standsIn (between (now (w .entry)) x (pastMember (now (ends .entry)) x)) (written (now (w .entry)) (now (ends .entry)) l leave)) ⌝ }
+    ensures { λ r. ⌜ r ≡ (standsIn (between (now (w .entry)) x (pastMember (now (ends .entry)) x)) (written (now (w .entry)) (now (ends .entry)) k «at»)
+        || standsIn (between (now (w .entry)) x (pastMember (now (ends .entry)) x)) (written (now (w .entry)) (now (ends .entry)) l leave)) ⌝ }
 {
     if has_item(w, ends, k, at, Item::Seen(x, View::Plain)) {
         return true;
@@ -99,7 +100,8 @@ pub fn rest_in(
     at: usize,
 ) -> bool
     requires { ⌜ CanRest (now w) (now ends) j from l leave k «at» ⌝ }
-    ensures { λ r. ⌜ r ≡ withinAll (withoutAll (written (now (w .entry)) (now (ends .entry)) j from) (written (now (w .entry)) (now (ends .entry)) l leave)) (written (now (w .entry)) (now (ends .entry)) k «at») ⌝ }
+    ensures { λ r. ⌜ r ≡ withinAll (withoutAll (written (now (w .entry)) (now (ends .entry)) j from) (written (now (w .entry)) (now (ends .entry)) l leave))
+        (written (now (w .entry)) (now (ends .entry)) k «at») ⌝ }
 {
     let mut n = j;
     let mut i = from;
@@ -124,7 +126,8 @@ pub fn in_rest(
     at: usize,
 ) -> bool
     requires { ⌜ CanEither (now w) (now ends) x l leave k «at» ⌝ }
-    ensures { λ r. ⌜ r ≡ standsIn (between (now (w .entry)) x (pastMember (now (ends .entry)) x)) (withoutAll (written (now (w .entry)) (now (ends .entry)) k «at») (written (now (w .entry)) (now (ends .entry)) l leave)) ⌝ }
+    ensures { λ r. ⌜ r ≡ standsIn (between (now (w .entry)) x (pastMember (now (ends .entry)) x))
+        (withoutAll (written (now (w .entry)) (now (ends .entry)) k «at») (written (now (w .entry)) (now (ends .entry)) l leave)) ⌝ }
 {
     if !has_item(w, ends, k, at, Item::Seen(x, View::Plain)) {
         return false;
