@@ -1,6 +1,7 @@
 -- Laws about cursors and the trees they pass.
 --     Ranges      the numbers of a file between two places
 --     Matching    cursors after lists of numbers
+--     EqualWords  words that are equal from two places on
 --     Operands    the operands of an expression by the kind of its first word
 --     Exchange    an expression's numbers are its first word's, then its operands'
 --     Numbers     numbers spell words, and words spell one tree
@@ -8,6 +9,7 @@
 --     Whole       a cursor that passes all of a part finds the same numbers there
 pub mod Ranges
 pub mod Matching
+pub mod EqualWords
 pub mod Operands
 pub mod Exchange
 pub mod Numbers

@@ -1,6 +1,7 @@
 -- Numbers matched along a file from a place on, also with others in the place of a word (document 01 compares by words).
 -- Working: `matched-all` and `exchanged-replace` in proofs/ say when all of a tree's numbers are matched. Assumes nothing.
 --     numbers, between        the numbers of words; of a file from a place up to another
+--     matchAt                 a cursor at a place, nothing missing so far
 --     matchedWord, matched    a cursor after one number, after a list of them
 --     putFor, exchanged       what is put for a word; for each of a list
 use mathlib.Core.Bool.{true, false, _&&_, cond}
@@ -20,6 +21,9 @@ numbers (v ∷ l) = encode v ∷ numbers l
 
 unfoldable pub between : List ℕ → ℕ → ℕ → List ℕ
 between file a e = slice a e file
+
+abbrev pub matchAt : ℕ → Match
+matchAt i = record { same = true; at = i }
 
 -- past the number if it stands at the cursor; else the cursor stays, and nothing is matched from there on
 unfoldable pub matchedWord : List ℕ → Match → ℕ → Match

@@ -1,7 +1,8 @@
+use crate::equal::equal_words;
 ghost use mathlib.Core.Path.{_≡_};
 ghost use Prim.Native.Nat.{_<_, _≤_};
 ghost use lib.ListN.{length, getD};
-ghost use Rattle.compare.specs.Matching.{matchedWord, matched, between, putFor};
+ghost use Rattle.compare.specs.Matching.{matchAt, matchedWord, matched, between, putFor};
 
 // Whether all that was asked for stood there so far, and the place past it. A failure absorbs what follows.
 pub struct Match {
@@ -45,23 +46,52 @@ pub fn match_word(w: &[u32], m: Match, x: u32) -> Match
     }
 }
 
+fn least(a: usize, b: usize) -> usize
+    ensures { λ r. ⌜ (r ≤ a) × (r ≤ b) ⌝ }
+{
+    if a < b { a } else { b }
+}
+
+// The words from `from` up to `to` stand from `at` on, one by one.
+fn match_rest(w: &[u32], at: usize, from: usize, to: usize) -> Match
+    requires { ⌜ to ≤ length (now w) ⌝ }
+    ensures { λ r. ⌜ r ≡ matched (now (w .entry)) (matchAt «at») (between (now (w .entry)) from to) ⌝ }
+{
+    let n = w.len();
+    let mut i = from;
+    let mut j = at;
+    while i < to {
+        if n <= j {
+            return Match { same: false, at: j };
+        }
+        if w[i] != w[j] {
+            return Match { same: false, at: j };
+        }
+        i += 1;
+        j += 1;
+    }
+    Match { same: true, at: j }
+}
+
 // The words from `from` up to `to` stand at the cursor.
 pub fn match_range(w: &[u32], m: Match, from: usize, to: usize) -> Match
     requires { ⌜ to ≤ length (now w) ⌝ }
     ensures { λ r. ⌜ r ≡ matched (now (w .entry)) m (between (now (w .entry)) from to) ⌝ }
 {
-    let mut r = m;
-    let mut i = from;
-    while i < to {
-        let same = r.same;
-        if !same {
-            return r;
-        }
-        let x = w[i];
-        r = match_word(w, r, x);
-        i += 1;
+    let same = m.same;
+    let at = m.at;
+    if !same {
+        return m;
     }
-    r
+    if to <= from {
+        return m;
+    }
+    let n = w.len();
+    if n <= at {
+        return Match { same: false, at };
+    }
+    let k = equal_words(w, at, from, least(n - at, to - from));
+    match_rest(w, at + k, from + k, to)
 }
 
 // The word x, or what is put for it.

@@ -1,36 +1,56 @@
--- `compare::cursor::match_range` meets its contract. The invariant: the words left, matched from the cursor at hand, give the
--- same cursor as all of them from the first. The measure is the words left.
+-- `compare::cursor::match_range` meets its contract: words that are equal are passed, and the others are matched from there.
 -- Assumes nothing.
-use mathlib.Core.Path.{_≡_, refl, sym, _∙_}
-use Prim.Native.Nat.{_-_}
+use mathlib.Core.Path.{sym, _∙_}
+use native.Mathlib.Omega.{arith}
 use borrow.Author.Needs.{needs}
-use borrow.Author.Tests.{not-true}
-use Rattle.compare.specs.Matching.{between, matched}
-use Rattle.compare.proofs.Matching.{matched-lost, range-step, range-done}
+use borrow.Author.Tests.{not-true, not-false}
+use Rattle.compare.proofs.Matching.{matched-lost, matched-from, range-done, range-out}
+use Rattle.compare.proofs.EqualWords.{equal-matched}
 use Rattle.compare.proofs.cursor.match_range.Statement.{statement}
 use Rattle.compare.proofs.cursor.match_range.Tie as tie
 
-abbrev Inv-loop : tie.InvT-loop
-Inv-loop w from to r₀ i₀ r i = matched w r (between w i to) ≡ matched w r₀ (between w i₀ to)
+returns-3 : tie.Need-returns-3
+returns-3 c =
+    let some = c .before in
+    let start = some .before in
+    range-out _ _ _ _ (some .if2 .left) (start .before .before .pre) (c .if3 .taken)
+    ∙ matched-from _ _ _ (not-false _ (start .if1 .left))
 
-abbrev μ-loop : tie.MeasureT-loop
-μ-loop w from to r₀ i₀ r i = to - i
+equal-words-requires : tie.Need-equal-words-requires
+equal-words-requires c κs =
+    let inside = c .before in
+    record {
+      first = omega (arith, inside .if3 .left, c .least .ensures .0);
+      second = omega (arith, inside .before .if2 .left, inside .before .before .before .before .pre, c .least .ensures .1);
+    }
+
+returns-4 : tie.Need-returns-4
+returns-4 c =
+    let passed = c .before in
+    let short = passed .before in
+    let inside = short .before in
+    let some = inside .before in
+    let start = some .before in
+    let few = passed .equal-words .ensures .few in
+    c .match-rest .ensures
+    ∙ equal-matched _ _ (start .before .before .pre) _ _ _
+    (omega (arith, few, some .if2 .left, short .least .ensures .1))
+    (omega (arith, few, inside .if3 .left, short .least .ensures .0))
+    (passed .equal-words .ensures .equal)
+    ∙ matched-from _ _ _ (not-false _ (start .if1 .left))
 
 pub match-range-spec : {M : Type 1} → statement M
 match-range-spec =
     tie.close
     (tie.spec
-    Inv-loop
-    μ-loop
-    (λ c. refl)
-    (λ c. matched-lost _ _ _ (not-true _ (c .if1 .taken)) ∙ c .before .before .loop .inv)
+    (λ c. matched-lost _ _ _ (not-true _ (c .if1 .taken)))
+    (λ c. sym (range-done _ _ _ _ (c .if2 .taken)))
+    returns-3
     (λ c. search needs)
     (λ c. search needs)
     (λ c κs. search needs)
+    equal-words-requires
     (λ c. search needs)
     (λ c. search needs)
-    (λ c.
-    let at-loop = c .before .before .before .before in
-    range-step _ _ _ _ _ (c .match-word .ensures) (c .before .before .before .loop-test .taken) (at-loop .before .before .pre)
-    ∙ at-loop .loop .inv)
-    (λ c. sym (range-done _ _ _ _ (c .loop-test .left)) ∙ c .before .loop .inv))
+    (λ c κs. search needs)
+    returns-4)
