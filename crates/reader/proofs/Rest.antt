@@ -1,7 +1,9 @@
 -- The last arm of a match on a decoded word: a word with none of the tags that the arms above name has no meaning.
 -- Assumes nothing.
 --     not-arithmetic, not-boolean, not-array, not-command, not-set, not-flow, not-implication, not-pre
+--     no-arithmetic-leaf, no-boolean-leaf, no-array-leaf
 use mathlib.Core.Path.{_≡_, refl}
+use mathlib.Core.Bool.{false}
 use mathlib.Core.List.{List, [], _∷_}
 use mathlib.Core.Option.{none}
 use Prim.Native.Nat.{ℕ}
@@ -18,6 +20,7 @@ use Rattle.words.specs.Meaning.{preMeaning, implicationMeaning, flowMeaning}
 use Rattle.words.specs.declared.Word.{Word}
 use Rattle.words.specs.declared.Word.the-variants.{Arithmetic, Boolean, Array, Command, Set, Flow, Implication}
 use Rattle.words.specs.declared.Word.the-variants.{Precondition, Other}
+use Rattle.reader.specs.Leaves.{arithmeticLeaf, booleanLeaf, arrayLeaf}
 
 -- the tags of words, but one
 abbrev but0 : List ℕ
@@ -43,6 +46,40 @@ but6 = 0 ∷ 1 ∷ 2 ∷ 3 ∷ 4 ∷ 5 ∷ 7 ∷ 8 ∷ []
 
 abbrev but7 : List ℕ
 but7 = 0 ∷ 1 ∷ 2 ∷ 3 ∷ 4 ∷ 5 ∷ 6 ∷ 8 ∷ []
+
+-- nor is it an operand of one word
+pub no-arithmetic-leaf : (w : Word) → OneOf but0 (tagOf the-type w) → false ≡ arithmeticLeaf w
+no-arithmetic-leaf (Arithmetic x) h = absurd (miss but0 0 tt h)
+no-arithmetic-leaf (Boolean x) h = refl
+no-arithmetic-leaf (Array x) h = refl
+no-arithmetic-leaf (Command x) h = refl
+no-arithmetic-leaf (Set x) h = refl
+no-arithmetic-leaf (Flow x) h = refl
+no-arithmetic-leaf (Implication x) h = refl
+no-arithmetic-leaf (Precondition x) h = refl
+no-arithmetic-leaf Other h = refl
+
+pub no-boolean-leaf : (w : Word) → OneOf but1 (tagOf the-type w) → false ≡ booleanLeaf w
+no-boolean-leaf (Arithmetic x) h = refl
+no-boolean-leaf (Boolean x) h = absurd (miss but1 1 tt h)
+no-boolean-leaf (Array x) h = refl
+no-boolean-leaf (Command x) h = refl
+no-boolean-leaf (Set x) h = refl
+no-boolean-leaf (Flow x) h = refl
+no-boolean-leaf (Implication x) h = refl
+no-boolean-leaf (Precondition x) h = refl
+no-boolean-leaf Other h = refl
+
+pub no-array-leaf : (w : Word) → OneOf but2 (tagOf the-type w) → false ≡ arrayLeaf w
+no-array-leaf (Arithmetic x) h = refl
+no-array-leaf (Boolean x) h = refl
+no-array-leaf (Array x) h = absurd (miss but2 2 tt h)
+no-array-leaf (Command x) h = refl
+no-array-leaf (Set x) h = refl
+no-array-leaf (Flow x) h = refl
+no-array-leaf (Implication x) h = refl
+no-array-leaf (Precondition x) h = refl
+no-array-leaf Other h = refl
 
 module _ (part : (j : Sort) → Reader (Expr j)) where
   pub not-arithmetic : (w : Word) → OneOf but0 (tagOf the-type w) → arithmeticMeaning part w ≡ none

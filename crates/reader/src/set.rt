@@ -3,7 +3,6 @@ use super::Due;
 use super::Limits;
 use super::Sort;
 use super::Walk;
-use super::expression::read_boolean;
 use super::expression::read_operand;
 use super::word::word_due;
 use words::Word;
@@ -54,7 +53,7 @@ fn read_consequent(w: &[u32], at: usize, left: usize) -> Walk
 fn read_member(w: &[u32], at: usize, left: usize) -> Walk
     ensures { λ r. ⌜ r ≡ walkOf (memberAt (now (w .entry)) left at) ⌝ }
 {
-    let antecedent = read_boolean(w, at, left);
+    let antecedent = read_operand(Sort::Boolean, w, Walk::Next(at), left);
     match antecedent {
         Walk::Next(p) => read_consequent(w, p, left),
         Walk::Refused(_, _) => antecedent,

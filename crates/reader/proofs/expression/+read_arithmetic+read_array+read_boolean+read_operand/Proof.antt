@@ -2,12 +2,13 @@
 -- Assumes nothing.
 use borrow.Author.Needs.{needs}
 use native.Mathlib.Omega.{arith}
-use mathlib.Core.Path.{refl, _∙_, ap}
+use mathlib.Core.Path.{refl, sym, _∙_, ap}
 use Prim.Native.Nat.{ℕ, _<_, _+_, _*_}
 use Rattle.language.specs.Syntax as syntax
 use Rattle.layout.specs.Read.{expression}
 use Rattle.words.specs.declared.Word.the-variants as Word
 use Rattle.reader.proofs.Walks.{room, onto, expression-goes, stop, arm, none-arm}
+use Rattle.reader.proofs.Leaving.{leaf-walk}
 use Rattle.reader.proofs.Rest.{not-arithmetic, not-boolean, not-array}
 use Prim.Native.Nat.{ℕ, _<_}
 use borrow.Fn.Kinds.{In}
@@ -24,6 +25,7 @@ use Rattle.reader.proofs.expression.+read_arithmetic+read_array+read_bo
 use Rattle.reader.proofs.expression.read_operand.Reads as read-operand
 use Rattle.reader.proofs.expression.read_operand.Kinds as read-operand-kinds
 use Rattle.reader.proofs.expression.+read_arithmetic+read_array+read_boolean+read_operand.Lts-read_operand as read-operand-lts
+use Rattle.reader.proofs.leaf.is_leaf.Reads as is-leaf-reads
 use Rattle.reader.proofs.word.word_due.Reads as word-due-reads
 use Rattle.words.proofs.decode.arithmetic_word.Reads as arithmetic-word-reads
 use Rattle.words.proofs.decode.array_word.Reads as array-word-reads
@@ -332,6 +334,8 @@ pub +read-arithmetic+read-array+read-boolean+read-operand-spec : {M : Type 1} �
     (m .d2 .given .1) (c .before .boolean-word .ensures)
     (not-boolean (expression (a .w .now) b) (c .before .boolean-word .result) (c .match2 .keys2))))
     λ t. read-operand-lts.spec (
+      is-leaf-reads.Asked,
+      is-leaf-reads.Learnt,
       read-arithmetic-below t,
       read-arithmetic.Post,
       read-boolean-below t,
@@ -342,6 +346,17 @@ pub +read-arithmetic+read-array+read-boolean+read-operand-spec : {M : Type 1} �
     (read-operand-at t)
     read-operand.Post
     (λ c. search needs)
+    (λ c κs. search needs)
+    (λ c. let leaf = c .before in
+    let start = leaf .before .before .before .before in
+    omega (
+      arith,
+      start .shared-slice-known .given 0,
+      leaf-walk _ _ _ _ (sym (leaf .is-leaf .ensures) ∙ c .if1 .taken) .inside,
+    ))
+    (λ c. let leaf = c .before in
+    rw (leaf .before .before .from .given .1)
+    (sym (leaf-walk _ _ _ _ (sym (leaf .is-leaf .ensures) ∙ c .if1 .taken) .past)))
     (λ c. search needs)
     (λ c κs. omega arith)
     (λ c. search needs)
@@ -349,10 +364,10 @@ pub +read-arithmetic+read-array+read-boolean+read-operand-spec : {M : Type 1} �
     (λ c. search needs)
     (λ c κs. omega arith)
     (λ c. search needs)
-    (λ c. let m = c .before .before .before .before in
+    (λ c. let m = c .before .before .before .before .before .before in
     rw (m .from .given .1, c .before .enum-told .given .1) (c .read-arithmetic .ensures))
-    (λ c. let m = c .before .before .before .before in
+    (λ c. let m = c .before .before .before .before .before .before in
     rw (m .from .given .1, c .before .enum-told2 .given .1) (c .read-boolean .ensures))
-    (λ c. let m = c .before .before .before .before in
+    (λ c. let m = c .before .before .before .before .before .before in
     rw (m .from .given .1, c .before .enum-told3 .given .1) (c .read-array .ensures))
     (λ c. rw (c .enum-told4 .given .1))

@@ -18,7 +18,7 @@ read-member-spec =
     (λ c. search needs)
     (λ c. let a = c .before .before .before .before .before .before .args in
     onto _ _ _ (on _ (c .before .before .antecedent .given .1) (c .read-consequent .ensures))
-    (onto _ _ _ {s = Next (a .at)} (c .before .before .before .before .read-boolean .ensures) refl))
+    (onto _ _ _ {s = Next (a .at)} (c .before .before .before .before .read-operand .ensures) refl))
     (λ c. let a = c .before .before .before .before .args in
     onto _ (consequentAt (a .w .now) (a .left)) _ (off _ (c .enum-told .given .1))
-    (onto _ _ _ {s = Next (a .at)} (c .before .before .read-boolean .ensures) refl)))
+    (onto _ _ _ {s = Next (a .at)} (c .before .before .read-operand .ensures) refl)))
