@@ -1,7 +1,6 @@
 -- The places that the sizes make are the ends of what stands there, by induction on what stands.
 -- Assumes nothing.
 --     expression-sized, command-sized, set-sized    of an expression, a command and a set
---     sizes-ends                                    a list of such places is `EndsOf` the file
 use mathlib.Core.Path.{_≡_, refl, ap, ap₂, subst, _∙_}
 use mathlib.Core.List.{List, [], _∷_, _++_}
 use Prim.Native.Nat.{ℕ, zero, suc, _+_, _*_, _<_, _≤_}
@@ -17,9 +16,8 @@ use Rattle.rules.specs.Context.{Limits}
 use Rattle.layout.specs.Spelling.{FitsExpression, FitsCommand, membersWords, setWords, FitsMembers, FitsSet}
 use Rattle.layout.specs.Standing.{Stands}
 use Rattle.layout.proofs.Stands.{parted}
-use Rattle.ends.specs.Ends.{EndsOf}
 use Rattle.ends.specs.Sizes.{countOf, past, sizes}
-use Rattle.ends.proofs.Sizes.{sizes-length, sizes-at, past-more, Ended}
+use Rattle.ends.proofs.Sizes.{sizes-length, sizes-at, past-more}
 use Rattle.ends.proofs.Small.{Small, kindOf, contentOf, kind-at, content-at}
 use Rattle.ends.proofs.Small.{expression-small, command-small}
 
@@ -166,14 +164,3 @@ module _ (file : List ℕ) where
   set-sized limits zero m at p s = absurd (s .fit)
   set-sized limits (suc d) m at p s =
       by-word (2 * length m) s (s .fit .0 .1) refl (members-run d m (at + 1) p (less-fit (rest s)))
-
-  pub sizes-ends : (ends : List ℕ) → length file ≤ length ends → Ended file ends 0 → EndsOf file ends
-  sizes-ends ends l h = record {
-    long = l;
-    expression-end = λ e d at p s. by-size (expression-sized d e at p s);
-    command-end = λ c d at p s. by-size (command-sized d c at p s);
-    set-end = λ limits m d at p s. by-size (set-sized limits d m at p s);
-  }
-    where
-      by-size : {at p : ℕ} → Sized at p → getD ends at 0 ≡ p
-      by-size {at} s = h at (omega arith) (s .inside) ∙ s .size

@@ -15,7 +15,6 @@ use lib.Seq.{take-suc, drop-cons, set-at, getD-append-add, getD-drop, length-tak
 use Rattle.layout.specs.Bytes.{kindAt, payloadAt}
 use Rattle.ends.specs.Sizes.{countOf, past, sizes, placed, endPlaces, follow, CanFill, Filled}
 use Rattle.ends.proofs.Sizes.{sizes-length, sizes-at, sizes-inside, placed-length, placed-at, Ended, follow-past}
-use Rattle.ends.proofs.Ends.{sizes-ends}
 
 module _ (file before : List ℕ) where
   pub record Partly (ends : List ℕ) (i : ℕ) : Type 0 where
@@ -79,7 +78,7 @@ module _ (file before : List ℕ) where
     pub partly-all : (ends : List ℕ) (i : ℕ) → i ≤ 0 → Partly ends i → Filled file before ends
     partly-all ends zero l h = record {
       content = h .list;
-      ends = sizes-ends file ends (omega (arith, room, partly-length ends 0 h)) (partly-ended ends 0 h);
+      ended = λ at l. partly-ended ends 0 h at (omega arith) l;
     }
     partly-all ends (suc i) l h = absurd (omega arith)
 

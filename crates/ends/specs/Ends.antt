@@ -1,4 +1,5 @@
--- A list that has, at the first place of each expression, command and set of a file, the place past it.
+-- A list that has, at the first place of each expression, command and set of a file, the place past it, and behind these places the
+-- masks of what its blocks of words assign.
 -- Working. Assumes nothing.
 --     EndsOf    the list is such a list
 use mathlib.Core.Path.{_≡_}
@@ -10,6 +11,7 @@ use Rattle.rules.specs.Assertion.{Members}
 use Rattle.rules.specs.Context.{Limits}
 use Rattle.layout.specs.EvidenceWords.{expressionPart, commandPart, setPart}
 use Rattle.layout.specs.Standing.{PartStands}
+use Rattle.ends.specs.Blocks.{Blocks}
 
 pub record EndsOf (file ends : List ℕ) : Type 0 where
   pub long : length file ≤ length ends
@@ -18,3 +20,4 @@ pub record EndsOf (file ends : List ℕ) : Type 0 where
   pub command-end : (c : Command) (d at p : ℕ) → PartStands file (commandPart c) d at p → getD ends at 0 ≡ p
   pub set-end : (limits : Limits) (m : Members) (d at p : ℕ) →
       PartStands file (setPart limits m) d at p → getD ends at 0 ≡ p
+  pub blocks : Blocks file ends

@@ -1,18 +1,18 @@
 -- The place past what starts at each word of a file, found from the last word to the first (document 01, "Layout").
--- Working: `sizes-ends` of proofs/Ends says that the list made of these places is `EndsOf` the file. Assumes nothing.
+-- Working: laws in proofs/Ends say that these places are the ends. Assumes nothing.
 --     countOf        how many expressions and commands follow a word, by its kind and payload
 --     past, sizes    the words of the next parts, by the sizes of what starts at each place; those sizes
 --     endPlaces      the places past what starts at each word
 --     follow         from a place on, past so many parts, by a list of ends
 --     CanFill        a list of ends has room for the words of a file
 --     Filled         what is left of a list of ends when they are written to it
+--     CanTable       a list has room for the ends and for masks behind them
 use mathlib.Core.Path.{_≡_}
 use mathlib.Core.Bool.{true, false, cond}
 use mathlib.Core.List.{List, [], _∷_, _++_}
 use Prim.Native.Nat.{ℕ, zero, suc, _+_, _*_, _/_, _%_, _<_, _≤_}
 use lib.Dec.{eqb, ltb}
 use lib.ListN.{length, getD, drop}
-use Rattle.ends.specs.Ends.{EndsOf}
 
 -- the count beside a kind, or 0
 abbrev pub countAt : ℕ → List (ℕ × ℕ) → ℕ
@@ -58,4 +58,9 @@ pub record CanFill (file ends : List ℕ) : Type 0 where
 -- what stands past the file's words is as it was
 pub record Filled (file before after : List ℕ) : Type 0 where
   pub content : after ≡ endPlaces file ++ drop (length file) before
-  pub ends : EndsOf file after
+  pub ended : (at : ℕ) → at < length file → getD after at 0 ≡ at + getD (sizes file) at 0
+
+-- a list has room for the ends and the masks behind them
+pub record CanTable (file table : List ℕ) : Type 0 where
+  pub room : length file + 2 * (length file / 32) ≤ length table
+  pub small : length file < 4294967296

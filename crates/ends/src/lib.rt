@@ -1,8 +1,13 @@
-// Where each expression, command and set of a file ends, found in one pass from the last word to the first.
+// Where each expression, command and set of a file ends, found in one pass from the last word to the first, and what its words assign.
+pub mod mask; // mask.rt: identifiers as the bits of a number
+pub mod blocks; // blocks.rt: what words assign, by blocks
+
+use blocks::fill_blocks;
 ghost use mathlib.Core.Path.{_≡_};
 ghost use Prim.Native.Nat.{_/_, _%_, _≤_};
 ghost use lib.ListN.{length};
-ghost use Rattle.ends.specs.Sizes.{countOf, follow, CanFill, Filled};
+ghost use Rattle.ends.specs.Ends.{EndsOf};
+ghost use Rattle.ends.specs.Sizes.{countOf, follow, CanFill, Filled, CanTable};
 
 // How many expressions and commands follow a word (document 01, "Layout").
 fn parts(x: u32) -> usize
@@ -47,7 +52,7 @@ fn past(ends: &[u32], words: usize, from: usize, count: usize) -> usize
 }
 
 // The ends of all that starts in the words.
-pub fn fill_ends(w: &[u32], ends: &mut [u32])
+fn fill_ends(w: &[u32], ends: &mut [u32])
     requires { ⌜ CanFill (now w) (now ends) ⌝ }
     ensures { λ r. ⌜ Filled (now (w .entry)) (now (ends .entry)) (now (ends .exit)) ⌝ }
 {
@@ -57,4 +62,13 @@ pub fn fill_ends(w: &[u32], ends: &mut [u32])
         let end = past(ends, w.len(), i + 1, parts(w[i]));
         ends[i] = end as u32;
     }
+}
+
+// The table of a file: the ends of all that starts in its words, then the masks of its blocks.
+pub fn fill_table(w: &[u32], table: &mut [u32])
+    requires { ⌜ CanTable (now w) (now table) ⌝ }
+    ensures { λ r. ⌜ EndsOf (now (w .entry)) (now (table .exit)) ⌝ }
+{
+    fill_ends(w, table);
+    fill_blocks(w, table);
 }

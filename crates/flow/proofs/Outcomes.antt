@@ -4,13 +4,13 @@
 --     steady-judge, unsteady-outcome            7, by the scan's answer
 --     refused-outcome                           2 to 6
 --     bad-file, good-file, bad-outcome          1
---     good-length, AllLoaded, all-loaded, loaded-outcome
+--     good-length, AllLoaded, all-loaded, loaded-room, loaded-outcome
 --                                               the words of a file whose byte count is allowed
 --     standard-within, outcome-answer           document 01's limits; the answer
 use mathlib.Core.Path.{_≡_, refl, sym, _∙_, ap, subst}
 use mathlib.Core.Bool.{Bool, true, false, not, _||_}
 use mathlib.Core.List.{List}
-use Prim.Native.Nat.{ℕ, _%_, _≤_}
+use Prim.Native.Nat.{ℕ, _*_, _%_, _≤_}
 use native.Mathlib.Omega.{arith}
 use borrow.Author.Tests.{ltb-false}
 use lib.Dec.{eqb, ltb}
@@ -22,6 +22,7 @@ use Rattle.layout.specs.Reading.{Reading, read, fault}
 use Rattle.layout.specs.File.{File, badLength, fileOf, wordsRead}
 use Rattle.layout.specs.Verdict.{judged, verdictOf}
 use Rattle.ends.specs.Ends.{EndsOf}
+use Rattle.ends.specs.Sizes.{CanTable}
 use Rattle.words.specs.Load.{Loaded}
 use Rattle.words.proofs.Loading.{words-length, loaded-words}
 use Rattle.reader.specs.Walk.{limitsOf}
@@ -38,7 +39,7 @@ use Rattle.goals.specs.declared.Goal.the-variants as Goal
 use Rattle.goals.specs.declared.Judged.{Judged}
 use Rattle.goals.specs.declared.Judged.the-variants as Judged
 use Rattle.flow.specs.Checked.{answerOf}
-use Rattle.flow.specs.Outcome.{withPlaces, outcomeOf, WithinLimits, Found, CanJudgeFile}
+use Rattle.flow.specs.Outcome.{withPlaces, outcomeOf, WithinLimits, Found, CanJudgeFile, Room, CanLoad}
 use Rattle.flow.specs.declared.Verdict.{Verdict}
 use Rattle.flow.specs.declared.Verdict.the-variants as Verdict
 use Rattle.flow.specs.declared.Outcome.{Outcome}
@@ -106,6 +107,9 @@ module _ {w ends : List ℕ} (limits : Limits) {s : Places} (h : CanJudgeFile w 
   judged-outcome r q j e = ap (λ (z : Judged). outcomeFrom z s) (sym e) ∙ judged-places r j
 
 -- ---- refusals 2 to 7
+pub can-table : {limits : Limits} {w table : List ℕ} {s : Places} → Found w limits s → Room w table → CanTable w table
+can-table f r = record { room = r .room; small = omega (arith, f .small .size) }
+
 module _ (limits : Limits) where
   pub steady-judge : {w ends : List ℕ} {s : Places} → Found w limits s → EndsOf w ends → (r : Steadiness) →
       FirstFound w r → r ≡ Steady → CanJudgeFile w ends limits s
@@ -159,9 +163,10 @@ pub record AllLoaded (bytes after : List ℕ) (n : ℕ) : Type 0 where
   pub count : n ≡ length (take n after)
   pub inside : n ≤ length after
   pub size : length (take n after) ≤ 8192
+  pub few : 4 * n ≤ length bytes
 
 pub all-loaded : {bytes before after : List ℕ} {n : ℕ} → badLength bytes ≡ false → Loaded bytes before after n →
-    length before ≡ 8192 → AllLoaded bytes after n
+    length bytes ≤ 4 * length before → AllLoaded bytes after n
 all-loaded {bytes} {before} {after} {n} h l e =
     let g = good-length bytes h in
     let k = loaded-words l (omega arith) in
@@ -172,7 +177,13 @@ all-loaded {bytes} {before} {after} {n} h l e =
       count = sym m;
       inside = omega arith;
       size = omega (arith, k .0);
+      few = omega (arith, k .0);
     }
+
+-- room for the table of the words that were loaded
+pub loaded-room : {bytes words table after : List ℕ} {limits : Limits} {n : ℕ} → CanLoad bytes words table limits →
+    AllLoaded bytes after n → Room (take n after) table
+loaded-room c l = record { room = omega (arith, c .wide, c .fits, l .count, l .few) }
 
 pub loaded-outcome : (limits : context.Limits) {bytes after : List ℕ} {n : ℕ} (r : Outcome) → badLength bytes ≡ false →
     AllLoaded bytes after n → r ≡ outcomeOf limits (wordsRead limits (take n after)) →

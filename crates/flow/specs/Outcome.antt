@@ -3,17 +3,19 @@
 --     withPlaces, outcomeOf    a verdict with places; of what was read
 --     WithinLimits, Small      limits that the code can serve; with words
 --     Found, CanJudgeFile      the places of words that refusals 2 to 6 let pass; 2 to 7
+--     Room, CanLoad, Within    room for a table; for the words of a file; its words are not over a number
 use mathlib.Core.Path.{_≡_}
+use mathlib.Core.Bool.{false}
 use mathlib.Core.List.{List}
 use mathlib.Core.Option.{none}
-use Prim.Native.Nat.{ℕ, _≤_}
+use Prim.Native.Nat.{ℕ, _+_, _*_, _/_, _≤_}
 use lib.ListN.{length}
 use Rattle.rules.specs.Context as context
 use Rattle.rules.specs.Judge.{Verdict, accepted, refused, judgeFlow}
 use Rattle.layout.specs.Bytes.{wordCount}
 use Rattle.layout.specs.Reading.{Reading, read, fault}
 use Rattle.layout.specs.For.{firstUnsteady}
-use Rattle.layout.specs.File.{File}
+use Rattle.layout.specs.File.{badLength, File}
 use Rattle.ends.specs.Ends.{EndsOf}
 use Rattle.reader.specs.Walk.{limitsOf}
 use Rattle.reader.specs.File.{places, placesOf, readOf}
@@ -51,3 +53,20 @@ pub record CanJudgeFile (file ends : List ℕ) (limits : Limits) (s : Places) : 
   pub places-found : Found file limits s
   pub ends-of : EndsOf file ends
   pub steady : firstUnsteady (limitsOf limits) file (wordCount file) 0 ≡ none
+
+-- a table of ends and masks has room for the words
+pub record Room (file table : List ℕ) : Type 0 where
+  pub room : length file + 2 * (length file / 32) ≤ length table
+
+-- the byte count is good, and there is room for as many words
+pub record CanLoad (bytes words table : List ℕ) (limits : Limits) : Type 0 where
+  pub good : badLength bytes ≡ false
+  pub fits : length bytes ≤ 4 * length words
+  pub wide : length words + 2 * (length words / 32) ≤ length table
+  pub within : WithinLimits limits
+
+-- the byte count is good, and not over that of n words
+pub record Within (bytes : List ℕ) (n : ℕ) (limits : Limits) : Type 0 where
+  pub good : badLength bytes ≡ false
+  pub fits : length bytes ≤ 4 * n
+  pub within : WithinLimits limits

@@ -126,7 +126,7 @@ module _ {file ends : List ℕ} {rule p c q at : ℕ} (can : CanTry file ends ru
   }
 
   pub kept-known : CanKeep file ends q c
-  kept-known = record { part = post-known can; command = command-known can }
+  kept-known = record { ends-of = can .ends-of; part = post-known can; command = command-known can }
 
 module _ {file ends : List ℕ} {p c q at : ℕ} (o : EndsOf file ends) where
   pub skip-stops : payloadAt file at ≡ 1 → (kindAt file c ≡ 24 → ⊥) → Tried file p c q at (Stop 8)

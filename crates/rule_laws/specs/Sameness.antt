@@ -58,6 +58,7 @@ module _ (file ends : List ℕ) where
         r ≡ sameWords (commandWords e) (commandWords (meaning q m body))
 
   pub record CanKeep (e c : ℕ) : Type 0 where
+    pub ends-of : EndsOf file ends
     pub part : PartKnown file ends e
     pub command : PartKnown file ends c
 

@@ -9,7 +9,7 @@ pub fn is_kept(w: &[u32], ends: &[u32], e: usize, c: usize) -> bool
     ensures { λ r. ⌜ KeptAt (now (w .entry)) (now (ends .entry)) e c r ⌝ }
 {
     let past = end_at(ends, c);
-    let mask = modified(w, c, past);
+    let mask = modified(w, ends, c, past);
     let to = end_at(ends, e);
     unmarked(w, e, to, mask)
 }

@@ -1,7 +1,7 @@
 // Refusals 1 to 7 and 10 to 15 (document 01, "Judging order"), in order.
 use super::Answer;
 use super::Ran;
-use ends::fill_ends;
+use ends::fill_table;
 use reader::Layout;
 use reader::Limits;
 use reader::file::read_words;
@@ -81,8 +81,8 @@ fn run_found(
     ensures { λ r. ⌜ RanBy (wordsRead (limitsOf limits) (now (w .entry))) budget
         (lent (now (scalars .entry)) (now (values .entry))) r (lent (now (scalars .exit)) (now (values .exit))) ⌝ }
 {
-    let mut ends = [0u32; 8192];
-    fill_ends(w, &mut ends);
+    let mut ends = [0u32; 8704];
+    fill_table(w, &mut ends);
     let first = first_unsteady(w, &ends);
     match first {
         Steadiness::Steady => run_program(w, &ends, limits, scalars, values, budget),

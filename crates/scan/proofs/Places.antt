@@ -1,7 +1,7 @@
 -- What stands at a place starts there and ends where the list of ends has it.
 -- Assumes nothing.
 --     expression-starts, command-starts, set-starts    of an expression, a command and a set
---     modified-place, unmarked-place, closed-place     the scans up to that end
+--     closed-place                                     the scan up to that end
 use mathlib.Core.Path.{_≡_, sym, subst}
 use mathlib.Core.Bool.{Bool}
 use mathlib.Core.List.{List}
@@ -16,8 +16,8 @@ use Rattle.layout.specs.Standing.{PartStands}
 use Rattle.ends.specs.Ends.{EndsOf}
 use Rattle.ends.proofs.Sizes.{sizes-inside}
 use Rattle.ends.proofs.Ends.{Sized, expression-sized, command-sized, set-sized}
-use Rattle.scan.specs.Scan.{Modified, Unmarked, Closed}
-use Rattle.scan.specs.Place.{StartsAt, ModifiedAt, UnmarkedAt, ClosedAt}
+use Rattle.scan.specs.Scan.{Closed}
+use Rattle.scan.specs.Place.{StartsAt, ClosedAt}
 
 module _ (file ends : List ℕ) (h : EndsOf file ends) where
   starts : {at p : ℕ} → Sized file at p → getD ends at 0 ≡ p → StartsAt file ends at
@@ -42,17 +42,6 @@ module _ (file ends : List ℕ) (at : ℕ) (h : StartsAt file ends at) where
   -- what stands there stands up to the end at hand
   up-to : (x : Part) (d p : ℕ) → getD ends at 0 ≡ p → PartStands file x d at p → PartStands file x d at (getD ends at 0)
   up-to x d p e s = subst (λ q. PartStands file x d at q) (sym e) s
-
-  pub modified-place : (mask : ℕ) → Modified file at (getD ends at 0) mask → ModifiedAt file at mask
-  modified-place mask m = record {
-    command = λ c d p s. m .command c d (up-to (commandPart c) d p (h .places .command-end c d at p s) s);
-  }
-
-  pub unmarked-place : (mask : ℕ) (r : Bool) → Unmarked file at (getD ends at 0) mask r → UnmarkedAt file at mask r
-  unmarked-place mask r m = record {
-    expression = λ e d p s. m .expression e d (up-to (expressionPart e) d p (h .places .expression-end e d at p s) s);
-    set = λ limits q d p s. m .set limits q d (up-to (setPart limits q) d p (h .places .set-end limits q d at p s) s);
-  }
 
   pub closed-place : (r : Bool) → Closed file at (getD ends at 0) r → ClosedAt file at r
   closed-place r m = record {

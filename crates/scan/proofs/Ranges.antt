@@ -1,8 +1,7 @@
 -- A turn of a scan.
 -- Assumes nothing.
---     written-as, unwritten, mentioned-as, unmentioned    what a word assigns or is, by its kind
---     any-none, any-next, any-hit, any-miss               the end of a scan for a word that passes a test; a turn
---     marks-none, marks-next                              the same of the scan that collects a mask
+--     mentioned-as, unmentioned                what a word is, by its kind
+--     any-none, any-next, any-hit, any-miss    the end of a scan for a word that passes a test; a turn
 use mathlib.Core.Path.{_≡_, refl, ap, _∙_}
 use mathlib.Core.Bool.{Bool, true, false, _||_}
 use mathlib.Core.List.{List}
@@ -12,14 +11,8 @@ use native.Mathlib.Omega.{arith}
 use native.Mathlib.Numerals.{add-one}
 use borrow.Author.Tests.{ne-eqb}
 use Rattle.layout.specs.Bytes.{kindAt, payloadAt}
-use Rattle.scan.specs.Scan.{written, mentioned, withMark, anyIn, marksIn}
-
-pub written-as : {k n : ℕ} (p : ℕ) → k ≡ n → written k p ≡ written n p
-written-as p e = ap (λ i. written i p) e
-
-pub unwritten : (k p : ℕ) → (k ≡ 27 → ⊥) → (k ≡ 28 → ⊥) → (k ≡ 31 → ⊥) → written k p ≡ none
-unfolding written
-unwritten k p f g h = rw (ne-eqb k 27 f, ne-eqb k 28 g, ne-eqb k 31 h)
+use Rattle.ends.specs.Blocks.{anyIn}
+use Rattle.scan.specs.Scan.{mentioned}
 
 pub mentioned-as : {k n : ℕ} (p : ℕ) → k ≡ n → mentioned k p ≡ mentioned n p
 mentioned-as p e = ap (λ i. mentioned i p) e
@@ -47,14 +40,3 @@ module _ (t : ℕ → ℕ → Bool) (file : List ℕ) (at to : ℕ) where
   pub any-miss : at < to → t (kindAt file at) (payloadAt file at) ≡ false →
       anyIn t file (to - at) at ≡ anyIn t file (to - (at + 1)) (at + 1)
   any-miss h e = any-next h ∙ rw e
-
-module _ (file : List ℕ) (at to m : ℕ) where
-  pub marks-none : to ≤ at → marksIn file (to - at) at m ≡ m
-  unfolding marksIn
-  marks-none h = let e : to - at ≡ 0 = omega arith in rw e
-
-  pub marks-next : at < to →
-      marksIn file (to - at) at m
-      ≡ marksIn file (to - (at + 1)) (at + 1) (withMark m (written (kindAt file at) (payloadAt file at)))
-  unfolding marksIn
-  marks-next h = rw (one-less at to h, add-one at)

@@ -30,7 +30,7 @@ use Rattle.layout.proofs.Back.{command-stands}
 use Rattle.ends.specs.Ends.{EndsOf}
 use Rattle.ends.proofs.Small.{content-at}
 use Rattle.ends.proofs.Ends.{rest, less-fit}
-use Rattle.scan.specs.Mask.{bit, ModifiedBy}
+use Rattle.ends.specs.Mask.{bit, ModifiedBy}
 use Rattle.scan.specs.Scan.{Modified}
 use Rattle.scan.specs.Steady.{WholeFile, steadinessOf, Tested, FirstFound}
 use Rattle.scan.specs.declared.steady.Steadiness.{Steadiness}

@@ -9,9 +9,7 @@ use mathlib.Core.Bool.{Bool, true, false, not, _&&_, _||_, or-assoc, or-false}
 use mathlib.Core.List.{List, [], _∷_, _++_, append-assoc}
 use Prim.Native.Nat.{ℕ, zero, suc, _+_, _*_, _-_, _%_, _<_, _≤_}
 use native.Mathlib.Omega.{arith}
-use native.Mathlib.Nat.{div-eq-of-lt}
 use lib.ListN.{length}
-use lib.Pow.{pow-pos}
 use Rattle.language.specs.Syntax.{Sort, Expr, constant, scalar, operation, select, compare, truth, and, or, neg}
 use Rattle.language.specs.Syntax.{array, zeros, update, toScalar, toArray}
 use Rattle.language.specs.Syntax.{Command, skip, sequence, assert, assign, ifElse, while, for}
@@ -27,11 +25,11 @@ use Rattle.layout.specs.Standing.{StandsTo}
 use Rattle.layout.proofs.Stands.{stands-end}
 use Rattle.ends.proofs.Small.{AllSmall, kindOf, contentOf, kind-at, content-at}
 use Rattle.ends.proofs.Small.{expression-small, command-small, set-small}
-use Rattle.scan.specs.Mask.{bit, Low, slot, ModifiedBy}
-use Rattle.scan.specs.Scan.{written, mentioned, ifAny, anyIn, marked, marksIn, Modified, Unmarked, Closed}
-use Rattle.scan.proofs.Bits.{bit-ones}
+use Rattle.ends.specs.Mask.{bit, Low, slot, ModifiedBy}
+use Rattle.ends.specs.Blocks.{written, ifAny, anyIn, assigns, Marks}
+use Rattle.scan.specs.Scan.{mentioned, marked, Modified, Unmarked, Closed}
+use Rattle.ends.proofs.Bits.{bit-ones}
 use Rattle.scan.proofs.Ranges.{any-none, any-next}
-use Rattle.scan.proofs.Marks.{assigns, marks-any}
 
 module _ (t : ℕ → ℕ → Bool) where
   abbrev pub anyOf : List Word → Bool
@@ -129,17 +127,11 @@ module _ (x : Identifier) where
   command-assigns (suc d) (for q m c) h =
       rw (for-number q m (h .0 .0)) (ap (λ b. sameIdentifier (scalarOf q) x || b) (command-assigns d c (h .1)))
 
-no-bit : (i : ℕ) → bit 0 i ≡ false
-unfolding bit
-no-bit i = rw (div-eq-of-lt (pow-pos i)) refl
-
-pub modified-tree : (file : List ℕ) (from to r : ℕ) → r ≡ marksIn file (to - from) from 0 → Modified file from to r
-modified-tree file from to r e = record {
+pub modified-tree : (file : List ℕ) {from to r : ℕ} → Marks file (to - from) from r → Modified file from to r
+modified-tree file {from} {to} m = record {
   command = λ c d s. record {
     marks = λ x l.
-        ap (λ m. bit m (slot x)) e ∙ marks-any file x l (to - from) from 0
-        ∙ ap (λ b. b || anyIn (assigns x) file (to - from) from) (no-bit (slot x))
-        ∙ any-stands (assigns x) file from (commandWords c) to (s .stand) (command-small d c (s .fit))
+        m .marks x l ∙ any-stands (assigns x) file from (commandWords c) to (s .stand) (command-small d c (s .fit))
         ∙ command-assigns x d c (s .fit);
   };
 }

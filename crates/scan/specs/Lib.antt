@@ -1,9 +1,7 @@
 -- Scans of the words of expressions, commands and sets.
---     Mask      identifiers as the bits of a number
 --     Scan      a range of words, one word after the other
 --     Place     what starts at a place
 --     Steady    refusal 7 on words
-pub mod Mask
 pub mod Scan
 pub mod Place
 pub mod Steady

@@ -1,16 +1,13 @@
 -- Scans of a range of words, one word after the other.
 -- Working: laws in proofs/Trees say what they find where an expression, a command or a set stands. Assumes nothing.
---     written, mentioned    the identifier that a word assigns, or that it is
---     anyIn                 a test of kind and payload passes at one of so many words
---     marked, marksIn       a test of identifiers as such a test; the mask of what the words assign
---     Modified, Unmarked, Closed
---                           what the scans say of trees
+--     mentioned                     the identifier that a word is
+--     marked                        a test of identifiers as a test of kind and payload
+--     Modified, Unmarked, Closed    what the scans say of trees
 use mathlib.Core.Path.{_≡_}
-use mathlib.Core.Bool.{Bool, true, false, _||_, cond}
+use mathlib.Core.Bool.{Bool, cond}
 use mathlib.Core.List.{List}
 use mathlib.Core.Option.{Option, none, some}
-use Prim.Native.Nat.{ℕ, zero, suc, _+_, _%_, _^_}
-use lib.Bits.{bitOr}
+use Prim.Native.Nat.{ℕ, _%_}
 use lib.Dec.{eqb}
 use Rattle.language.specs.Syntax.{Sort, Expr, Command}
 use Rattle.language.specs.Modifies.{Identifier, scalarOf, arrayOf, identifiers}
@@ -18,42 +15,18 @@ use Rattle.rules.specs.Assertion.{Members}
 use Rattle.rules.specs.Context.{Limits}
 use Rattle.rules.specs.Sets.{setIdentifiers}
 use Rattle.rules.specs.Tests.{unmodified, isEmpty}
-use Rattle.layout.specs.Bytes.{kindAt, payloadAt}
 use Rattle.layout.specs.EvidenceWords.{expressionPart, commandPart, setPart}
 use Rattle.layout.specs.Standing.{PartStands}
-use Rattle.scan.specs.Mask.{bit, slot, ModifiedBy}
-
--- kinds 27 and 28, and 31, whose payload is q + 32 × m
-unfoldable pub written : ℕ → ℕ → Option Identifier
-written k p =
-    cond (eqb k 27) (some (scalarOf (p % 32)))
-    (cond (eqb k 28) (some (arrayOf (p % 32))) (cond (eqb k 31) (some (scalarOf (p % 32))) none))
+use Rattle.ends.specs.Mask.{bit, slot, ModifiedBy}
+use Rattle.ends.specs.Blocks.{ifAny}
 
 -- kinds 2 and 16
 unfoldable pub mentioned : ℕ → ℕ → Option Identifier
 mentioned k p = cond (eqb k 2) (some (scalarOf (p % 32))) (cond (eqb k 16) (some (arrayOf (p % 32))) none)
 
-abbrev pub ifAny : (Identifier → Bool) → Option Identifier → Bool
-ifAny f none = false
-ifAny f (some x) = f x
-
-abbrev pub withMark : ℕ → Option Identifier → ℕ
-withMark m none = m
-withMark m (some x) = bitOr m (2 ^ slot x)
-
--- at one of the n words from `at` on
-unfoldable pub anyIn : (ℕ → ℕ → Bool) → List ℕ → ℕ → ℕ → Bool
-anyIn t file zero at = false
-anyIn t file (suc n) at = t (kindAt file at) (payloadAt file at) || anyIn t file n (suc at)
-
 -- an identifier that the mask has
 abbrev pub marked : ℕ → ℕ → ℕ → Bool
 marked mask k p = ifAny (λ x. bit mask (slot x)) (mentioned k p)
-
--- the mask m with what the n words from `at` on assign
-unfoldable pub marksIn : List ℕ → ℕ → ℕ → ℕ → ℕ
-marksIn file zero at m = m
-marksIn file (suc n) at m = marksIn file n (suc at) (withMark m (written (kindAt file at) (payloadAt file at)))
 
 -- the mask has what the command in the range modifies
 pub record Modified (file : List ℕ) (from to mask : ℕ) : Type 0 where

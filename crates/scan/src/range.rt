@@ -1,24 +1,12 @@
 // Scans of the words from one place up to another.
 use super::mask::is_marked;
-use super::mask::mark;
+use ends::blocks::marks_between;
 ghost use mathlib.Core.Path.{_≡_};
 ghost use Prim.Native.Nat.{_-_, _≤_};
 ghost use lib.ListN.{length};
-ghost use Rattle.scan.specs.Scan.{anyIn, marked, marksIn, Modified, Unmarked, Closed};
-
-// The mask of what the words assign.
-fn marks(w: &[u32], from: usize, to: usize) -> u64
-    requires { ⌜ to ≤ length (now w) ⌝ }
-    ensures { λ r. ⌜ r ≡ marksIn (now (w .entry)) (to - from) from 0 ⌝ }
-{
-    let mut mask: u64 = 0;
-    let mut at = from;
-    while at < to {
-        mask = mark(mask, w[at]);
-        at += 1;
-    }
-    mask
-}
+ghost use Rattle.ends.specs.Ends.{EndsOf};
+ghost use Rattle.ends.specs.Blocks.{anyIn};
+ghost use Rattle.scan.specs.Scan.{marked, Modified, Unmarked, Closed};
 
 // Whether one of the words is an identifier that the mask has.
 fn any_marked(w: &[u32], from: usize, to: usize, mask: u64) -> bool
@@ -36,11 +24,11 @@ fn any_marked(w: &[u32], from: usize, to: usize, mask: u64) -> bool
 }
 
 // What the command in the range modifies, as a mask.
-pub fn modified(w: &[u32], from: usize, to: usize) -> u64
-    requires { ⌜ to ≤ length (now w) ⌝ }
+pub fn modified(w: &[u32], ends: &[u32], from: usize, to: usize) -> u64
+    requires { ⌜ EndsOf (now w) (now ends) × (to ≤ length (now w)) ⌝ }
     ensures { λ r. ⌜ Modified (now (w .entry)) from to r ⌝ }
 {
-    marks(w, from, to)
+    marks_between(w, ends, from, to)
 }
 
 // Whether a command whose mask is given modifies no identifier of the expression or set in the range.

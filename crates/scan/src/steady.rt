@@ -1,6 +1,6 @@
 // Refusal 7 (document 01, "Judging order"): a `for` has q = m or a body that modifies q or m.
-use super::mask::has_bit;
 use super::range::modified;
+use ends::mask::has_bit;
 ghost use mathlib.Core.Path.{_≡_};
 ghost use Prim.Native.Nat.{_≤_};
 ghost use Rattle.ends.specs.Ends.{EndsOf};
@@ -34,7 +34,7 @@ fn unsteady_at(w: &[u32], ends: &[u32], at: usize) -> bool
         return true;
     }
     let end = least(ends[at] as usize, w.len());
-    let body = modified(w, at + 1, end);
+    let body = modified(w, ends, at + 1, end);
     if has_bit(body, q) {
         return true;
     }

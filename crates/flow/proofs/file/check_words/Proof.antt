@@ -13,11 +13,10 @@ check-words-spec =
     (λ c κs. search needs)
     (λ c. search needs)
     (λ c κs.
-    let read = c .before .before .before in
-    record {
-      small = read .before .before .pre;
-      found = sym (c .before .found .given .1) ∙ read .read-words .ensures;
-    })
+    let read = c .before .before .before .before in
+    let pre = read .before .before .before .pre in
+    (record { small = pre .0; found = sym (c .before .before .found .given .1) ∙ read .read-words .ensures }, pre .1))
+    (λ c. search needs)
     (λ c. search needs)
     (λ c. search needs)
     (λ c.

@@ -28,7 +28,7 @@ other-consequents c =
 kept-requires : tie.Need-is-kept-requires
 kept-requires c κs =
     let p = c .before .before .before .before .before .before .before .before .before .before .pre in
-    record { part = consequent-before p (c .before .before .before .before .before .before .before .count .ensures) (c .before .before .before .before .before .before .if1 .left) (c .before .before .before .end-at .ensures); command = command-known p }
+    record { ends-of = p .ends-of; part = consequent-before p (c .before .before .before .before .before .before .before .count .ensures) (c .before .before .before .before .before .before .if1 .left) (c .before .before .before .end-at .ensures); command = command-known p }
 
 not-kept : tie.Need-returns-4
 not-kept c =

@@ -17,7 +17,7 @@ stops c = kept-stops (c .before .before .before .before .pre) (c .before .is-sam
 known : tie.Need-is-kept-requires
 known c κs =
     let p = c .before .before .before .before .pre in
-    record { part = first-known p; command = command-known p }
+    record { ends-of = p .ends-of; part = first-known p; command = command-known p }
 
 returns : tie.Need-returns-2
 returns c =

@@ -17,7 +17,7 @@ run-found-spec =
     (λ c. search needs)
     (λ c κs. let s = (c .before .before .before .before .before .before .before .before .before .before .before) in
     steady-words (s .args .limits) (s .pre)
-    (c .before .before .before .before .before .before .before .before .fill-ends .ensures .ends)
+    (c .before .before .before .before .before .before .before .before .fill-table .ensures)
     (c .before .before .before .before .before .first-unsteady .ensures)
     (c .before .before .before .enum-told .given .1))
     (λ c. search needs)

@@ -2,8 +2,9 @@
 -- Assumes nothing.
 use mathlib.Core.Path.{sym, ap, _∙_}
 use borrow.Author.Needs.{needs}
-use Rattle.scan.specs.Mask.{bit, slot}
-use Rattle.scan.specs.Scan.{mentioned, ifAny}
+use Rattle.ends.specs.Mask.{bit, slot}
+use Rattle.ends.specs.Blocks.{ifAny}
+use Rattle.scan.specs.Scan.{mentioned}
 use Rattle.scan.proofs.Ranges.{mentioned-as, unmentioned}
 use Rattle.scan.proofs.mask.is_marked.Statement.{statement}
 use Rattle.scan.proofs.mask.is_marked.Tie as tie

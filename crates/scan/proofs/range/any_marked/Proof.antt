@@ -4,7 +4,8 @@ use mathlib.Core.Path.{_≡_, refl, sym, _∙_}
 use Prim.Native.Nat.{_-_}
 use native.Mathlib.Omega.{arith}
 use borrow.Author.Needs.{needs}
-use Rattle.scan.specs.Scan.{anyIn, marked}
+use Rattle.ends.specs.Blocks.{anyIn}
+use Rattle.scan.specs.Scan.{marked}
 use Rattle.scan.proofs.Ranges.{any-none, any-hit, any-miss}
 use Rattle.scan.proofs.range.any_marked.Statement.{statement}
 use Rattle.scan.proofs.range.any_marked.Tie as tie

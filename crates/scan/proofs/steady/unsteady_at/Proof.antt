@@ -7,11 +7,6 @@ use Rattle.scan.specs.Steady.{Tested}
 use Rattle.scan.proofs.Tests.{tested-else, tested-same, tested-first, tested-second}
 use Rattle.scan.proofs.steady.unsteady_at.Statement.{statement}
 use Rattle.scan.proofs.steady.unsteady_at.Tie as tie
-use Rattle.scan.proofs.steady.unsteady_at.Reads as reads
-use Rattle.scan.proofs.steady.unsteady_at.Lts as lts
-use Rattle.scan.proofs.steady.least.Reads as least-reads
-use Rattle.scan.proofs.range.modified.Reads as modified-reads
-use Rattle.scan.proofs.mask.has_bit.Reads as has-bit-reads
 
 returns : tie.Need-returns
 returns c = tested-else _ _ (c .if1 .taken)
@@ -53,7 +48,7 @@ unsteady-at-spec =
     (λ c. omega (arith, c .shared-slice-known4 .given (c .before .before .before .before .before .before .args .at)))
     (λ c κs. search needs)
     (λ c. omega (arith, c .before .before .before .before .before .before .before .pre .inside))
-    (λ c κs. c .least .ensures .0)
+    (λ c κs. (c .before .before .before .before .before .before .before .pre .places, c .least .ensures .0))
     (λ c κs. search needs)
     returns-3
     (λ c κs. search needs)

@@ -1,10 +1,10 @@
--- `scan::mask::has_bit` meets its contract: a shift is a division.
+-- `ends::mask::has_bit` meets its contract: a shift is a division.
 -- Assumes nothing.
 use mathlib.Core.Path.{refl}
 use borrow.Author.Needs.{needs}
-use Rattle.scan.specs.Mask.{bit}
-use Rattle.scan.proofs.mask.has_bit.Statement.{statement}
-use Rattle.scan.proofs.mask.has_bit.Tie as tie
+use Rattle.ends.specs.Mask.{bit}
+use Rattle.ends.proofs.mask.has_bit.Statement.{statement}
+use Rattle.ends.proofs.mask.has_bit.Tie as tie
 
 returns : tie.Need-returns
 unfolding bit

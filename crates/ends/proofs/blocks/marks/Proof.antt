@@ -1,13 +1,13 @@
--- `scan::range::marks` meets its contract: what the words left add to the mask at hand is what all of them make.
+-- `ends::blocks::marks` meets its contract: what the words left add to the mask at hand is what all of them make.
 -- The measure is the words left. Assumes nothing.
 use mathlib.Core.Path.{_≡_, refl, sym, ap, _∙_}
 use Prim.Native.Nat.{_-_}
 use native.Mathlib.Omega.{arith}
 use borrow.Author.Needs.{needs}
-use Rattle.scan.specs.Scan.{marksIn}
-use Rattle.scan.proofs.Ranges.{marks-none, marks-next}
-use Rattle.scan.proofs.range.marks.Statement.{statement}
-use Rattle.scan.proofs.range.marks.Tie as tie
+use Rattle.ends.specs.Blocks.{marksIn}
+use Rattle.ends.proofs.Marks.{marks-none, marks-next}
+use Rattle.ends.proofs.blocks.marks.Statement.{statement}
+use Rattle.ends.proofs.blocks.marks.Tie as tie
 
 abbrev Inv-loop : tie.InvT-loop
 Inv-loop w from to mask₀ at₀ mask at = marksIn w (to - at) at mask ≡ marksIn w (to - from) from 0

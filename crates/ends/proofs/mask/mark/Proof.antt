@@ -1,11 +1,11 @@
--- `scan::mask::mark` meets its contract, kind by kind.
+-- `ends::mask::mark` meets its contract, kind by kind.
 -- Assumes nothing.
 use mathlib.Core.Path.{sym, ap, _∙_}
 use borrow.Author.Needs.{needs}
-use Rattle.scan.specs.Scan.{written, withMark}
-use Rattle.scan.proofs.Ranges.{written-as, unwritten}
-use Rattle.scan.proofs.mask.mark.Statement.{statement}
-use Rattle.scan.proofs.mask.mark.Tie as tie
+use Rattle.ends.specs.Blocks.{written, withMark}
+use Rattle.ends.proofs.Marks.{written-as, unwritten}
+use Rattle.ends.proofs.mask.mark.Statement.{statement}
+use Rattle.ends.proofs.mask.mark.Tie as tie
 
 pub mark-spec : {M : Type 1} → statement M
 unfolding written

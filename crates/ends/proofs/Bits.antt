@@ -12,8 +12,8 @@ use borrow.Author.Tests.{eq-eqb, ne-eqb}
 use lib.Bits.{bitOr, or-shr, or-step}
 use lib.Dec.{eqb}
 use lib.Pow.{pow-pos, pow-lt, pow-add, shl-exact, shl-shr, high, ones-lt, ones-split}
 use Rattle.ends.proofs.Sizes.{lt-or-le}
-use Rattle.scan.specs.Mask.{bit}
+use Rattle.ends.specs.Mask.{bit}
 
 -- of two numbers below 2
 either : (a b : ℕ) → a < 2 → b < 2 → eqb (max a b) 1 ≡ (eqb a 1 || eqb b 1)

@@ -1,0 +1,36 @@
+// Identifiers as the bits of a number: bit x is scalar x, bit 32 + a is array a.
+ghost use mathlib.Core.Path.{_≡_};
+ghost use Prim.Native.Nat.{_/_, _%_, _^_, _<_};
+ghost use lib.Bits.{bitOr};
+ghost use Rattle.ends.specs.Mask.{bit};
+ghost use Rattle.ends.specs.Blocks.{written, withMark};
+
+// Whether the mask has bit i.
+pub fn has_bit(mask: u64, i: u32) -> bool
+    requires { ⌜ i < 64 ⌝ }
+    ensures { λ r. ⌜ r ≡ bit mask i ⌝ }
+{
+    (mask >> i) % 2 == 1
+}
+
+// The mask with bit i.
+pub fn with_bit(mask: u64, i: u32) -> u64
+    requires { ⌜ i < 64 ⌝ }
+    ensures { λ r. ⌜ r ≡ bitOr mask (2 ^ i) ⌝ }
+{
+    mask | (1u64 << i)
+}
+
+// The mask with the identifier that a word assigns, if it does: kinds 27, 28 and 31.
+pub fn mark(mask: u64, x: u32) -> u64
+    ensures { λ r. ⌜ r ≡ withMark mask (written (x / 67108864) (x % 67108864)) ⌝ }
+{
+    let kind = x / 67108864;
+    let number = x % 67108864 % 32;
+    match kind {
+        27 => with_bit(mask, number),
+        28 => with_bit(mask, 32 + number),
+        31 => with_bit(mask, number),
+        _ => mask,
+    }
+}

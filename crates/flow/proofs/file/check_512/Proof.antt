@@ -1,0 +1,14 @@
+-- `flow::file::check_512` meets its contract.
+-- Assumes nothing.
+use borrow.Author.Needs.{needs}
+use Rattle.flow.proofs.file.check_512.Statement.{statement}
+use Rattle.flow.proofs.file.check_512.Tie as tie
+
+pub check-512-spec : {M : Type 1} → statement M
+check-512-spec =
+    tie.close
+    (tie.spec
+    (λ c. search needs)
+    (λ c. search needs)
+    (λ c κs. search needs)
+    (λ c. search needs))
