@@ -8,6 +8,11 @@ pub mod syntax;
 pub mod words;
 pub mod write;
 
+// Files as text for people, and back.
+pub mod assemble;
+pub mod meaning;
+pub mod view;
+
 // The judge.
 pub mod implies;
 pub mod judge;
