@@ -2,6 +2,7 @@
 //! `index=value` (0 to 31 the scalars, 32 + 64 × a + i an array's value).
 
 use crate::run::{ARRAY_VALUES, SCALARS};
+use std::path::Path;
 
 pub fn hex_of(bytes: &[u8]) -> String {
     let mut text = String::new();
@@ -21,6 +22,17 @@ pub fn bytes_of_hex(text: &str) -> Result<Vec<u8>, String> {
         bytes.push(byte);
     }
     Ok(bytes)
+}
+
+/// A row's bytes: hexadecimal, or `file:NAME` for a file beside the rows.
+pub fn bytes_of_field(field: &str, rows: &Path) -> Result<Vec<u8>, String> {
+    match field.strip_prefix("file:") {
+        None => bytes_of_hex(field),
+        Some(name) => {
+            let path = rows.with_file_name(name);
+            std::fs::read(&path).map_err(|error| format!("{}: {error}", path.display()))
+        }
+    }
 }
 
 /// A whole store, scalars first.

@@ -1,14 +1,11 @@
 //! `lines PROGRAM ROWS`: each row's file is given to PROGRAM on standard input, and the line that it
-//! writes is compared with the row's. Rows: name, line, bytes in hexadecimal, note.
+//! writes is compared with the row's. Rows: name, line, bytes, note; the bytes in hexadecimal, or as `file:NAME`
+//! for a file beside ROWS.
 
+use second::rows::bytes_of_field;
 use std::io::Write;
+use std::path::Path;
 use std::process::{Command, Stdio};
-
-fn bytes_of(hex: &str) -> Vec<u8> {
-    (0..hex.len() / 2)
-        .map(|i| u8::from_str_radix(&hex[2 * i..2 * i + 2], 16).expect("hexadecimal"))
-        .collect()
-}
 
 fn line_of(program: &str, bytes: &[u8]) -> String {
     let mut child = Command::new(program)
@@ -32,7 +29,8 @@ fn main() {
     let (mut count, mut wrong) = (0, 0);
     for row in text.lines().filter(|l| !l.starts_with('#')) {
         let fields: Vec<&str> = row.split('\t').collect();
-        let line = line_of(program, &bytes_of(fields[2]));
+        let bytes = bytes_of_field(fields[2], Path::new(rows)).expect("the row's bytes");
+        let line = line_of(program, &bytes);
         count += 1;
         if line != format!("{}\n", fields[1]) {
             wrong += 1;
