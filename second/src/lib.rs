@@ -13,6 +13,11 @@ pub mod assemble;
 pub mod meaning;
 pub mod view;
 
+// The mailbox guard of `examples/`.
+pub mod annotate;
+pub mod guard;
+pub mod show;
+
 // The judge.
 pub mod implies;
 pub mod judge;

@@ -1,0 +1,244 @@
+//! `examples/`: texts, files and answers agree; the guard does what figure 2 says; the good contracts hold of runs, and
+//! each faulty one is broken by two runs.
+
+use second::annotate::annotate;
+use second::assemble::assemble;
+use second::big::Big;
+use second::generate::{accepted, file_prng};
+use second::guard::*;
+use second::judge::check;
+use second::pairs::{try_pair, Found};
+use second::read::read;
+use second::rows::bytes_of_field;
+use second::run::{run, ARRAY_VALUES, SCALARS};
+use second::show::Names;
+use second::syntax::{Expression, File};
+use second::unbounded::{self, agree, Map, Store};
+use std::collections::BTreeSet;
+use std::path::Path;
+
+const FOLDER: &str = "../examples";
+
+fn bytes(name: &str) -> Vec<u8> {
+    std::fs::read(format!("{FOLDER}/{name}.cert")).expect("a file")
+}
+
+fn text(name: &str) -> String {
+    std::fs::read_to_string(format!("{FOLDER}/{name}.txt")).expect("a text")
+}
+
+/// Names and lines of `expected.tsv`, with the files that its rows name.
+fn expected() -> Vec<(String, String, Vec<u8>)> {
+    let path = format!("{FOLDER}/expected.tsv");
+    let rows = std::fs::read_to_string(&path).expect("the rows");
+    let mut out = Vec::new();
+    for row in rows.lines().filter(|row| !row.starts_with('#')) {
+        let fields: Vec<&str> = row.split('\t').collect();
+        let bytes = bytes_of_field(fields[2], Path::new(&path)).expect("the bytes");
+        out.push((fields[0].to_string(), fields[1].to_string(), bytes));
+    }
+    out
+}
+
+#[test]
+fn texts_files_and_answers_agree() {
+    for (name, line, bytes) in expected() {
+        assert_eq!(assemble(&text(&name)).as_ref(), Ok(&bytes), "{name}");
+        assert_eq!(check(&bytes).line(), line, "{name}");
+    }
+}
+
+/// Each text and file of the folder has its row.
+#[test]
+fn every_example_is_expected() {
+    let mut wanted = BTreeSet::new();
+    for (name, _, _) in expected() {
+        wanted.insert(format!("{name}.txt"));
+        wanted.insert(format!("{name}.cert"));
+    }
+    let mut found = BTreeSet::new();
+    for entry in std::fs::read_dir(FOLDER).expect("the folder") {
+        let name = entry.expect("an entry").file_name().into_string().expect("a name");
+        if name.ends_with(".txt") || name.ends_with(".cert") {
+            found.insert(name);
+        }
+    }
+    assert_eq!(found, wanted);
+}
+
+#[test]
+fn the_guard_is_as_its_trees_say() {
+    for example in examples() {
+        assert_eq!(text(example.name), example.text());
+        assert_eq!(bytes(example.name), example.bytes());
+    }
+}
+
+/// The refused evidence word and no other is marked in a text of the guard.
+#[test]
+fn texts_mark_the_refused_word() {
+    for (name, line, _) in expected() {
+        let text = text(&name);
+        let marked = text.lines().position(|line| line.contains("] REFUSED 8: "));
+        let Some(place) = line.strip_prefix("refused 8 ") else {
+            assert_eq!(marked, None, "{name}");
+            continue;
+        };
+        let marked = text.lines().nth(marked.expect("a mark")).expect("a line");
+        let number = marked.split('#').nth(1).expect("a comment").split_whitespace().next().expect("its number");
+        assert!(text.contains(&format!("# {number} at word {place}: ")), "{name}: {marked}");
+    }
+}
+
+/// `[1.2] at word 38` above an evidence word is its place.
+#[test]
+fn evidence_words_stand_where_the_texts_say() {
+    for (name, line, _) in expected() {
+        let (mut place, mut said, mut checked) = (0, None, 0);
+        for line in text(&name).lines() {
+            let (words, comment) = line.split_once('#').unwrap_or((line, ""));
+            if let Some((_, at)) = comment.split_once("] at word ") {
+                said = at.split(':').next().and_then(|n| n.parse::<usize>().ok());
+            }
+            for word in words.split_whitespace() {
+                if ["33:", "34:", "35:"].iter().any(|kind| word.starts_with(kind)) {
+                    assert_eq!(said.take(), Some(place), "{name}: {line}");
+                    checked += 1;
+                }
+                place += 1;
+            }
+        }
+        assert!(checked > 0 && (line.starts_with("refused") || line == format!("accepted {checked}")), "{name}");
+    }
+}
+
+/// Text that can be followed by hand exists for every rule, and is the file.
+#[test]
+fn annotated_text_of_generated_files() {
+    let names = Names { scalars: &["zero"], arrays: &["first", "second"] };
+    for i in 0..300 {
+        let bytes = accepted(&mut file_prng(31, i));
+        let file = read(&bytes).expect("readable");
+        let text = annotate(&file, &names).expect("each rule fits its command");
+        assert_eq!(assemble(&text), Ok(bytes), "{text}");
+    }
+}
+
+/// The end of a run of the file's program by the runner, from scalars that are 0 but for these.
+fn end_of(name: &str, start: &[(u32, i64)]) -> Vec<i64> {
+    let mut scalars = vec![0; SCALARS];
+    for (x, value) in start {
+        scalars[*x as usize] = *value;
+    }
+    let mut arrays = vec![0; ARRAY_VALUES];
+    assert_eq!(run(&bytes(name), 100, &mut scalars, &mut arrays).end_text(), "ended");
+    scalars
+}
+
+/// Figure 2, each way open or shut by its two flags: data passes or all stays.
+#[test]
+fn the_guard_does_what_the_figure_says() {
+    let ways = [
+        (IN_0_RDY, IN_0_DAT, OUT_1_RDY, OUT_1_DAT, D_0),
+        (IN_1_RDY, IN_1_DAT, OUT_0_RDY, OUT_0_DAT, D_1),
+    ];
+    for flags in 0..16 {
+        let ready = |way: usize| [i64::from(flags >> (2 * way) & 1), i64::from(flags >> (2 * way + 1) & 1)];
+        let mut start = vec![(IN_0_DAT, 50), (IN_1_DAT, 51), (OUT_0_DAT, 60), (OUT_1_DAT, 61)];
+        for (i, (in_rdy, _, out_rdy, _, _)) in ways.iter().enumerate() {
+            start.extend([(*in_rdy, ready(i)[0]), (*out_rdy, ready(i)[1])]);
+        }
+        let end = end_of("guard-both", &start);
+        let at = |x: u32| end[x as usize];
+        for (i, (in_rdy, in_dat, out_rdy, out_dat, data)) in ways.into_iter().enumerate() {
+            let lent = |x: u32| start.iter().find(|(y, _)| *y == x).map_or(0, |(_, value)| *value);
+            let wanted = match ready(i) {
+                [1, 0] => [0, 1, lent(in_dat), lent(in_dat)],
+                [one, other] => [one, other, lent(out_dat), 0],
+            };
+            assert_eq!([at(in_rdy), at(out_rdy), at(out_dat), at(data)], wanted, "flags {flags}");
+            assert_eq!(at(in_dat), lent(in_dat));
+        }
+    }
+}
+
+/// Demand 3 by search: agreeing starts, agreeing ends.
+#[test]
+fn good_contracts_hold_of_runs() {
+    for name in ["copy", "gate", "guard-output-0", "guard-output-1", "guard-both"] {
+        let file = read(&bytes(name)).expect("readable");
+        let mut agreed = 0;
+        for i in 0..3_000 {
+            let found = try_pair(&mut file_prng(32, i), &file, 100).0;
+            assert_ne!(found, Found::Counterexample, "{name}");
+            agreed += u64::from(found == Found::Agree);
+        }
+        assert!(agreed > 1_000, "{name}: {agreed}");
+    }
+}
+
+fn store(scalars: &[i64]) -> Store {
+    Store {
+        scalars: scalars.iter().map(|value| Big::from(*value)).collect(),
+        arrays: vec![Map::everywhere(Big::from(0)); 32],
+    }
+}
+
+/// Two starts: do they agree as P demands, and do their ends agree as Q demands?
+fn judged_by_runs(file: &File, one: &[(u32, i64)], two: &[(u32, i64)]) -> (bool, bool) {
+    let start = |given: &[(u32, i64)]| {
+        let mut scalars = [0; 32];
+        given.iter().for_each(|(x, value)| scalars[*x as usize] = *value);
+        store(&scalars)
+    };
+    let starts = [start(one), start(two)];
+    let mut ends = starts.clone();
+    for end in &mut ends {
+        unbounded::run(&file.command, end, &mut 100).expect("the guard ends");
+    }
+    (agree(&file.pre, &starts[0], &starts[1]), agree(&file.post, &ends[0], &ends[1]))
+}
+
+/// The pairs of `examples/README.md`: each faulty contract is broken, and the good one holds of them.
+#[test]
+fn faulty_contracts_are_broken_by_runs() {
+    let rest = [(IN_1_DAT, 5), (OUT_0_DAT, 7)];
+    let leaks = [
+        ("guard-without-test", vec![(IN_1_RDY, 1)], vec![(IN_1_RDY, 0)]),
+        ("guard-rule-18", vec![], vec![(OUT_0_DAT, 8)]),
+        (
+            "guard-crossed",
+            vec![(IN_0_RDY, 1), (IN_1_RDY, 1), (IN_0_DAT, 3)],
+            vec![(IN_0_RDY, 1), (IN_1_RDY, 1), (IN_0_DAT, 4)],
+        ),
+    ];
+    let good = read(&bytes("guard-output-0")).expect("readable");
+    for (name, one, two) in leaks {
+        let file = read(&bytes(name)).expect("readable");
+        let (one, two) = ([&rest[..], &one].concat(), [&rest[..], &two].concat());
+        assert_eq!(judged_by_runs(&file, &one, &two), (true, false), "{name}");
+        let (agreed, ended) = judged_by_runs(&good, &one, &two);
+        assert!(!agreed || ended, "{name}");
+    }
+}
+
+/// Figure 3 (a), written out: what the two outputs derive from.
+#[test]
+fn the_contract_is_that_of_figure_3() {
+    let file = read(&bytes("guard-both")).expect("readable");
+    let shown: Vec<String> = file.pre.iter().map(|member| NAMES.member(member)).collect();
+    let wanted = [
+        "IN_1_RDY = 1 ∧ ¬(OUT_0_RDY = 1) ⇒ IN_1_DAT",
+        "¬(IN_1_RDY = 1) ∨ OUT_0_RDY = 1 ⇒ OUT_0_DAT",
+        "true ⇒ (IN_1_RDY = 1)",
+        "true ⇒ (OUT_0_RDY = 1)",
+        "IN_0_RDY = 1 ∧ ¬(OUT_1_RDY = 1) ⇒ IN_0_DAT",
+        "¬(IN_0_RDY = 1) ∨ OUT_1_RDY = 1 ⇒ OUT_1_DAT",
+        "true ⇒ (IN_0_RDY = 1)",
+        "true ⇒ (OUT_1_RDY = 1)",
+    ];
+    assert_eq!(shown, wanted);
+    let outputs: Vec<&Expression> = file.post.iter().map(|member| &member.e).collect();
+    let shown: Vec<String> = outputs.into_iter().map(|e| NAMES.expression(e)).collect();
+    assert_eq!(shown, ["OUT_0_DAT", "OUT_1_DAT"]);
+}
