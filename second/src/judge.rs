@@ -36,6 +36,15 @@ impl Answer {
     }
 }
 
+/// The line of a packed answer.
+pub fn line_of(packed: u32) -> String {
+    if packed < 65_536 {
+        format!("accepted {packed}")
+    } else {
+        format!("refused {} {}", packed / 65_536, packed % 65_536)
+    }
+}
+
 pub fn check(bytes: &[u8]) -> Answer {
     match read(bytes) {
         Err(refusal) => Answer::Refused(refusal),

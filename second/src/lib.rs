@@ -25,6 +25,9 @@ pub mod modified;
 pub mod replace;
 pub mod sets;
 
+// The check and the runner again, plain and fast: what the benchmark compares with.
+pub mod fast;
+
 // The runner, and runs without bounds.
 pub mod big;
 pub mod run;

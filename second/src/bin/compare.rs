@@ -1,11 +1,12 @@
 //! `compare SEED COUNT [FROM] [stop]`: makes COUNT files (from number FROM)
-//! and compares the second implementation's answers with those of the first,
-//! if one is linked (feature `first`, see build.rs). For a difference the
-//! file in hexadecimal and both answers; exit status 1. With `stop`, only up
-//! to the first difference.
+//! and compares the second implementation's answers with those of the fast
+//! version and of the first, if one is linked (feature `first`, see
+//! build.rs). For a difference the file in hexadecimal and both answers; exit
+//! status 1. With `stop`, only up to the first difference.
 
+use second::fast;
 use second::generate::{mixed, Kind};
-use second::judge::{check, postcondition, precondition, Answer};
+use second::judge::{check, line_of, postcondition, precondition, Answer};
 use second::rows::hex_of;
 use std::collections::BTreeMap;
 use std::time::{Duration, Instant};
@@ -27,14 +28,6 @@ mod first {
 mod first {
     pub fn answer(_: &[u8]) -> Option<u32> {
         None
-    }
-}
-
-fn text(packed: u32) -> String {
-    if packed < 65_536 {
-        format!("accepted {packed}")
-    } else {
-        format!("refused {} {}", packed / 65_536, packed % 65_536)
     }
 }
 
@@ -85,14 +78,14 @@ fn main() {
         let before = Instant::now();
         let other = first::answer(&bytes);
         first_time += before.elapsed();
-        if let Some(packed) = other {
-            compared += 1;
-            if packed != answer.packed() {
-                differences += 1;
-                println!("file {i} of seed {seed} ({kind:?}): {}", hex_of(&bytes));
-                println!("  first:  {}", text(packed));
-                println!("  second: {}", answer.line());
-            }
+        compared += u64::from(other.is_some());
+        let fast = Some(fast::check(&bytes));
+        for (name, packed) in [("first", other), ("fast", fast)] {
+            let Some(packed) = packed.filter(|p| *p != answer.packed()) else { continue };
+            differences += 1;
+            println!("file {i} of seed {seed} ({kind:?}): {}", hex_of(&bytes));
+            println!("  {name}:  {}", line_of(packed));
+            println!("  second: {}", answer.line());
         }
     }
     println!("seed {seed}, files {from} to {}", from + made);

@@ -1,7 +1,8 @@
 //! `compare_runs SEED COUNT [ROWS]`: makes COUNT runs and compares the second implementation's end, steps and whole store
-//! with those of the first, if one is linked (feature `first`, see build.rs); and the first with the rows of a file in the
-//! form of the vectors' runs.txt, if one is given. Exit status 1 on a difference.
+//! with those of the fast version and of the first, if one is linked (feature `first`, see build.rs); and these two with the
+//! rows of a file in the form of the vectors' runs.txt, if one is given. Exit status 1 on a difference.
 
+use second::fast;
 use second::generate::file_prng;
 use second::rows::{bytes_of_hex, changes_of, hex_of, store_of};
 use second::run::{run, SCALARS};
@@ -54,11 +55,21 @@ fn end_text(code: u64) -> String {
     }
 }
 
-/// The first implementation's end, steps and changes.
-fn first_run(bytes: &[u8], budget: u64, store: &[i64]) -> Option<(String, u64, String)> {
+/// The end, the steps and what changed in the store.
+type Outcome = (String, u64, String);
+
+/// The steps, and 0 or number × 65,536 + place; the two slices are the store.
+type Answer = fn(&[u8], u64, &mut [i64], &mut [i64]) -> Option<(u64, u64)>;
+
+fn fast_answer(bytes: &[u8], budget: u64, scalars: &mut [i64], values: &mut [i64]) -> Option<(u64, u64)> {
+    let packed = fast::run(bytes, budget, scalars, values);
+    Some((packed >> 32, packed & 0xffff_ffff))
+}
+
+fn outcome(answer: Answer, bytes: &[u8], budget: u64, store: &[i64]) -> Option<Outcome> {
     let mut after = store.to_vec();
     let (scalars, values) = after.split_at_mut(SCALARS);
-    let (steps, code) = first::answer(bytes, budget, scalars, values)?;
+    let (steps, code) = answer(bytes, budget, scalars, values)?;
     Some((end_text(code), steps, changes_of(store, &after)))
 }
 
@@ -70,12 +81,13 @@ fn main() {
         std::process::exit(2);
     };
     let (mut compared, mut differences) = (0u64, 0u64);
-    let mut check = |name: String, bytes: &[u8], got: Option<(String, u64, String)>, want: (String, u64, String)| {
-        if let Some(got) = got {
+    let mut check = |name: String, bytes: &[u8], budget: u64, store: &[i64], want: Outcome| {
+        for (which, answer) in [("first", first::answer as Answer), ("fast", fast_answer)] {
+            let Some(got) = outcome(answer, bytes, budget, store) else { continue };
             compared += 1;
             if got != want {
                 differences += 1;
-                println!("{name}: {}\n  first  {got:?}\n  second {want:?}", hex_of(bytes));
+                println!("{name}: {}\n  {which} {got:?}\n  wanted {want:?}", hex_of(bytes));
             }
         }
     };
@@ -85,7 +97,7 @@ fn main() {
         let (scalars, arrays) = store.split_at_mut(SCALARS);
         let outcome = run(&case.bytes, case.budget, scalars, arrays);
         let want = (outcome.end_text(), outcome.steps, changes_of(&case.store, &store));
-        check(format!("seed {seed}, run {i}"), &case.bytes, first_run(&case.bytes, case.budget, &case.store), want);
+        check(format!("seed {seed}, run {i}"), &case.bytes, case.budget, &case.store, want);
     }
     if let Some(rows) = arguments.get(2) {
         for row in std::fs::read_to_string(rows).expect("the rows").lines().filter(|l| !l.starts_with('#')) {
@@ -94,14 +106,15 @@ fn main() {
             let bytes = bytes_of_hex(fields[4]).expect("hexadecimal");
             let store = store_of(fields[5]).expect("a store");
             let want = (fields[2].to_string(), fields[3].parse().expect("steps"), fields[6].to_string());
-            check(fields[0].to_string(), &bytes, first_run(&bytes, budget, &store), want);
+            check(fields[0].to_string(), &bytes, budget, &store, want);
         }
     }
     // refusal 11: a store of another size, untouched, with no step
     let file = run_case(&mut file_prng(seed, 0)).bytes;
     for (n, k) in [(31, 2048), (33, 2048), (32, 2047), (32, 2049), (0, 0)] {
-        let (mut scalars, mut values) = (vec![7i64; n], vec![7i64; k]);
-        if let Some(got) = first::answer(&file, 10, &mut scalars, &mut values) {
+        for answer in [first::answer as Answer, fast_answer] {
+            let (mut scalars, mut values) = (vec![7i64; n], vec![7i64; k]);
+            let Some(got) = answer(&file, 10, &mut scalars, &mut values) else { continue };
             compared += 1;
             if got != (0, 11 * 65_536) || scalars.iter().chain(&values).any(|v| *v != 7) {
                 differences += 1;

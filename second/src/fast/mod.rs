@@ -1,0 +1,109 @@
+//! A plain fast version of the check and of the runner, from document 01: what one writes for speed where nothing has to be
+//! proved. The benchmark compares the proved code with it. Nothing is allocated: a part of the file is its place among the words,
+//! a goal is such places, and each part's end and identifiers are worked out once, while it is read.
+
+mod flow;
+mod implication;
+mod implies;
+mod layout;
+mod pre;
+mod read;
+mod run;
+mod sets;
+
+pub use run::run;
+
+use layout::MOST_WORDS;
+
+/// A refusal: number × 65,536 + place.
+type Refused = u32;
+
+fn refusal(number: u32, place: usize) -> Refused {
+    number << 16 | place as u32
+}
+
+/// What is known of the file's words; the arrays are as long as the longest file.
+struct Parts {
+    words: [u32; MOST_WORDS],
+    /// The place past the part that starts here.
+    ends: [u16; MOST_WORDS],
+    /// Of an expression or a set: the identifiers in it. Of a command: those it modifies. Bit x is scalar x, bit 32 + a array a.
+    identifiers: [u64; MOST_WORDS],
+}
+
+impl Parts {
+    fn end(&self, place: usize) -> usize {
+        usize::from(self.ends[place])
+    }
+
+    fn kind(&self, place: usize) -> u32 {
+        layout::kind(self.words[place])
+    }
+
+    fn payload(&self, place: usize) -> u32 {
+        layout::payload(self.words[place])
+    }
+
+    /// "Compared by words."
+    fn equal(&self, a: usize, b: usize) -> bool {
+        self.words[a] == self.words[b] && self.same_words(a, self.end(a), b, self.end(b))
+    }
+
+    fn same_words(&self, a: usize, a_end: usize, b: usize, b_end: usize) -> bool {
+        const FEW: usize = 8;
+        let (left, right) = (&self.words[a..a_end], &self.words[b..b_end]);
+        if left.len() != right.len() {
+            return false;
+        }
+        if left.len() > FEW {
+            return left == right;
+        }
+        // a call to compare memory costs more than a few words do
+        left.iter().zip(right).all(|(x, y)| x == y)
+    }
+
+    /// If the words from `place` on start with those of `part`, the place past them.
+    fn after(&self, place: usize, part: usize) -> Option<usize> {
+        let words = &self.words[part..self.end(part)];
+        let end = place + words.len();
+        (self.words.get(place..end)? == words).then_some(end)
+    }
+
+    /// The same of one word.
+    fn after_word(&self, place: usize, word: u32) -> Option<usize> {
+        (*self.words.get(place)? == word).then_some(place + 1)
+    }
+}
+
+/// The judge of a file that was read.
+struct Judge<'a> {
+    parts: &'a Parts,
+    /// For an implication at work: the number of the comparison at a place.
+    numbers: [u8; MOST_WORDS],
+}
+
+/// A goal judged.
+type Judged = Result<(), Refused>;
+
+/// Refusal 8 at an evidence word whose condition fails.
+fn need(condition: bool, place: usize) -> Judged {
+    if condition {
+        Ok(())
+    } else {
+        Err(refusal(8, place))
+    }
+}
+
+/// The check on bytes: the count of evidence words if accepted, else number × 65,536 + place.
+pub fn check(bytes: &[u8]) -> u32 {
+    let mut parts = Parts { words: [0; MOST_WORDS], ends: [0; MOST_WORDS], identifiers: [0; MOST_WORDS] };
+    let file = match read::read(bytes, &mut parts) {
+        Ok(file) => file,
+        Err(refused) => return refused,
+    };
+    let mut judge = Judge { parts: &parts, numbers: [0; MOST_WORDS] };
+    match judge.flow(file.pre, file.command, file.post, file.evidence) {
+        Ok(()) => file.count,
+        Err(refused) => refused,
+    }
+}

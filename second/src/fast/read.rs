@@ -1,0 +1,203 @@
+//! Refusals 1 to 7. Each part that is read leaves its end and its identifiers; refusal 7 is seen on the way and said last.
+
+use super::layout::*;
+use super::{refusal, Parts, Refused};
+
+/// A file that was read: the places of its parts, and the count of its evidence words.
+pub struct File {
+    pub command: usize,
+    pub pre: usize,
+    pub post: usize,
+    pub evidence: usize,
+    pub count: u32,
+}
+
+struct Reader<'a> {
+    parts: &'a mut Parts,
+    words: usize,
+    at: usize,
+    count: u32,
+    /// The first `for` that refusal 7 is true of, if any.
+    bad_for: usize,
+}
+
+/// The identifiers of what was read.
+type Read = Result<u64, Refused>;
+
+pub fn read(bytes: &[u8], parts: &mut Parts) -> Result<File, Refused> {
+    let words = bytes.len() / 4;
+    if bytes.is_empty() || words > MOST_WORDS || bytes.len() % 4 != 0 {
+        return Err(refusal(1, 0));
+    }
+    for (word, four) in parts.words.iter_mut().zip(bytes.chunks_exact(4)) {
+        *word = u32::from_le_bytes([four[0], four[1], four[2], four[3]]);
+    }
+    if parts.words[0] != word(FILE, words as u32) {
+        return Err(refusal(2, 0));
+    }
+    let mut reader = Reader { parts, words, at: 1, count: 0, bad_for: usize::MAX };
+    let file = reader.file()?;
+    if reader.at < words {
+        return Err(refusal(6, reader.at));
+    }
+    if reader.bad_for < words {
+        return Err(refusal(7, reader.bad_for));
+    }
+    Ok(file)
+}
+
+impl Reader<'_> {
+    fn file(&mut self) -> Result<File, Refused> {
+        let command = self.at;
+        self.command(1)?;
+        let pre = self.at;
+        self.set(1)?;
+        let post = self.at;
+        self.set(1)?;
+        let evidence = self.at;
+        self.evidence(FLOW, 1)?;
+        Ok(File { command, pre, post, evidence, count: self.count })
+    }
+
+    /// The word that is due: refusals 3 and 4.
+    #[inline(always)]
+    fn due(&mut self, depth: u32) -> Result<(usize, u32), Refused> {
+        let place = self.at;
+        if place >= self.words {
+            return Err(refusal(3, self.words));
+        }
+        if depth > MOST_DEPTH {
+            return Err(refusal(4, place));
+        }
+        self.at = place + 1;
+        Ok((place, self.parts.words[place]))
+    }
+
+    #[inline(always)]
+    fn done(&mut self, place: usize, identifiers: u64) -> Read {
+        self.parts.ends[place] = self.at as u16;
+        self.parts.identifiers[place] = identifiers;
+        Ok(identifiers)
+    }
+
+    fn arithmetic(&mut self, depth: u32) -> Read {
+        let (place, word) = self.due(depth)?;
+        self.arithmetic_from(place, word, depth)
+    }
+
+    fn arithmetic_from(&mut self, place: usize, word: u32, depth: u32) -> Read {
+        let identifiers = match (kind(word), payload(word)) {
+            (CONSTANT, _) => 0,
+            (SCALAR, p @ 0..=31) => 1 << p,
+            (OPERATOR, 0..=2) => self.arithmetic(depth + 1)? | self.arithmetic(depth + 1)?,
+            (SELECT, 0) => self.array(depth + 1)? | self.arithmetic(depth + 1)?,
+            _ => return Err(refusal(5, place)),
+        };
+        self.done(place, identifiers)
+    }
+
+    fn boolean(&mut self, depth: u32) -> Read {
+        let (place, word) = self.due(depth)?;
+        self.boolean_from(place, word, depth)
+    }
+
+    fn boolean_from(&mut self, place: usize, word: u32, depth: u32) -> Read {
+        let identifiers = match (kind(word), payload(word)) {
+            (COMPARISON, 0..=2) => self.arithmetic(depth + 1)? | self.arithmetic(depth + 1)?,
+            (TRUTH, 0..=1) => 0,
+            (AND | OR, 0) => self.boolean(depth + 1)? | self.boolean(depth + 1)?,
+            (NOT, 0) => self.boolean(depth + 1)?,
+            _ => return Err(refusal(5, place)),
+        };
+        self.done(place, identifiers)
+    }
+
+    fn array(&mut self, depth: u32) -> Read {
+        let (place, word) = self.due(depth)?;
+        self.array_from(place, word, depth)
+    }
+
+    fn array_from(&mut self, place: usize, word: u32, depth: u32) -> Read {
+        let identifiers = match (kind(word), payload(word)) {
+            (ARRAY, p @ 0..=31) => 1 << (32 + p),
+            (ZERO, 0) => 0,
+            (UPDATE, 0) => {
+                self.array(depth + 1)? | self.arithmetic(depth + 1)? | self.arithmetic(depth + 1)?
+            }
+            _ => return Err(refusal(5, place)),
+        };
+        self.done(place, identifiers)
+    }
+
+    fn expression(&mut self, depth: u32) -> Read {
+        let (place, word) = self.due(depth)?;
+        match kind(word) {
+            COMPARISON..=NOT => self.boolean_from(place, word, depth),
+            ARRAY..=UPDATE => self.array_from(place, word, depth),
+            _ => self.arithmetic_from(place, word, depth),
+        }
+    }
+
+    /// The identifiers are those that the command modifies.
+    fn command(&mut self, depth: u32) -> Read {
+        let (place, word) = self.due(depth)?;
+        let below = depth + 1;
+        let modified = match (kind(word), payload(word)) {
+            (SKIP, 0) => 0,
+            (SEQUENCE, 0) => self.command(below)? | self.command(below)?,
+            (ASSERT, 0) => self.boolean(below).map(|_| 0)?,
+            (ASSIGN, p @ 0..=31) => self.arithmetic(below).map(|_| 1 << p)?,
+            (ASSIGN_ARRAY, p @ 0..=31) => self.array(below).map(|_| 1 << (32 + p))?,
+            (IF, 0) => {
+                self.boolean(below)?;
+                self.command(below)? | self.command(below)?
+            }
+            (WHILE, 0) => {
+                self.boolean(below)?;
+                self.command(below)?
+            }
+            (FOR, p @ 0..=1023) => self.body(place, p % 32, p / 32, below)?,
+            _ => return Err(refusal(5, place)),
+        };
+        self.done(place, modified)
+    }
+
+    /// The body of a `for`: refusal 7 is kept for later.
+    fn body(&mut self, place: usize, q: u32, m: u32, depth: u32) -> Read {
+        let modified = self.command(depth)?;
+        if q == m || modified & (1 << q | 1 << m) != 0 {
+            self.bad_for = self.bad_for.min(place);
+        }
+        Ok(modified | 1 << q)
+    }
+
+    fn set(&mut self, depth: u32) -> Read {
+        let (place, word) = self.due(depth)?;
+        if kind(word) != SET || payload(word) > MOST_MEMBERS {
+            return Err(refusal(5, place));
+        }
+        let mut identifiers = 0;
+        for _ in 0..payload(word) {
+            identifiers |= self.boolean(depth + 1)? | self.expression(depth + 1)?;
+        }
+        self.done(place, identifiers)
+    }
+
+    fn evidence(&mut self, wanted: u32, depth: u32) -> Read {
+        let (place, word) = self.due(depth)?;
+        let items = match items(wanted, payload(word)) {
+            Some(items) if kind(word) == wanted => items,
+            _ => return Err(refusal(5, place)),
+        };
+        self.count += 1;
+        for item in items {
+            match item {
+                Item::Set => self.set(depth + 1)?,
+                Item::Boolean => self.boolean(depth + 1)?,
+                Item::Command => self.command(depth + 1)?,
+                Item::Evidence(kind) => self.evidence(*kind, depth + 1)?,
+            };
+        }
+        self.done(place, 0)
+    }
+}
