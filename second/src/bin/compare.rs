@@ -52,6 +52,7 @@ fn main() {
     let mut compared = 0u64;
     let mut second_time = Duration::ZERO;
     let mut first_time = Duration::ZERO;
+    let mut work = fast::Work::new();
     let start = Instant::now();
     for i in from..from + count {
         if stop && differences > 0 {
@@ -79,7 +80,7 @@ fn main() {
         let other = first::answer(&bytes);
         first_time += before.elapsed();
         compared += u64::from(other.is_some());
-        let fast = Some(fast::check(&bytes));
+        let fast = Some(fast::check(&bytes, &mut work));
         for (name, packed) in [("first", other), ("fast", fast)] {
             let Some(packed) = packed.filter(|p| *p != answer.packed()) else { continue };
             differences += 1;

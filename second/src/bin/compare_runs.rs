@@ -62,7 +62,7 @@ type Outcome = (String, u64, String);
 type Answer = fn(&[u8], u64, &mut [i64], &mut [i64]) -> Option<(u64, u64)>;
 
 fn fast_answer(bytes: &[u8], budget: u64, scalars: &mut [i64], values: &mut [i64]) -> Option<(u64, u64)> {
-    let packed = fast::run(bytes, budget, scalars, values);
+    let packed = fast::run(bytes, budget, scalars, values, &mut fast::Work::new());
     Some((packed >> 32, packed & 0xffff_ffff))
 }
 

@@ -8,7 +8,7 @@ const MOST_COMPARISONS: usize = 10;
 const MOST_NUMBERS: usize = 16;
 
 /// The columns of the comparisons: row r gives comparison k bit k of r.
-const COLUMNS: [[u64; MOST_NUMBERS]; MOST_COMPARISONS] = columns();
+static COLUMNS: [[u64; MOST_NUMBERS]; MOST_COMPARISONS] = columns();
 
 const fn columns() -> [[u64; MOST_NUMBERS]; MOST_COMPARISONS] {
     let mut columns = [[0; MOST_NUMBERS]; MOST_COMPARISONS];
@@ -50,7 +50,7 @@ struct Table<'a> {
 impl Judge<'_> {
     /// Whether the left literals together imply the right part (none: false); refusals 8 and 9 are at `place`.
     pub fn implies(&mut self, left: &[Literal], right: Option<usize>, place: usize) -> Result<(), Refused> {
-        let numbers = &mut self.numbers;
+        let numbers = &mut *self.numbers;
         let mut table = Table { parts: self.parts, numbers, found: [0; MOST_COMPARISONS], count: 0 };
         let all = left.iter().map(|literal| literal.part).chain(right);
         for part in all {
@@ -88,6 +88,11 @@ impl Table<'_> {
 
     fn number(&mut self, comparison: usize) -> Option<usize> {
         let known = &self.found[..self.count];
+        // an antecedent is met often: try the number that it gave this comparison the last time
+        let last = usize::from(self.numbers[comparison]);
+        if known.get(last).is_some_and(|other| self.parts.equal(comparison, *other)) {
+            return Some(last);
+        }
         if let Some(number) = known.iter().position(|other| self.parts.equal(comparison, *other)) {
             return Some(number);
         }
@@ -113,26 +118,37 @@ impl Table<'_> {
 
     fn column<const N: usize>(&self, part: usize, out: &mut [u64; N]) {
         match self.parts.kind(part) {
-            COMPARISON => {
-                let number = usize::from(self.numbers[part]);
-                out.copy_from_slice(&COLUMNS[number][..N]);
-            }
+            COMPARISON => *out = *self.comparison(part),
             TRUTH => *out = [if self.parts.payload(part) == 1 { u64::MAX } else { 0 }; N],
             NOT => {
                 self.column(part + 1, out);
                 out.iter_mut().for_each(|x| *x = !*x);
             }
             kind => {
-                let mut second = [0; N];
                 self.column(part + 1, out);
-                self.column(self.parts.end(part + 1), &mut second);
-                if kind == AND {
-                    each(out, &second, |a, b| a & b);
+                let right = self.parts.end(part + 1);
+                if self.parts.kind(right) == COMPARISON {
+                    join(kind, out, self.comparison(right));
                 } else {
-                    each(out, &second, |a, b| a | b);
+                    let mut column = [0; N];
+                    self.column(right, &mut column);
+                    join(kind, out, &column);
                 }
             }
         }
+    }
+
+    fn comparison<const N: usize>(&self, part: usize) -> &'static [u64; N] {
+        let column = &COLUMNS[usize::from(self.numbers[part])];
+        column[..N].try_into().expect("N is at most the length")
+    }
+}
+
+fn join<const N: usize>(kind: u32, out: &mut [u64; N], other: &[u64; N]) {
+    if kind == AND {
+        each(out, other, |a, b| a & b);
+    } else {
+        each(out, other, |a, b| a | b);
     }
 }
 

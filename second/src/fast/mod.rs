@@ -1,6 +1,7 @@
 //! A plain fast version of the check and of the runner, from document 01: what one writes for speed where nothing has to be
-//! proved. The benchmark compares the proved code with it. Nothing is allocated: a part of the file is its place among the words,
-//! a goal is such places, and each part's end and identifiers are worked out once, while it is read.
+//! proved. The benchmark compares the proved code with it. Nothing is allocated or cleared: the caller lends the arrays. A part of
+//! the file is its place among the words, a goal is such places, and each part's end and identifiers are worked out once, while
+//! it is read.
 
 mod flow;
 mod implication;
@@ -15,14 +16,34 @@ pub use run::run;
 
 use layout::MOST_WORDS;
 
-/// A refusal: number × 65,536 + place.
-type Refused = u32;
+/// A refusal: number × 65,536 + place. As wide as what a part's reading gives, so that a result is handed back in registers.
+type Refused = u64;
 
 fn refusal(number: u32, place: usize) -> Refused {
-    number << 16 | place as u32
+    u64::from(number) << 16 | place as u64
 }
 
-/// What is known of the file's words; the arrays are as long as the longest file.
+/// The arrays that a caller lends, each as long as the longest file. What earlier calls left in them plays no part.
+pub struct Work {
+    parts: Parts,
+    /// For an implication: the number of the comparison at a place.
+    numbers: [u8; MOST_WORDS],
+}
+
+impl Work {
+    pub const fn new() -> Work {
+        let parts = Parts { words: [0; MOST_WORDS], ends: [0; MOST_WORDS], identifiers: [0; MOST_WORDS] };
+        Work { parts, numbers: [0; MOST_WORDS] }
+    }
+}
+
+impl Default for Work {
+    fn default() -> Work {
+        Work::new()
+    }
+}
+
+/// What is known of the file's words.
 struct Parts {
     words: [u32; MOST_WORDS],
     /// The place past the part that starts here.
@@ -78,8 +99,7 @@ impl Parts {
 /// The judge of a file that was read.
 struct Judge<'a> {
     parts: &'a Parts,
-    /// For an implication at work: the number of the comparison at a place.
-    numbers: [u8; MOST_WORDS],
+    numbers: &'a mut [u8; MOST_WORDS],
 }
 
 /// A goal judged.
@@ -95,15 +115,14 @@ fn need(condition: bool, place: usize) -> Judged {
 }
 
 /// The check on bytes: the count of evidence words if accepted, else number × 65,536 + place.
-pub fn check(bytes: &[u8]) -> u32 {
-    let mut parts = Parts { words: [0; MOST_WORDS], ends: [0; MOST_WORDS], identifiers: [0; MOST_WORDS] };
-    let file = match read::read(bytes, &mut parts) {
+pub fn check(bytes: &[u8], work: &mut Work) -> u32 {
+    let file = match read::read(bytes, &mut work.parts) {
         Ok(file) => file,
-        Err(refused) => return refused,
+        Err(refused) => return refused as u32,
     };
-    let mut judge = Judge { parts: &parts, numbers: [0; MOST_WORDS] };
+    let mut judge = Judge { parts: &work.parts, numbers: &mut work.numbers };
     match judge.flow(file.pre, file.command, file.post, file.evidence) {
         Ok(()) => file.count,
-        Err(refused) => refused,
+        Err(refused) => refused as u32,
     }
 }

@@ -2,7 +2,7 @@
 
 use super::layout::*;
 use super::read::read;
-use super::{refusal, Parts, Refused};
+use super::{refusal, Parts, Refused, Work};
 use crate::run::{ARRAY_VALUES, INDEXES, MOST_BUDGET, SCALARS};
 
 struct Runner<'a> {
@@ -17,21 +17,21 @@ struct Runner<'a> {
 type Valued<T> = Result<T, u32>;
 
 /// Steps × 2^32 + 0 if the run ended, else + number × 65,536 + place.
-pub fn run(bytes: &[u8], budget: u64, scalars: &mut [i64], values: &mut [i64]) -> u64 {
-    let mut parts = Parts { words: [0; MOST_WORDS], ends: [0; MOST_WORDS], identifiers: [0; MOST_WORDS] };
-    let file = match read(bytes, &mut parts) {
+pub fn run(bytes: &[u8], budget: u64, scalars: &mut [i64], values: &mut [i64], work: &mut Work) -> u64 {
+    let parts = &mut work.parts;
+    let file = match read(bytes, parts) {
         Ok(file) => file,
-        Err(refused) => return u64::from(refused),
+        Err(refused) => return refused,
     };
     if budget > MOST_BUDGET {
-        return u64::from(refusal(10, 0));
+        return refusal(10, 0);
     }
     let (Ok(scalars), Ok(values)) = (scalars.try_into(), values.try_into()) else {
-        return u64::from(refusal(11, 0));
+        return refusal(11, 0);
     };
-    let mut runner = Runner { parts: &parts, scalars, values, left: budget };
+    let mut runner = Runner { parts, scalars, values, left: budget };
     let code = runner.command(file.command).err().unwrap_or(0);
-    (budget - runner.left) << 32 | u64::from(code)
+    (budget - runner.left) << 32 | code
 }
 
 impl Runner<'_> {
