@@ -25,8 +25,11 @@ pub mod modified;
 pub mod replace;
 pub mod sets;
 
-// The check and the runner again, plain and fast: what the benchmark compares with.
+// The check and the runner again, plain and fast, and what else the benchmark needs.
 pub mod fast;
+pub mod programs;
+pub mod times;
+pub mod worst;
 
 // The runner, and runs without bounds.
 pub mod big;

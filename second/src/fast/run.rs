@@ -13,8 +13,12 @@ struct Runner<'a> {
     left: u64,
 }
 
-/// A value, or the number of the refusal that it meets (14 or 15).
-type Valued<T> = Result<T, u32>;
+/// A value, or the number of the refusal that it meets (14 or 15), as wide as the value.
+type Valued<T> = Result<T, u64>;
+
+fn refuse<T>(value: Valued<T>, place: usize) -> Result<T, Refused> {
+    value.map_err(|number| refusal(number as u32, place))
+}
 
 /// Steps × 2^32 + 0 if the run ended, else + number × 65,536 + place.
 pub fn run(bytes: &[u8], budget: u64, scalars: &mut [i64], values: &mut [i64], work: &mut Work) -> u64 {
@@ -47,9 +51,9 @@ impl Runner<'_> {
     #[inline(always)]
     fn test(&mut self, part: usize, place: usize) -> Result<bool, Refused> {
         self.due(place)?;
-        let value = self.boolean(part).map_err(|number| refusal(number, place))?;
+        let value = refuse(self.boolean(part), place)?;
         self.left -= 1;
-        Ok(value)
+        Ok(value == 1)
     }
 
     fn command(&mut self, at: usize) -> Result<(), Refused> {
@@ -67,14 +71,14 @@ impl Runner<'_> {
             ASSERT => self.assert(at),
             ASSIGN => {
                 self.due(at)?;
-                let value = self.arithmetic(at + 1).map_err(|number| refusal(number, at))?;
+                let value = refuse(self.arithmetic(at + 1), at)?;
                 self.scalars[parts.payload(at) as usize] = value;
                 self.left -= 1;
                 Ok(())
             }
             ASSIGN_ARRAY => {
                 self.due(at)?;
-                self.assign_array(parts.payload(at), at + 1).map_err(|number| refusal(number, at))?;
+                refuse(self.assign_array(parts.payload(at), at + 1), at)?;
                 self.left -= 1;
                 Ok(())
             }
@@ -97,7 +101,7 @@ impl Runner<'_> {
     /// Refusal 12, tried last at a step.
     fn assert(&mut self, at: usize) -> Result<(), Refused> {
         self.due(at)?;
-        if !self.boolean(at + 1).map_err(|number| refusal(number, at))? {
+        if refuse(self.boolean(at + 1), at)? == 0 {
             return Err(refusal(12, at));
         }
         self.left -= 1;
@@ -122,24 +126,29 @@ impl Runner<'_> {
         }
     }
 
+    /// Scalars and constants, most of all operands, take no call.
+    #[inline(always)]
     fn arithmetic(&self, at: usize) -> Valued<i64> {
         let word = self.parts.words[at];
         match kind(word) {
             // the low 26 bits in two's complement
             CONSTANT => Ok(i64::from((word << 6) as i32 >> 6)),
-            SCALAR => Ok(self.scalars[payload(word) as usize]),
-            OPERATOR => {
-                let a = self.arithmetic(at + 1)?;
-                let b = self.arithmetic(self.parts.end(at + 1))?;
-                match payload(word) {
-                    0 => a.checked_add(b),
-                    1 => a.checked_sub(b),
-                    _ => a.checked_mul(b),
-                }
-                .ok_or(14)
-            }
+            SCALAR => Ok(self.scalars[payload(word) as usize % SCALARS]),
+            OPERATOR => self.operation(at, payload(word)),
             _ => self.select(at + 1),
         }
+    }
+
+    #[inline(never)]
+    fn operation(&self, at: usize, operator: u32) -> Valued<i64> {
+        let a = self.arithmetic(at + 1)?;
+        let b = self.arithmetic(self.parts.end(at + 1))?;
+        match operator {
+            0 => a.checked_add(b),
+            1 => a.checked_sub(b),
+            _ => a.checked_mul(b),
+        }
+        .ok_or(14)
     }
 
     fn index(&self, at: usize) -> Valued<usize> {
@@ -151,6 +160,7 @@ impl Runner<'_> {
         }
     }
 
+    #[inline(never)]
     fn select(&self, array: usize) -> Valued<i64> {
         let index = self.parts.end(array);
         if self.parts.kind(array) == ARRAY {
@@ -197,20 +207,21 @@ impl Runner<'_> {
         Ok(())
     }
 
-    fn boolean(&self, at: usize) -> Valued<bool> {
+    /// 1 for true, 0 for false.
+    fn boolean(&self, at: usize) -> Valued<u64> {
         let word = self.parts.words[at];
         match kind(word) {
             COMPARISON => {
                 let a = self.arithmetic(at + 1)?;
                 let b = self.arithmetic(self.parts.end(at + 1))?;
-                Ok(match payload(word) {
+                Ok(u64::from(match payload(word) {
                     0 => a == b,
                     1 => a < b,
                     _ => a <= b,
-                })
+                }))
             }
-            TRUTH => Ok(payload(word) == 1),
-            NOT => Ok(!self.boolean(at + 1)?),
+            TRUTH => Ok(u64::from(payload(word))),
+            NOT => Ok(1 ^ self.boolean(at + 1)?),
             kind => {
                 let a = self.boolean(at + 1)?;
                 let b = self.boolean(self.parts.end(at + 1))?;

@@ -1,0 +1,58 @@
+//! The fast version against known answers, and the files of growing size.
+
+use second::fast::{check, Work};
+use second::judge::{self, line_of, Answer};
+use second::worst::KINDS;
+use std::path::Path;
+
+fn tests() -> std::path::PathBuf {
+    Path::new(env!("CARGO_MANIFEST_DIR")).join("../tests")
+}
+
+#[test]
+fn rows() {
+    let text = std::fs::read_to_string(tests().join("rows.tsv")).expect("the rows");
+    let mut work = Box::new(Work::new());
+    let mut agreed = 0;
+    for row in text.lines().filter(|l| !l.starts_with('#')) {
+        let fields: Vec<&str> = row.split('\t').collect();
+        let bytes = second::rows::bytes_of_hex(fields[2]).expect("hexadecimal");
+        assert_eq!(line_of(check(&bytes, &mut work)), fields[1], "{}", fields[0]);
+        agreed += 1;
+    }
+    assert!(agreed > 200);
+}
+
+#[test]
+fn usual_and_worst_files() {
+    let mut work = Box::new(Work::new());
+    let mut agreed = 0;
+    for folder in ["usual", "worst"] {
+        let folder = tests().join(folder);
+        for row in std::fs::read_to_string(folder.join("expected")).expect("expected").lines() {
+            let fields: Vec<&str> = row.split('\t').collect();
+            let bytes = std::fs::read(folder.join(fields[0])).expect("a file");
+            assert_eq!(line_of(check(&bytes, &mut work)), fields[1], "{}", fields[0]);
+            assert_eq!(judge::check(&bytes).line(), fields[1], "{}", fields[0]);
+            agreed += 1;
+        }
+    }
+    assert_eq!(agreed, 29);
+}
+
+#[test]
+fn growing_files_are_accepted() {
+    let mut work = Box::new(Work::new());
+    for kind in KINDS {
+        let mut last = 0;
+        for words in [1_024, 2_048, 4_096, 8_192] {
+            let bytes = kind.file(words);
+            assert!(bytes.len() > last && bytes.len() <= 4 * words, "{} of {words}", kind.name);
+            last = bytes.len();
+            let answer = judge::check(&bytes);
+            assert!(matches!(answer, Answer::Accepted(_)), "{}: {}", kind.name, answer.line());
+            assert_eq!(check(&bytes, &mut work), answer.packed(), "{}", kind.name);
+        }
+        assert!(last > 4 * 7_000, "{}: {last} bytes at most", kind.name);
+    }
+}
