@@ -16,7 +16,7 @@ pub struct Kind {
 pub const KINDS: [Kind; 7] = [
     Kind { name: "shared", tries: "an antecedent judged at every leaf of a tree of ifs", make: shared, most: 1_000 },
     Kind { name: "members", tries: "a set whose antecedents each imply false", make: members, most: 64 },
-    Kind { name: "chain", tries: "a chain of implications", make: chain, most: 120 },
+    Kind { name: "chain", tries: "a chain of implications", make: chain, most: 115 },
     Kind { name: "sets", tries: "a set and its reverse compared at every while of a nest", make: sets, most: 64 },
     Kind { name: "modified", tries: "what a long command modifies, asked at every leaf", make: modified, most: 2_000 },
     Kind { name: "replace", tries: "a long right side put into every member", make: replace, most: 64 },
@@ -119,7 +119,7 @@ fn members(count: u32) -> Vec<u32> {
 fn chain(length: u32) -> Vec<u32> {
     let mut evidence = before(BeforeRule::B28 { phi1: always(), inner: before(BeforeRule::B29) });
     for _ in 0..length {
-        evidence = before(BeforeRule::B28 { phi1: or(never(6), always()), inner: evidence });
+        evidence = before(BeforeRule::B28 { phi1: or(never(7), always()), inner: evidence });
     }
     let set = [member(always(), number(5))];
     file_words(&command(Form::Skip), &set, &set, &flow(FlowRule::F11 { before: evidence }))
@@ -167,4 +167,49 @@ fn deep(count: u32) -> Vec<u32> {
     let one = Member { phi: nots.clone(), e: Expression::Bool(nots) };
     let set: Set = (0..count).map(|_| one.clone()).collect();
     file_words(&command(Form::Skip), &set, &set, &flow(FlowRule::F1))
+}
+
+/// Files that take much stack: evidence as deep as may be, and under it a rule that walks an expression as deep as may be.
+pub fn deepest() -> Vec<Vec<u8>> {
+    const DEEP: u32 = 125;
+    let nots = (0..DEEP).fold(Bool::Truth(true), |e, _| not(e));
+    let left = (0..DEEP).fold(always(), |e, _| and(e, always()));
+    let right = (0..DEEP).fold(always(), |e, _| or(always(), e));
+    let mut files: Vec<Vec<u8>> = [&nots, &left, &right].map(|phi| implied_below(phi)).into();
+    let x = || Arith::Scalar(1);
+    let plus_left = (0..DEEP).fold(x(), |e, _| operate(Operator::Plus, e, x()));
+    let plus_right = (0..DEEP).fold(x(), |e, _| operate(Operator::Plus, x(), e));
+    let update = |e: Array| Array::Update(Box::new(e), Box::new(x()), Box::new(x()));
+    let updates = (0..DEEP).fold(Array::Identifier(0), |e, _| update(e));
+    let select = |e: Arith| Arith::Select(Box::new(Array::Identifier(0)), Box::new(e));
+    let selects = (0..DEEP).fold(x(), |e, _| select(e));
+    files.extend([plus_left, plus_right, selects].map(|e| replaced_below(Expression::Arith(e))));
+    files.push(replaced_below(Expression::Array(updates)));
+    files.extend([nots, left, right].map(|e| replaced_below(Expression::Bool(e))));
+    files
+}
+
+/// Rule 28 again and again, then rule 21, whose condition has the antecedent of Q.
+fn implied_below(phi: &Bool) -> Vec<u8> {
+    let mut evidence = before(BeforeRule::B21 { phi0: always(), body: before(BeforeRule::B22) });
+    for _ in 0..120 {
+        evidence = before(BeforeRule::B28 { phi1: always(), inner: evidence });
+    }
+    let c = command(Form::While(Bool::Truth(false), Box::new(command(Form::Skip))));
+    let p = [member(always(), number(5))];
+    let q = [member(phi.clone(), number(5))];
+    bytes_of(&file_words(&c, &p, &q, &flow(FlowRule::F11 { before: evidence })))
+}
+
+/// Rule 13 of flow again and again, then rule 3 for x := x.
+fn replaced_below(e: Expression) -> Vec<u8> {
+    let test = Member { phi: always(), e: Expression::Bool(always()) };
+    let set = [test, Member { phi: always(), e }];
+    let mut c = command(Form::AssignScalar(1, Arith::Scalar(1)));
+    let mut evidence = flow(FlowRule::F3);
+    for _ in 0..125 {
+        c = command(Form::While(always(), Box::new(c)));
+        evidence = flow(FlowRule::F13 { body: evidence });
+    }
+    bytes_of(&file_words(&c, &set, &set, &evidence))
 }

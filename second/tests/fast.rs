@@ -2,7 +2,7 @@
 
 use second::fast::{check, Work};
 use second::judge::{self, line_of, Answer};
-use second::worst::KINDS;
+use second::worst::{deepest, KINDS};
 use std::path::Path;
 
 fn tests() -> std::path::PathBuf {
@@ -54,5 +54,15 @@ fn growing_files_are_accepted() {
             assert_eq!(check(&bytes, &mut work), answer.packed(), "{}", kind.name);
         }
         assert!(last > 4 * 7_000, "{}: {last} bytes at most", kind.name);
+    }
+}
+
+#[test]
+fn deepest_files_are_accepted() {
+    let mut work = Box::new(Work::new());
+    for (i, bytes) in deepest().iter().enumerate() {
+        let answer = judge::check(bytes);
+        assert!(matches!(answer, Answer::Accepted(120..)), "file {i}: {}", answer.line());
+        assert_eq!(check(bytes, &mut work), answer.packed(), "file {i}");
     }
 }

@@ -4,6 +4,7 @@
 use second::fast::{self, Work};
 use second::judge;
 use second::times::best;
+use second::words::MOST_BYTES;
 use std::io::Read;
 use std::sync::Mutex;
 
@@ -34,7 +35,8 @@ fn second(bytes: &[u8]) -> u32 {
 
 fn main() {
     let version = std::env::args().nth(1).unwrap_or_default();
-    let mut bytes = Vec::new();
+    // room for the longest file, so that reading takes the same for all
+    let mut bytes = Vec::with_capacity(2 * MOST_BYTES);
     std::io::stdin().lock().read_to_end(&mut bytes).expect("standard input");
     let answer = match version.as_str() {
         "proved" => proved(&bytes),

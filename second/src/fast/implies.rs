@@ -7,11 +7,12 @@ const MOST_COMPARISONS: usize = 10;
 /// The 1,024 assignments of ten comparisons.
 const MOST_NUMBERS: usize = 16;
 
-/// The columns of the comparisons: row r gives comparison k bit k of r.
-static COLUMNS: [[u64; MOST_NUMBERS]; MOST_COMPARISONS] = columns();
+/// The columns of the comparisons, then of false and of true: row r gives comparison k bit k of r.
+static COLUMNS: [[u64; MOST_NUMBERS]; MOST_COMPARISONS + 2] = columns();
 
-const fn columns() -> [[u64; MOST_NUMBERS]; MOST_COMPARISONS] {
-    let mut columns = [[0; MOST_NUMBERS]; MOST_COMPARISONS];
+const fn columns() -> [[u64; MOST_NUMBERS]; MOST_COMPARISONS + 2] {
+    let mut columns = [[0; MOST_NUMBERS]; MOST_COMPARISONS + 2];
+    columns[MOST_COMPARISONS + 1] = [u64::MAX; MOST_NUMBERS];
     let mut row = 0;
     while row < 64 * MOST_NUMBERS {
         let mut k = 0;
@@ -118,8 +119,7 @@ impl Table<'_> {
 
     fn column<const N: usize>(&self, part: usize, out: &mut [u64; N]) {
         match self.parts.kind(part) {
-            COMPARISON => *out = *self.comparison(part),
-            TRUTH => *out = [if self.parts.payload(part) == 1 { u64::MAX } else { 0 }; N],
+            COMPARISON | TRUTH => *out = *self.leaf(part),
             NOT => {
                 self.column(part + 1, out);
                 out.iter_mut().for_each(|x| *x = !*x);
@@ -127,8 +127,8 @@ impl Table<'_> {
             kind => {
                 self.column(part + 1, out);
                 let right = self.parts.end(part + 1);
-                if self.parts.kind(right) == COMPARISON {
-                    join(kind, out, self.comparison(right));
+                if matches!(self.parts.kind(right), COMPARISON | TRUTH) {
+                    join(kind, out, self.leaf(right));
                 } else {
                     let mut column = [0; N];
                     self.column(right, &mut column);
@@ -138,9 +138,13 @@ impl Table<'_> {
         }
     }
 
-    fn comparison<const N: usize>(&self, part: usize) -> &'static [u64; N] {
-        let column = &COLUMNS[usize::from(self.numbers[part])];
-        column[..N].try_into().expect("N is at most the length")
+    /// The column of a comparison or a truth.
+    fn leaf<const N: usize>(&self, part: usize) -> &'static [u64; N] {
+        let number = match self.parts.kind(part) {
+            COMPARISON => usize::from(self.numbers[part]),
+            _ => MOST_COMPARISONS + self.parts.payload(part) as usize,
+        };
+        COLUMNS[number][..N].try_into().expect("N is at most the length")
     }
 }
 

@@ -1,0 +1,69 @@
+//! `bench`, from the repository's root (see `./benchmark`): the proved check and runner against the fast version and the second
+//! implementation. Prints what it measures, and writes docs/PERFORMANCE.md and its pictures. `bench stack`: only the stack.
+
+mod machine;
+mod measure;
+mod plot;
+mod report;
+mod stack;
+
+use measure::{Bench, Row};
+use second::programs::PROGRAMS;
+use second::worst::KINDS;
+use std::path::Path;
+
+/// The sizes of the growing files, in words.
+const SIZES: [usize; 4] = [1_024, 2_048, 4_096, 8_192];
+
+/// Everything that was measured.
+pub struct Measured {
+    pub usual: Vec<Row>,
+    pub worst: Vec<Row>,
+    /// For each kind of growing files, a row for each size.
+    pub growing: Vec<Vec<Row>>,
+    pub runs: Vec<Row>,
+    pub stack: Vec<stack::Used>,
+}
+
+/// The files of a folder of tests, with their answers and the instructions of the yardstick.
+fn folder(bench: &Bench, name: &str) -> Vec<Row> {
+    let folder = Path::new("tests").join(name);
+    let expected = std::fs::read_to_string(folder.join("expected")).expect("the file `expected`");
+    let mut rows = Vec::new();
+    for line in expected.lines() {
+        let fields: Vec<&str> = line.split('\t').collect();
+        let bytes = std::fs::read(folder.join(fields[0])).expect("a file of tests");
+        let mut row = bench.check(fields[0], &bytes, Some(fields[1]));
+        row.yardstick = Some(fields[2].parse().expect("the yardstick's instructions"));
+        rows.push(bench.show(row));
+    }
+    rows
+}
+
+fn growing(bench: &Bench) -> Vec<Vec<Row>> {
+    let of_kind = |kind: &second::worst::Kind| {
+        let one = |words: &usize| bench.show(bench.check(kind.name, &kind.file(*words), None));
+        SIZES.iter().map(one).collect()
+    };
+    KINDS.iter().map(of_kind).collect()
+}
+
+fn main() {
+    if std::env::args().nth(1).is_some_and(|a| a == "stack") {
+        let used = stack::measure();
+        std::process::exit(i32::from(used.iter().any(|one| one.limit.is_none())));
+    }
+    let bench = Bench::new();
+    println!("instructions without start-up: proved, fast, second; nanoseconds: proved, fast, second");
+    let usual = folder(&bench, "usual");
+    let worst = folder(&bench, "worst");
+    let growing = growing(&bench);
+    let runs = PROGRAMS.iter().map(|program| bench.show(bench.run(program.name))).collect();
+    let stack = stack::measure();
+    let measured = Measured { usual, worst, growing, runs, stack };
+    let write = |name: &str, text: String| std::fs::write(Path::new("docs").join(name), text).expect("docs");
+    write("performance-ratios.svg", plot::ratios(&measured));
+    write("performance-growth.svg", plot::growth(&measured));
+    write("PERFORMANCE.md", report::text(&measured));
+    println!("written: docs/PERFORMANCE.md and its pictures");
+}

@@ -1,0 +1,172 @@
+//! docs/PERFORMANCE.md.
+
+use super::measure::Row;
+use super::{machine, stack, Measured};
+use second::programs::PROGRAMS;
+use second::worst::KINDS;
+use std::fmt::Write;
+
+/// Two or three figures.
+fn figures(x: f64) -> String {
+    match x {
+        x if x < 0.1 => format!("{x:.3}"),
+        x if x < 10.0 => format!("{x:.2}"),
+        x if x < 100.0 => format!("{x:.1}"),
+        _ => format!("{x:.0}"),
+    }
+}
+
+/// With a comma at each thousand.
+fn thousands(n: u64) -> String {
+    let digits = n.to_string();
+    let mut out = String::new();
+    for (i, digit) in digits.chars().enumerate() {
+        if i > 0 && (digits.len() - i) % 3 == 0 {
+            out.push(',');
+        }
+        out.push(digit);
+    }
+    out
+}
+
+fn kib(bytes: usize) -> String {
+    format!("{:.1}", bytes as f64 / 1024.0)
+}
+
+fn check_table(rows: &[Row]) -> String {
+    let mut out = String::from(
+        "| File | KiB | Instructions | ÷ fast | ÷ second | ÷ yardstick | Time ÷ fast | ÷ second |\n|---|--:|--:|--:|--:|--:|--:|--:|\n",
+    );
+    for row in rows {
+        let yardstick = row.yardstick_ratio().map_or(String::new(), figures);
+        let ratios = [figures(row.ratio(1)), figures(row.ratio(2)), yardstick];
+        let times = [figures(row.time_ratio(1)), figures(row.time_ratio(2))];
+        let (name, count) = (&row.name, thousands(row.instructions[0]));
+        let _ = writeln!(out, "| {name} | {} | {count} | {} | {} |", kib(row.bytes), ratios.join(" | "), times.join(" | "));
+    }
+    out
+}
+
+fn run_table(rows: &[Row]) -> String {
+    let mut out = String::from(
+        "| Program | Steps | Instructions a step | ÷ fast | ÷ second | Time ÷ fast | ÷ second |\n|---|--:|--:|--:|--:|--:|--:|\n",
+    );
+    for (row, program) in rows.iter().zip(PROGRAMS) {
+        let steps = row.answer.split([',', ' ']).filter_map(|n| n.parse::<u64>().ok()).nth(1).unwrap_or(1);
+        let each = row.instructions[0] as f64 / steps as f64;
+        let ratios = [row.ratio(1), row.ratio(2), row.time_ratio(1), row.time_ratio(2)].map(figures);
+        let name = format!("{}: {}", row.name, program.does);
+        let _ = writeln!(out, "| {name} | {} | {each:.0} | {} |", thousands(steps), ratios.join(" | "));
+    }
+    out
+}
+
+/// Instructions a word of the file, by size, and the power of the size that the last doubling shows.
+fn growth_table(all: &[Vec<Row>]) -> String {
+    let mut out = String::from("| Kind | Version |");
+    let sizes: Vec<String> = super::SIZES.iter().map(|words| format!(" {} KiB |", words * 4 / 1024)).collect();
+    let _ = writeln!(out, "{} Power |\n|---|---|{}--:|", sizes.concat(), "--:|".repeat(sizes.len()));
+    for (rows, kind) in all.iter().zip(KINDS) {
+        for (version, name) in ["proved", "fast"].iter().enumerate() {
+            let each = |row: &Row| format!(" {} |", figures(row.instructions[version] as f64 * 4.0 / row.bytes as f64));
+            let cells: Vec<String> = rows.iter().map(each).collect();
+            let first = if version == 0 { format!("{}: {}", kind.name, kind.tries) } else { String::new() };
+            let _ = writeln!(out, "| {first} | {name} |{} {:.1} |", cells.concat(), power(rows, version));
+        }
+    }
+    out
+}
+
+fn power(rows: &[Row], version: usize) -> f64 {
+    let [.., a, b] = rows else { return 0.0 };
+    let cost = (b.instructions[version] as f64 / a.instructions[version] as f64).ln();
+    cost / (b.bytes as f64 / a.bytes as f64).ln()
+}
+
+/// From the least to the most of some numbers.
+fn range(numbers: impl Iterator<Item = f64>) -> String {
+    let all: Vec<f64> = numbers.collect();
+    let least = all.iter().copied().fold(f64::INFINITY, f64::min);
+    let most = all.iter().copied().fold(0.0, f64::max);
+    format!("{} to {}", figures(least), figures(most))
+}
+
+fn summary(m: &Measured) -> String {
+    let mut out = String::from("| | ÷ fast | ÷ second | ÷ yardstick | Time ÷ fast |\n|---|--:|--:|--:|--:|\n");
+    for (name, rows) in [("check, usual files", &m.usual), ("check, worst files", &m.worst), ("runner", &m.runs)] {
+        let yardstick = rows.iter().filter_map(|row| row.yardstick_ratio());
+        let yardstick = if rows[0].yardstick.is_some() { range(yardstick) } else { String::new() };
+        let of = |version: usize| range(rows.iter().map(|row| row.ratio(version)));
+        let time = range(rows.iter().map(|row| row.time_ratio(1)));
+        let _ = writeln!(out, "| {name} | {} | {} | {yardstick} | {time} |", of(1), of(2));
+    }
+    out
+}
+
+fn stack_lines(all: &[stack::Used]) -> String {
+    let mut out = String::new();
+    for used in all {
+        let found = match used.limit {
+            Some(limit) => format!("{limit} KiB suffice"),
+            None => format!("{} KiB are NOT enough", stack::MOST),
+        };
+        let _ = writeln!(out, "- {}: {found} for all {} files", used.what, used.files);
+    }
+    out
+}
+
+pub fn text(m: &Measured) -> String {
+    let machine: String = machine::lines().iter().map(|line| format!("- {line}\n")).collect();
+    format!(
+        "{HEAD}\n{machine}\n{}\n{FILES}\n### Usual\n\n{}\n### Worst\n\n{}\n{GROWTH}\n{}\n{RUNNER}\n{}\n{STACK}\n{}",
+        summary(m),
+        check_table(&m.usual),
+        check_table(&m.worst),
+        growth_table(&m.growing),
+        run_table(&m.runs),
+        stack_lines(&m.stack),
+    )
+}
+
+const HEAD: &str = "# Performance
+
+Written by `./benchmark`, which measures again and writes this file and its pictures anew. The proved check and the proved runner, each
+called once through its C function, against
+
+- **fast**: a plain fast version in Rust (`second/src/fast`), written for speed where nothing has to be proved: places in the word
+  array, each part's end and identifiers worked out once, truth tables of 64 assignments in a number, arrays lent by the caller;
+- **second**: the naive second implementation in Rust (`second/src`), trees built on the heap;
+- **yardstick**: another plain Rust version, of which only the counts in `tests/usual/expected` and `tests/worst/expected` are here.
+
+Instructions are counted by `valgrind --tool=callgrind` over a process that makes one call, less the count for an empty input. Valgrind
+counts a string instruction, with which long arrays are copied and cleared, once for each step of it. Times are the best of many calls, the
+versions by turns in one process. Ratios are proved to other: below 1 the proved code takes less. The versions' answers are compared on
+the way; a difference stops the benchmark.
+";
+
+const FILES: &str = "![The proved check's instructions against the others', file by file](performance-ratios.svg)
+
+## The check, file by file
+
+The files are in `tests/usual` (steps of the mailbox guard of paper 000, and chains of steps) and `tests/worst`. Instructions are the
+proved check's.
+";
+
+const GROWTH: &str = "## How the cost grows
+
+Files of `second/src/worst.rs`, made in several sizes: instructions for each word of the file. The power is that of the size with which the
+whole cost grows at the last doubling: 1 is in proportion, 2 with the square.
+
+![Instructions by file size, a panel for each kind of file](performance-growth.svg)
+";
+
+const RUNNER: &str = "## The runner
+
+Programs of `second/src/programs.rs`, with a budget of 1,000,000 steps; the reading of the file is part of it.
+";
+
+const STACK: &str = "## Stack
+
+The least limit of the whole process (`ulimit -s`, in steps of 8 KiB) under which every file gets its answer: the usual, the worst and the
+largest growing ones, and those in which a rule at the deepest evidence walks the deepest expression (`deepest` in `second/src/worst.rs`).
+";
