@@ -72,16 +72,11 @@ impl Runner<'_> {
             ASSIGN => {
                 self.due(at)?;
                 let value = refuse(self.arithmetic(at + 1), at)?;
-                self.scalars[parts.payload(at) as usize] = value;
+                self.scalars[parts.payload(at) as usize % SCALARS] = value;
                 self.left -= 1;
                 Ok(())
             }
-            ASSIGN_ARRAY => {
-                self.due(at)?;
-                refuse(self.assign_array(parts.payload(at), at + 1), at)?;
-                self.left -= 1;
-                Ok(())
-            }
+            ASSIGN_ARRAY => self.assign_array(at),
             IF => {
                 let then = parts.end(at + 1);
                 let chosen = if self.test(at + 1, at)? { then } else { parts.end(then) };
@@ -193,7 +188,14 @@ impl Runner<'_> {
         Ok((self.index(index)?, self.arithmetic(self.parts.end(index))?))
     }
 
-    fn assign_array(&mut self, name: u32, right: usize) -> Valued<()> {
+    fn assign_array(&mut self, at: usize) -> Result<(), Refused> {
+        self.due(at)?;
+        refuse(self.put_array(self.parts.payload(at), at + 1), at)?;
+        self.left -= 1;
+        Ok(())
+    }
+
+    fn put_array(&mut self, name: u32, right: usize) -> Valued<()> {
         let start = INDEXES * name as usize;
         // an array with one place changed is changed where it stands
         if self.parts.kind(right) == UPDATE && self.parts.words[right + 1] == word(ARRAY, name) {

@@ -64,6 +64,8 @@ fn main() {
     let write = |name: &str, text: String| std::fs::write(Path::new("docs").join(name), text).expect("docs");
     write("performance-ratios.svg", plot::ratios(&measured));
     write("performance-growth.svg", plot::growth(&measured));
-    write("PERFORMANCE.md", report::text(&measured));
+    let text = report::text(&measured);
+    println!("\n{text}");
+    write("PERFORMANCE.md", text);
     println!("written: docs/PERFORMANCE.md and its pictures");
 }

@@ -41,8 +41,8 @@ fn check_table(rows: &[Row]) -> String {
         let yardstick = row.yardstick_ratio().map_or(String::new(), figures);
         let ratios = [figures(row.ratio(1)), figures(row.ratio(2)), yardstick];
         let times = [figures(row.time_ratio(1)), figures(row.time_ratio(2))];
-        let (name, count) = (&row.name, thousands(row.instructions[0]));
-        let _ = writeln!(out, "| {name} | {} | {count} | {} | {} |", kib(row.bytes), ratios.join(" | "), times.join(" | "));
+        let (name, size, count) = (&row.name, kib(row.bytes), thousands(row.instructions[0]));
+        let _ = writeln!(out, "| {name} | {size} | {count} | {} | {} |", ratios.join(" | "), times.join(" | "));
     }
     out
 }
