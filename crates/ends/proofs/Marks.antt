@@ -1,6 +1,7 @@
 -- The mask of what words assign has the bit of an identifier exactly if one of the words assigns it.
 -- Assumes nothing.
---     written-as, unwritten                 what a word assigns, by its kind
+--     written-as, unwritten, unwritten-below, unwritten-above
+--                                           what a word assigns, by its kind
 --     marks-none, marks-next                the end of the scan that collects a mask; a turn
 --     marks-any                             the law
 --     marks-range, marks-empty, marks-join  masks of a range; of no words; of some words and those after them
@@ -28,6 +29,12 @@ written-as p e = ap (λ i. written i p) e
 pub unwritten : (k p : ℕ) → (k ≡ 27 → ⊥) → (k ≡ 28 → ⊥) → (k ≡ 31 → ⊥) → written k p ≡ none
 unfolding written
 unwritten k p f g h = rw (ne-eqb k 27 f, ne-eqb k 28 g, ne-eqb k 31 h)
+
+pub unwritten-below : (k p : ℕ) → k < 27 → written k p ≡ none
+unwritten-below k p h = unwritten k p (λ e. omega arith) (λ e. omega arith) (λ e. omega arith)
+
+pub unwritten-above : (k p : ℕ) → 31 < k → written k p ≡ none
+unwritten-above k p h = unwritten k p (λ e. omega arith) (λ e. omega arith) (λ e. omega arith)
 
 one-less : (at to : ℕ) → at < to → to - at ≡ suc (to - (at + 1))
 one-less at to h = omega arith

@@ -26,6 +26,13 @@ pub fn mark(mask: u64, x: u32) -> u64
     ensures { λ r. ⌜ r ≡ withMark mask (written (x / 67108864) (x % 67108864)) ⌝ }
 {
     let kind = x / 67108864;
+    // most words assign nothing
+    if kind < 27 {
+        return mask;
+    }
+    if 31 < kind {
+        return mask;
+    }
     let number = x % 67108864 % 32;
     match kind {
         27 => with_bit(mask, number),

@@ -10,7 +10,7 @@ use mathlib.Core.List.{List}
 use mathlib.Core.Option.{Option, none, some}
 use Prim.Native.Nat.{ℕ, _+_, _*_, _<_}
 use Rattle.rules.specs.Context.{Limits}
-use Rattle.layout.specs.Bytes.{wordCount, numberAt}
+use Rattle.layout.specs.Bytes.{wordCount, numberAt, kindAt}
 use Rattle.layout.specs.Reading.{read}
 use Rattle.layout.specs.For.{unsteadyAt, firstUnsteady}
 use Rattle.layout.specs.File.{File, parts}
@@ -29,6 +29,7 @@ steadinessOf (some at) = At at
 
 pub record CanTest (file ends : List ℕ) (at : ℕ) : Type 0 where
   pub inside : at < wordCount file
+  pub is-for : kindAt file at ≡ 31
   pub places : EndsOf file ends
 
 pub record Tested (file : List ℕ) (at : ℕ) (r : Bool) : Type 0 where

@@ -18,16 +18,12 @@ fn least(a: usize, b: usize) -> usize
     if a < b { a } else { b }
 }
 
-// Whether such a `for` stands at a place.
+// Whether the `for` at a place is such.
 fn unsteady_at(w: &[u32], ends: &[u32], at: usize) -> bool
     requires { ⌜ CanTest (now w) (now ends) «at» ⌝ }
     ensures { λ r. ⌜ Tested (now (w .entry)) «at» r ⌝ }
 {
-    let x = w[at];
-    if x / 67108864 != 31 {
-        return false;
-    }
-    let payload = x % 67108864;
+    let payload = w[at] % 67108864;
     let q = payload % 32;
     let m = payload / 32;
     if q == m {
@@ -48,6 +44,10 @@ pub fn first_unsteady(w: &[u32], ends: &[u32]) -> Steadiness
 {
     let mut at = 0;
     while at < w.len() {
+        if w[at] / 67108864 != 31 {
+            at += 1;
+            continue;
+        }
         if unsteady_at(w, ends, at) {
             return Steadiness::At(at);
         }

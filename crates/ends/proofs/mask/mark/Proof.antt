@@ -3,7 +3,7 @@
 use mathlib.Core.Path.{sym, ap, _∙_}
 use borrow.Author.Needs.{needs}
 use Rattle.ends.specs.Blocks.{written, withMark}
-use Rattle.ends.proofs.Marks.{written-as, unwritten}
+use Rattle.ends.proofs.Marks.{written-as, unwritten, unwritten-below, unwritten-above}
 use Rattle.ends.proofs.mask.mark.Statement.{statement}
 use Rattle.ends.proofs.mask.mark.Tie as tie
 
@@ -12,6 +12,8 @@ unfolding written
 mark-spec =
     tie.close
     (tie.spec
+    (λ c. sym (ap (withMark _) (unwritten-below _ _ (c .if1 .taken))))
+    (λ c. sym (ap (withMark _) (unwritten-above _ _ (c .if2 .taken))))
     (λ c κs. search needs)
     (λ c. search needs)
     (λ c κs. search needs)

@@ -2,11 +2,10 @@
 -- The measure is the words left. Assumes nothing.
 use mathlib.Core.Path.{subst}
 use Prim.Native.Nat.{_-_}
-use native.Mathlib.Omega.{arith}
 use borrow.Author.Needs.{needs}
 use lib.ListN.{length}
 use Rattle.scan.specs.Steady.{Tested}
-use Rattle.scan.proofs.Tests.{Passed, passed-none, passed-more, found-here, found-none}
+use Rattle.scan.proofs.Tests.{tested-else, Passed, passed-none, passed-more, found-here, found-none}
 use Rattle.scan.proofs.steady.first_unsteady.Statement.{statement}
 use Rattle.scan.proofs.steady.first_unsteady.Tie as tie
 
@@ -18,15 +17,20 @@ abbrev μ-loop : tie.MeasureT-loop
 
 returns : tie.Need-returns Inv-loop μ-loop
 returns c =
-    let test = c .before .before in
+    let test = c .before .before .before .before in
     found-here _ _ (test .loop-test .taken) (test .before .loop .inv)
-    (subst (Tested _ _) (c .if1 .taken) (c .before .unsteady-at .ensures))
+    (subst (Tested _ _) (c .if2 .taken) (c .before .unsteady-at .ensures))
 
 loop-again : tie.Need-loop-again Inv-loop μ-loop
 loop-again c =
     let test = c .before .before in
+    passed-more _ _ (test .loop-test .taken) (test .before .loop .inv) (tested-else _ _ (c .if1 .taken))
+
+loop-again-2 : tie.Need-loop-again-2 Inv-loop μ-loop
+loop-again-2 c =
+    let test = c .before .before .before .before in
     passed-more _ _ (test .loop-test .taken) (test .before .loop .inv)
-    (subst (Tested _ _) (c .if1 .left) (c .before .unsteady-at .ensures))
+    (subst (Tested _ _) (c .if2 .left) (c .before .unsteady-at .ensures))
 
 pub first-unsteady-spec : {M : Type 1} → statement M
 first-unsteady-spec =
@@ -35,9 +39,20 @@ first-unsteady-spec =
     Inv-loop
     μ-loop
     (λ c. passed-none _)
-    (λ c κs. record { inside = c .loop-test .taken; places = c .before .before .before .before .pre })
-    returns
-    (λ c. omega arith)
-    (λ c. omega arith)
+    (λ c. search needs)
+    (λ c. search needs)
+    (λ c. search needs)
+    (λ c. search needs)
     loop-again
+    (λ c κs.
+    let test = c .before .before in
+    record {
+      inside = test .loop-test .taken;
+      is-for = c .if1 .left;
+      places = test .before .before .before .before .pre;
+    })
+    returns
+    (λ c. search needs)
+    (λ c. search needs)
+    loop-again-2
     (λ c. found-none _ _ (c .loop-test .left) (c .before .loop .inv)))

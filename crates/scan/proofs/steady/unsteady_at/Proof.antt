@@ -4,34 +4,31 @@ use mathlib.Core.Path.{_≡_, sym, subst, _∙_}
 use native.Mathlib.Omega.{arith}
 use borrow.Author.Needs.{needs}
 use Rattle.scan.specs.Steady.{Tested}
-use Rattle.scan.proofs.Tests.{tested-else, tested-same, tested-first, tested-second}
+use Rattle.scan.proofs.Tests.{tested-same, tested-first, tested-second}
 use Rattle.scan.proofs.steady.unsteady_at.Statement.{statement}
 use Rattle.scan.proofs.steady.unsteady_at.Tie as tie
 
 returns : tie.Need-returns
-returns c = tested-else _ _ (c .if1 .taken)
+returns c =
+    let pre = c .before .before .before .before .pre in
+    tested-same _ _ (pre .inside) (pre .is-for) (c .if1 .taken)
 
 returns-2 : tie.Need-returns-2
 returns-2 c =
-    tested-same _ _ (c .before .before .before .before .before .pre .inside) (c .before .if1 .left) (c .if2 .taken)
+    let least = c .before .before .before in
+    let if1 = least .before .before in
+    let pre = if1 .before .before .before .before .pre in
+    tested-first _ _ _ (pre .places) _ _ (least .least .ensures .1) (c .before .before .modified .ensures)
+    (pre .inside) (pre .is-for) (if1 .if1 .left) (sym (c .before .has-bit .ensures) ∙ c .if2 .taken)
 
 returns-3 : tie.Need-returns-3
 returns-3 c =
-    let least = c .before .before .before in
-    let if2 = least .before .before in
-    let args = if2 .before .before .before .before .before in
-    tested-first _ _ _ (args .pre .places) _ _ (least .least .ensures .1) (c .before .before .modified .ensures)
-    (args .pre .inside) (if2 .before .if1 .left) (if2 .if2 .left) (sym (c .before .has-bit .ensures) ∙ c .if3 .taken)
-
-returns-4 : tie.Need-returns-4
-returns-4 c =
     let least = c .before .before .before .before in
-    let if2 = least .before .before in
-    let args = if2 .before .before .before .before .before in
+    let if1 = least .before .before in
+    let pre = if1 .before .before .before .before .pre in
     subst (Tested _ _) (sym (c .has-bit2 .ensures))
-    (tested-second _ _ _ (args .pre .places) _ _ (least .least .ensures .1)
-    (c .before .before .before .modified .ensures) (args .pre .inside) (if2 .before .if1 .left) (if2 .if2 .left)
-    (sym (c .before .before .has-bit .ensures) ∙ c .before .if3 .left))
+    (tested-second _ _ _ (pre .places) _ _ (least .least .ensures .1) (c .before .before .before .modified .ensures)
+    (pre .inside) (pre .is-for) (if1 .if1 .left) (sym (c .before .before .has-bit .ensures) ∙ c .before .if2 .left))
 
 pub unsteady-at-spec : {M : Type 1} → statement M
 unsteady-at-spec =
@@ -40,16 +37,15 @@ unsteady-at-spec =
     (λ c. search needs)
     (λ c. omega (arith, c .before .before .before .pre .inside))
     returns
-    returns-2
     (λ c. search needs)
     (λ c.
-    let args = c .before .before .before .before .before .before in
-    omega (arith, args .pre .inside, args .pre .places .long))
-    (λ c. omega (arith, c .shared-slice-known4 .given (c .before .before .before .before .before .before .args .at)))
+    let pre = c .before .before .before .before .before .pre in
+    omega (arith, pre .inside, pre .places .long))
+    (λ c. omega (arith, c .shared-slice-known4 .given (c .before .before .before .before .before .args .at)))
     (λ c κs. search needs)
-    (λ c. omega (arith, c .before .before .before .before .before .before .before .pre .inside))
-    (λ c κs. (c .before .before .before .before .before .before .before .pre .places, c .least .ensures .0))
+    (λ c. omega (arith, c .before .before .before .before .before .before .pre .inside))
+    (λ c κs. (c .before .before .before .before .before .before .pre .places, c .least .ensures .0))
     (λ c κs. search needs)
-    returns-3
+    returns-2
     (λ c κs. search needs)
-    returns-4)
+    returns-3)
