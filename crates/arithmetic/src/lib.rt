@@ -1,6 +1,5 @@
 // Signed 64-bit arithmetic as the runner has it (document 01, "Runner" and "Judging order" 14 and 15): sums,
-// differences
-// and products that are checked, comparisons, and indexes that are tested.
+// differences and products that are checked, comparisons, and indexes that are tested.
 use words::Comparison;
 use words::Operator;
 ghost use mathlib.Core.Path.{_≡_};

@@ -17,15 +17,6 @@ pub struct Put {
     pub to: usize,
 }
 
-// The place past the part that starts at `at`.
-pub fn end_at(ends: &[u32], at: usize) -> usize
-    requires { ⌜ «at» < length (now ends) ⌝ }
-    ensures { λ r. ⌜ r ≡ getD (now (ends .entry)) «at» 0 ⌝ }
-{
-    let e = ends[at];
-    e as usize
-}
-
 pub fn match_word(w: &[u32], m: Match, x: u32) -> Match
     ensures { λ r. ⌜ r ≡ matchedWord (now (w .entry)) m x ⌝ }
 {

@@ -1,7 +1,7 @@
 use crate::cursor::Match;
 use crate::cursor::Put;
-use crate::cursor::end_at;
 use crate::cursor::match_head;
+use ends::end_at;
 ghost use Rattle.language.specs.Syntax.{Arithmetic, Boolean, Array};
 ghost use Rattle.compare.specs.Places.{CanMatch, CanMatchAny, Matched};
 

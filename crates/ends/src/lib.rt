@@ -4,10 +4,19 @@ pub mod blocks; // blocks.rt: what words assign, by blocks
 
 use blocks::fill_blocks;
 ghost use mathlib.Core.Path.{_≡_};
-ghost use Prim.Native.Nat.{_/_, _%_, _≤_};
-ghost use lib.ListN.{length};
+ghost use Prim.Native.Nat.{_/_, _%_, _<_, _≤_};
+ghost use lib.ListN.{length, getD};
 ghost use Rattle.ends.specs.Ends.{EndsOf};
 ghost use Rattle.ends.specs.Sizes.{countOf, follow, CanFill, Filled, CanTable};
+
+// The place past the part that starts at `at`, by a list of ends.
+pub fn end_at(ends: &[u32], at: usize) -> usize
+    requires { ⌜ «at» < length (now ends) ⌝ }
+    ensures { λ r. ⌜ r ≡ getD (now (ends .entry)) «at» 0 ⌝ }
+{
+    let e = ends[at];
+    e as usize
+}
 
 // How many expressions and commands follow a word (document 01, "Layout").
 fn parts(x: u32) -> usize

@@ -1,7 +1,6 @@
-// Expressions worked out in a lent store (document 01, "Runner"): operands go left first, both sides of and and or too;
-// an
-// index is tested as soon as it is worked out. Working out changes nothing, so what stops an operand is told after its
-// neighbours are worked out, in their order.
+// Expressions worked out in a lent store (document 01, "Runner"): operands go left first, both sides of and and or
+// too; an index is tested as soon as it is worked out. Working out changes nothing, so what stops an operand is told
+// after its neighbours are worked out, in their order.
 pub mod store; // store.rt: reading and writing the values of a store
 pub mod combine; // combine.rt: what comes of operands
 pub mod expression; // expression.rt: arithmetic and array expressions, each calling on the other

@@ -3,28 +3,23 @@
 --     outcomeFrom, can-judge, judged-outcome    8 and 9: the goal that the evidence is judged against, and the outcome
 --     steady-judge, unsteady-outcome            7, by the scan's answer
 --     refused-outcome                           2 to 6
---     bad-file, good-file, bad-outcome          1
---     good-length, AllLoaded, all-loaded, loaded-room, loaded-outcome
---                                               the words of a file whose byte count is allowed
+--     bad-outcome                               1
+--     loaded-room, loaded-outcome               the words of a file whose byte count is allowed
 --     standard-within, outcome-answer           document 01's limits; the answer
 use mathlib.Core.Path.{_≡_, refl, sym, _∙_, ap, subst}
-use mathlib.Core.Bool.{Bool, true, false, not, _||_}
+use mathlib.Core.Bool.{true, false}
 use mathlib.Core.List.{List}
-use Prim.Native.Nat.{ℕ, _*_, _%_, _≤_}
+use Prim.Native.Nat.{ℕ, _≤_}
 use native.Mathlib.Omega.{arith}
-use borrow.Author.Tests.{ltb-false}
-use lib.Dec.{eqb, ltb}
-use lib.ListN.{length, take, length-take}
+use lib.ListN.{take}
 use Rattle.rules.specs.Context as context
 use Rattle.rules.specs.Judge as judge
-use Rattle.layout.specs.Bytes.{wordsOf}
 use Rattle.layout.specs.Reading.{Reading, read, fault}
 use Rattle.layout.specs.File.{File, badLength, fileOf, wordsRead}
 use Rattle.layout.specs.Verdict.{judged, verdictOf}
 use Rattle.ends.specs.Ends.{EndsOf}
 use Rattle.ends.specs.Sizes.{CanTable}
-use Rattle.words.specs.Load.{Loaded}
-use Rattle.words.proofs.Loading.{words-length, loaded-words}
+use Rattle.words.proofs.Lengths.{bad-file, good-file, AllLoaded}
 use Rattle.reader.specs.Walk.{limitsOf}
 use Rattle.reader.specs.File.{places, placesOf, readOf}
 use Rattle.reader.specs.declared.Limits.{Limits}
@@ -135,50 +130,9 @@ module _ (limits : Limits) where
       sym (ap (λ (z : Reading File). outcomeOf (limitsOf limits) z) (words-refused (limitsOf limits) w n p (sym h ∙ e)))
 
 -- ---- refusal 1
-module _ (limits : context.Limits) (bytes : List ℕ) where
-  pub bad-file : badLength bytes ≡ true → fileOf limits bytes ≡ fault 1 0
-  unfolding fileOf
-  bad-file h = rw (h, fileOf) refl
-
-  pub good-file : badLength bytes ≡ false → fileOf limits bytes ≡ wordsRead limits (wordsOf bytes)
-  unfolding fileOf
-  good-file h = rw (h, fileOf) refl
-
 pub bad-outcome : (limits : context.Limits) (bytes : List ℕ) → badLength bytes ≡ true →
     Refused 1 0 ≡ outcomeOf limits (fileOf limits bytes)
 bad-outcome limits bytes h = sym (ap (λ (z : Reading File). outcomeOf limits z) (bad-file limits bytes h))
-
-pub good-length : (bytes : List ℕ) → badLength bytes ≡ false → length bytes ≤ 32768
-good-length bytes h = go (eqb (length bytes) 0) (ltb 32768 (length bytes)) refl h
-  where
-    go : (a b : Bool) → ltb 32768 (length bytes) ≡ b → a || (b || not (eqb (length bytes % 4) 0)) ≡ false →
-        length bytes ≤ 32768
-    go true b e k = absurd (let z : true ≡ false = k in let y : _≡_ {A = ℕ} 0 1 = cc in omega arith)
-    go false true e k = absurd (let z : true ≡ false = k in let y : _≡_ {A = ℕ} 0 1 = cc in omega arith)
-    go false false e k = let l = ltb-false 32768 (length bytes) e in omega arith
-
--- what was loaded, where there was room
-pub record AllLoaded (bytes after : List ℕ) (n : ℕ) : Type 0 where
-  pub words : take n after ≡ wordsOf bytes
-  pub count : n ≡ length (take n after)
-  pub inside : n ≤ length after
-  pub size : length (take n after) ≤ 8192
-  pub few : 4 * n ≤ length bytes
-
-pub all-loaded : {bytes before after : List ℕ} {n : ℕ} → badLength bytes ≡ false → Loaded bytes before after n →
-    length bytes ≤ 4 * length before → AllLoaded bytes after n
-all-loaded {bytes} {before} {after} {n} h l e =
-    let g = good-length bytes h in
-    let k = loaded-words l (omega arith) in
-    let m : length (take n after) ≡ n = rw (k .1) (words-length bytes ∙ sym (k .0)) in
-    let i = length-take n after in
-    record {
-      words = k .1;
-      count = sym m;
-      inside = omega arith;
-      size = omega (arith, k .0);
-      few = omega (arith, k .0);
-    }
 
 -- room for the table of the words that were loaded
 pub loaded-room : {bytes words table after : List ℕ} {limits : Limits} {n : ℕ} → CanLoad bytes words table limits →

@@ -33,7 +33,7 @@ use Rattle.words.proofs.Loading.{words-length}
 use Rattle.flow.specs.Checked.{answerOf, Checked}
 use Rattle.flow.specs.declared.Verdict.{Verdict}
 use Rattle.flow.specs.declared.Verdict.the-variants.{Accepted, Refused}
-use Rattle.flow.proofs.Outcomes.{bad-file, good-file, good-length}
+use Rattle.words.proofs.Lengths.{bad-file, good-file, good-length}
 use Rattle.flow.proofs.Parts.{read-bytes}
 use Rattle.flow.proofs.Refusals.{flow-inside}
 

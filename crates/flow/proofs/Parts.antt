@@ -28,7 +28,7 @@ use Rattle.reader.specs.declared.Places.{Places}
 use Rattle.flow.specs.Outcome.{withPlaces, outcomeOf}
 use Rattle.flow.specs.declared.Outcome.{Outcome}
 use Rattle.flow.specs.declared.Outcome.the-variants.{Accepted, Refused}
-use Rattle.flow.proofs.Outcomes.{bad-file, good-file, good-length}
+use Rattle.words.proofs.Lengths.{bad-file, good-file, good-length}
 
 -- a file that was read from bytes
 pub record FileOf (limits : Limits) (bytes : List ℕ) (f : File) (p : ℕ) : Type 0 where

@@ -9,25 +9,12 @@ use reader::Places;
 use reader::file::read_words;
 use scan::steady::Steadiness;
 use scan::steady::first_unsteady;
+use words::load::bad_length;
 use words::load::load;
 ghost use mathlib.Core.Path.{_≡_};
-ghost use Rattle.layout.specs.File.{badLength, fileOf, wordsRead};
+ghost use Rattle.layout.specs.File.{fileOf, wordsRead};
 ghost use Rattle.reader.specs.Walk.{limitsOf};
 ghost use Rattle.flow.specs.Outcome.{outcomeOf, WithinLimits, Small, Found, Room, CanLoad, Within, CanJudgeFile};
-
-// Refusal 1: the byte count is 0, over 32,768 or no multiple of 4.
-fn bad_length(file: &[u8]) -> bool
-    ensures { λ r. ⌜ r ≡ badLength (now (file .entry)) ⌝ }
-{
-    let n = file.len();
-    if n == 0 {
-        return true;
-    }
-    if 32768 < n {
-        return true;
-    }
-    n % 4 != 0
-}
 
 // Refusals 8 and 9: the evidence is judged with every level left.
 fn judge_file(w: &[u32], ends: &[u32], limits: Limits, places: Places) -> Outcome

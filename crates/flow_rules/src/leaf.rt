@@ -1,7 +1,7 @@
 // The rules with no children. Each is tried at the evidence word at `at`, for the set at p, the command at c and the
 // set at q.
 use compare::cursor::Put;
-use compare::cursor::end_at;
+use ends::end_at;
 use goals::Step;
 use rule_laws::kept::is_kept;
 use rule_laws::step::leaf;

@@ -1,6 +1,6 @@
 // The rules with children whose conditions are not on sets. Each is tried at the evidence word at `at`, for the set at
 // p, the command at c and the set at q.
-use compare::cursor::end_at;
+use ends::end_at;
 use goals::Goal;
 use goals::Step;
 use rule_laws::same::is_meaning;

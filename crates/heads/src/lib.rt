@@ -56,12 +56,3 @@ pub fn command_head(w: &[u32], at: usize) -> CommandWord
         _ => CommandWord::Skip,
     }
 }
-
-// The place past the part that starts at `at`.
-pub fn end_at(ends: &[u32], at: usize) -> usize
-    requires { ⌜ «at» < length (now ends) ⌝ }
-    ensures { λ r. ⌜ r ≡ getD (now (ends .entry)) «at» 0 ⌝ }
-{
-    let e = ends[at];
-    e as usize
-}

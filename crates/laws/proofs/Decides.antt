@@ -1,23 +1,30 @@
 -- A test that decides a statement: it holds exactly when the statement does.
 -- Assumes nothing.
 --     Decides                     the law
+--     decides-same                two tests of one statement
 --     decides-map                 of an equivalent statement
 --     decides-and, decides-or     of both, of one of two
 --     decides-yes, decides-no     of what holds, of what does not
 --     decides-not                 that a test fails
 --     decides-implies             that one test passes where another does
 --     eqb-decides, leb-decides    equality and order of numbers
-use mathlib.Core.Path.{_≡_, refl}
+use mathlib.Core.Path.{_≡_, refl, sym}
 use mathlib.Core.Bool.{Bool, true, false, not, _&&_, _||_, false≢true, true≢false}
 use mathlib.Core.Logic.{_⊎_, inl, inr}
 use Prim.Native.Nat.{ℕ, _≤_}
 use borrow.Author.Tests.{eqb-true, eq-eqb, leb-true, le-leb}
 use lib.Dec.{eqb, leb}
-use Rattle.laws.proofs.Bools.{and-left, and-right, and-both, or-cases, or-first, or-second}
+use Rattle.laws.proofs.Bools.{and-left, and-right, and-both, or-cases, or-first, or-second, clash}
 
 pub record Decides (b : Bool) (P : Type 0) : Type 0 where
   pub sound : b ≡ true → P
   pub complete : P → b ≡ true
+
+-- two tests of one statement have one result
+pub decides-same : (a b : Bool) {P : Type 0} → Decides a P → Decides b P → a ≡ b
+decides-same true b d e = sym (e .complete (d .sound refl))
+decides-same false true d e = clash (d .complete (e .sound refl)) refl
+decides-same false false d e = refl
 
 pub decides-map : {b : Bool} {P Q : Type 0} → (P → Q) → (Q → P) → Decides b P → Decides b Q
 decides-map f g d = record { sound = λ h. f (d .sound h); complete = λ q. d .complete (g q) }

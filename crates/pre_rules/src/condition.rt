@@ -1,8 +1,8 @@
 use compare::cursor::Match;
 use compare::cursor::Put;
-use compare::cursor::end_at;
 use compare::cursor::match_word;
 use compare::expression::match_boolean;
+use ends::end_at;
 use rule_laws::part::came_to_end;
 use rule_laws::part::match_part;
 ghost use Prim.Native.Nat.{_<_};

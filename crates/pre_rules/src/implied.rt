@@ -1,6 +1,6 @@
 // The rules with implications. Each is tried at the evidence word at `at`, for the assertion at f, the command at c and
 // the assertion at g; an implication over more than `limit` comparisons is too large.
-use compare::cursor::end_at;
+use ends::end_at;
 use goals::Goal;
 use goals::Step;
 use implication::Condition;

@@ -1,7 +1,7 @@
 // The rules with children and no implication. Each is tried at the evidence word at `at`, for the assertion at f, the
 // command at c and the assertion at g.
 use super::condition::is_split;
-use compare::cursor::end_at;
+use ends::end_at;
 use goals::Goal;
 use goals::Step;
 use rule_laws::same::is_meaning;

@@ -14,8 +14,8 @@ use Prim.Native.Nat.{ℕ, zero, suc, _+_, _≤_}
 use native.Mathlib.Omega.{arith}
 use borrow.Author.Tests.{eqb-true, eq-eqb}
 use lib.Dec.{eqb}
-use Rattle.laws.proofs.Bools.{and-left, and-right, and-both, clash}
-use Rattle.laws.proofs.Decides.{Decides}
+use Rattle.laws.proofs.Bools.{and-left, and-right, and-both}
+use Rattle.laws.proofs.Decides.{Decides, decides-same}
 use Rattle.language.specs.Syntax.{Sort, Expr, constant, scalar, operation, select, compare, truth}
 use Rattle.language.specs.Syntax.{and, or, neg, array, zeros, update, toScalar, toArray}
 use Rattle.language.specs.Syntax.{Command, skip, sequence, assert, assign, ifElse, while, for}
@@ -175,12 +175,6 @@ numbers-tell (v ∷ k) (w ∷ l) f g e =
     ap₂ _∷_
     (encode-tells v w (f .0) (g .0) (head-eq-of-cons-eq e))
     (numbers-tell k l (f .1) (g .1) (tail-eq-of-cons-eq e))
-
--- two tests of one statement have one result
-pub decides-same : (a b : Bool) {P : Type 0} → Decides a P → Decides b P → a ≡ b
-decides-same true b d e = sym (e .complete (d .sound refl))
-decides-same false true d e = clash (d .complete (e .sound refl)) refl
-decides-same false false d e = refl
 
 -- the words k stand from `at` up to `to`, and a cursor passes the words l from there on
 module _ (file : List ℕ) (k l : List Word) (at to : ℕ) (m : Match) (s : StandsTo file at k to) (i : Inside file at to)

@@ -1,4 +1,4 @@
-use compare::cursor::end_at;
+use ends::end_at;
 use implication::Condition;
 use implication::Side;
 use implication::implies;

@@ -1,4 +1,4 @@
-use compare::cursor::end_at;
+use ends::end_at;
 use scan::range::modified;
 use scan::range::unmarked;
 ghost use Rattle.rule_laws.specs.Sameness.{CanKeep, KeptAt};

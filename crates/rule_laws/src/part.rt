@@ -1,6 +1,6 @@
 use compare::cursor::Match;
-use compare::cursor::end_at;
 use compare::cursor::match_range;
+use ends::end_at;
 ghost use mathlib.Core.Path.{_≡_};
 ghost use Prim.Native.Nat.{_<_};
 ghost use lib.ListN.{length};

@@ -1,6 +1,5 @@
-// Commands run in a lent store on a budget of steps (document 01, "Runner" and "Judging order" 12 to 15). A while and a
-// `for`
-// are loops here too, so that turns use no stack; calls nest no deeper than the file does.
+// Commands run in a lent store on a budget of steps (document 01, "Runner" and "Judging order" 12 to 15). A while and
+// a `for` are loops here too, so that turns use no stack; calls nest no deeper than the file does.
 pub mod step; // step.rt: what one step does
 pub mod repeat; // repeat.rt: the parts of a turn of a while and of a `for`
 pub mod command; // command.rt: commands

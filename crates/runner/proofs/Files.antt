@@ -4,7 +4,7 @@
 -- 1
 --     refused-words, unsteady-words         2 to 6, and 7
 --     steady-words                          words that 2 to 7 let pass
---     bad-bytes, AllLoaded, all-loaded, loaded-bytes      1; the words of bytes that it lets pass
+--     bad-bytes, loaded-bytes                             1; the words of bytes that it lets pass
 --     run-of                                the definition's answer on bytes
 use mathlib.Core.Path.{_≡_, refl, sym, ap, _∙_}
 use mathlib.Core.Bool.{Bool, true, false, not, _||_}
@@ -24,8 +24,7 @@ use Rattle.layout.specs.EvidenceWords.{commandPart}
 use Rattle.execution.specs.Lent.{Lent}
 use Rattle.execution.specs.Ran.{runOf}
 use Rattle.ends.specs.Ends.{EndsOf}
-use Rattle.words.specs.Load.{Loaded}
-use Rattle.words.proofs.Loading.{words-length, loaded-words}
+use Rattle.words.proofs.Lengths.{bad-file, good-file, AllLoaded}
 use Rattle.reader.specs.Walk.{limitsOf}
 use Rattle.reader.specs.File.{placesOf, ended, headed, readOf}
 use Rattle.reader.specs.declared.Limits.{Limits}
@@ -134,43 +133,9 @@ steady-words limits {w} h k f e =
     }
 
 -- ---- refusal 1
-pub bad-file : (limits : context.Limits) (bytes : List ℕ) → badLength bytes ≡ true → fileOf limits bytes ≡ fault 1 0
-unfolding fileOf
-bad-file limits bytes h = rw (h, fileOf) refl
-
-pub good-file : (limits : context.Limits) (bytes : List ℕ) → badLength bytes ≡ false →
-    fileOf limits bytes ≡ wordsRead limits (wordsOf bytes)
-unfolding fileOf
-good-file limits bytes h = rw (h, fileOf) refl
-
 pub bad-bytes : (limits : context.Limits) (bytes : List ℕ) (budget : ℕ) (m : Lent) {r : Ran} → badLength bytes ≡ true →
     r ≡ refusedAt 1 0 → RanBy (fileOf limits bytes) budget m r m
 bad-bytes limits bytes budget m h q = refused-by budget m q (bad-file limits bytes h)
-
-pub good-length : (bytes : List ℕ) → badLength bytes ≡ false → length bytes ≤ 32768
-good-length bytes h = go (eqb (length bytes) 0) (ltb 32768 (length bytes)) refl h
-  where
-    go : (a b : Bool) → ltb 32768 (length bytes) ≡ b → a || (b || not (eqb (length bytes % 4) 0)) ≡ false →
-        length bytes ≤ 32768
-    go true b e k = let z : true ≡ false = k in never (cc)
-    go false true e k = let z : true ≡ false = k in never (cc)
-    go false false e k = let l = ltb-false 32768 (length bytes) e in omega arith
-
--- the words stand in front of the array
-pub record AllLoaded (bytes after : List ℕ) (n : ℕ) : Type 0 where
-  pub words : take n after ≡ wordsOf bytes
-  pub count : n ≡ length (take n after)
-  pub inside : n ≤ length after
-  pub size : length (take n after) ≤ 8192
-
-pub all-loaded : {bytes before after : List ℕ} {n : ℕ} → badLength bytes ≡ false → Loaded bytes before after n →
-    length before ≡ 8192 → AllLoaded bytes after n
-all-loaded {bytes} {before} {after} {n} h l e =
-    let g = good-length bytes h in
-    let k = loaded-words l (omega arith) in
-    let m : length (take n after) ≡ n = rw (k .1) (words-length bytes ∙ sym (k .0)) in
-    let i = length-take n after in
-    record { words = k .1; count = sym m; inside = omega arith; size = omega (arith, k .0) }
 
 pub loaded-bytes : (limits : context.Limits) {bytes after : List ℕ} {n budget : ℕ} {m m′ : Lent} {r : Ran} →
     badLength bytes ≡ false → AllLoaded bytes after n → RanBy (wordsRead limits (take n after)) budget m r m′ →

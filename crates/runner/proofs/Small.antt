@@ -38,7 +38,8 @@ use Rattle.runner.specs.Running.{ranAt, SmallAnswer, SmallRan, CanPack}
 use Rattle.runner.specs.declared.Answer.{Answer}
 use Rattle.runner.specs.declared.Answer.the-variants.{Done, Refused}
 use Rattle.runner.specs.declared.Ran.{Ran}
-use Rattle.runner.proofs.Files.{bad-file, good-file, good-length, never}
+use Rattle.words.proofs.Lengths.{bad-file, good-file, good-length}
+use Rattle.runner.proofs.Files.{never}
 
 -- ---- a run stops at a word of its command
 abbrev Placed : ℕ → End → Type 0

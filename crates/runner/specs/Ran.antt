@@ -1,6 +1,5 @@
 -- What the runner promises (document 01, "Runner" and "Judging order" 1 to 7 and 10 to 15): the answer, the steps
--- finished
--- and the store afterwards are those of the definition.
+-- finished and the store afterwards are those of the definition.
 -- Trusted. Assumes nothing.
 --     answerOf    the code's answer, as the definition's
 --     RunOf       from the lent store m, the answer r and the store m′

@@ -9,9 +9,10 @@ use run::End;
 use run::command::run_command;
 use scan::steady::Steadiness;
 use scan::steady::first_unsteady;
+use words::load::bad_length;
 use words::load::load;
 ghost use mathlib.Core.Path.{_≡_};
-ghost use Rattle.layout.specs.File.{badLength, fileOf, wordsRead};
+ghost use Rattle.layout.specs.File.{fileOf, wordsRead};
 ghost use Rattle.reader.specs.Walk.{limitsOf};
 ghost use Rattle.evaluate.specs.Evaluated.{lent};
 ghost use Rattle.runner.specs.Running.{refusedAt, CanReport, Reports, RanBy, Small, Found, CanRunFile};
@@ -107,20 +108,6 @@ fn run_words(
         Layout::Found(_) => run_found(w, limits, scalars, values, budget),
         Layout::Refused(number, place) => refused(number, place),
     }
-}
-
-// Refusal 1: the byte count is 0, over 32,768 or no multiple of 4.
-fn bad_length(file: &[u8]) -> bool
-    ensures { λ r. ⌜ r ≡ badLength (now (file .entry)) ⌝ }
-{
-    let n = file.len();
-    if n == 0 {
-        return true;
-    }
-    if 32768 < n {
-        return true;
-    }
-    n % 4 != 0
 }
 
 // Refusal 1, then the rest.

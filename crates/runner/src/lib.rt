@@ -59,8 +59,7 @@ fn pack(ran: Ran) -> u64
 
 // The runner for callers in C: `uint64_t flow_run(const uint8_t *file, size_t count, int64_t *scalars, size_t n,
 // int64_t *values, size_t k, size_t budget)`. The upper 32 bits are the steps finished; the lower are 0 if the run
-// ended,
-// else number × 65,536 + place.
+// ended, else number × 65,536 + place.
 #[no_mangle]
 pub extern "C" fn flow_run(
     file: &[u8],

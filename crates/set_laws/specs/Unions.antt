@@ -1,6 +1,6 @@
 -- A written set is the same as two others together (document 01, rules 9 and 16).
 -- Working. Assumes nothing.
---     CanUnite, UnionAt    what a test of it asks for and promises
+--     UnionAt    what a test of it promises
 use mathlib.Core.Path.{_≡_}
 use mathlib.Core.Bool.{Bool}
 use mathlib.Core.List.{List, _++_}
@@ -8,15 +8,7 @@ use Prim.Native.Nat.{ℕ}
 use Rattle.rules.specs.Assertion.{Members}
 use Rattle.rules.specs.Context.{Limits}
 use Rattle.rules.specs.Tests.{same}
-use Rattle.ends.specs.Ends.{EndsOf}
 use Rattle.rule_laws.specs.Places.{SetAt}
-use Rattle.sets.specs.Trees.{HasSet}
-
-pub record CanUnite (file ends : List ℕ) (p s t : ℕ) : Type 0 where
-  pub ends-of : EndsOf file ends
-  pub set : HasSet file p
-  pub first : HasSet file s
-  pub second : HasSet file t
 
 pub record UnionAt (file ends : List ℕ) (p s t : ℕ) (r : Bool) : Type 0 where
   pub is : (limits : Limits) (l x y : Members) → SetAt file ends limits l p → SetAt file ends limits x s →

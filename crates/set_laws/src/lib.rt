@@ -1,2 +1,1 @@
-// Written sets as the rules of sets and of flow use them.
-pub mod same; // a written set is the same as those that a rule makes of others
+// Laws in proofs/ of written sets, as the rules of sets and of flow use them; no code.

@@ -17,7 +17,8 @@ use Rattle.goals.specs.declared.Goal.the-variants.{Nothing, Set}
 use Rattle.goals.specs.declared.Step.the-variants.{Stop, Go}
 use Rattle.rule_laws.proofs.Places.{at-set}
 use Rattle.rule_laws.proofs.Children.{word-passes, word-fails, two-children}
-use Rattle.set_laws.specs.Unions.{CanUnite, UnionAt}
+use Rattle.sets.specs.Rules.{CanThree}
+use Rattle.set_laws.specs.Unions.{UnionAt}
 use Rattle.set_laws.proofs.Sets.{has-set}
 use Rattle.set_rules.specs.Tried.{CanTry, Tried}
 use Rattle.set_rules.specs.Conditions.{CanRest, RestAt}
@@ -96,24 +97,24 @@ module _ {file ends : List ℕ} {p q at : ℕ} where
 
   module _ {b c e n : ℕ} (can : CanTry file ends 16 p q at) (eb : b ≡ endAt ends (at + 1)) (ec : c ≡ endAt ends b)
       (ee : e ≡ endAt ends c) (en : n ≡ endAt ends e) where
-    pub can-unite-first : CanUnite file ends p (at + 1) c
+    pub can-unite-first : CanThree file ends p (at + 1) c
     can-unite-first =
         let k = carried-16 can eb ec ee en in
         record {
           ends-of = can .ends-of;
-          set = has-set (here can .left-at);
-          first = has-set (k .s-at);
-          second = has-set (k .t-at);
+          first-set = has-set (here can .left-at);
+          second-set = has-set (k .s-at);
+          third-set = has-set (k .t-at);
         }
 
-    pub can-unite-second : CanUnite file ends q b e
+    pub can-unite-second : CanThree file ends q b e
     can-unite-second =
         let k = carried-16 can eb ec ee en in
         record {
           ends-of = can .ends-of;
-          set = has-set (here can .right-at);
-          first = has-set (k .s′-at);
-          second = has-set (k .t′-at);
+          first-set = has-set (here can .right-at);
+          second-set = has-set (k .s′-at);
+          third-set = has-set (k .t′-at);
         }
 
     carried-of-16 : {limits : Limits} {g : TreeGoal} {d end : ℕ} → d ≤ 256 →

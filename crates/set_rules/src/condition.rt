@@ -1,16 +1,16 @@
-use compare::cursor::end_at;
+use ends::end_at;
 use goals::Goal;
 use goals::Step;
 use implication::Condition;
 use implication::Side;
 use implication::implies;
-use set_laws::same::is_same_set;
 use sets::item::View;
 use sets::item::past_member;
 use sets::member::seen_in;
 use sets::pile::Pile;
 use sets::pile::Piles;
 use sets::pile::count;
+use sets::set::same_set;
 ghost use mathlib.Core.Path.{_≡_};
 ghost use Prim.Native.Nat.{_<_};
 ghost use Rattle.set_rules.specs.Tried.{conditionStep};
@@ -71,7 +71,7 @@ pub fn is_rest_union(w: &[u32], ends: &[u32], p: usize, t: usize, leave: usize, 
         second: Pile::Set(s, View::Plain),
         third: Pile::Empty,
     };
-    is_same_set(w, ends, p, piles)
+    same_set(w, ends, p, piles)
 }
 
 // The kinds 3, 8, 10 and 11 have two operands that rule 19 may take.
@@ -101,7 +101,7 @@ pub fn is_split(w: &[u32], ends: &[u32], p: usize, f: usize, e: usize) -> bool
             second: Pile::Empty,
             third: Pile::Empty,
         };
-        return is_same_set(w, ends, p, piles);
+        return same_set(w, ends, p, piles);
     }
     if !has_two(kind) {
         return false;
@@ -112,5 +112,5 @@ pub fn is_split(w: &[u32], ends: &[u32], p: usize, f: usize, e: usize) -> bool
         second: Pile::One(f, next),
         third: Pile::Empty,
     };
-    is_same_set(w, ends, p, piles)
+    same_set(w, ends, p, piles)
 }

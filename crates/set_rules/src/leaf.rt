@@ -3,7 +3,7 @@ use super::condition::conclude;
 use super::condition::each_implies_false;
 use super::condition::is_split;
 use super::condition::is_within;
-use compare::cursor::end_at;
+use ends::end_at;
 use goals::Step;
 use implication::Side;
 use implication::implies;

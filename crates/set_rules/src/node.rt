@@ -1,9 +1,9 @@
 // The rules with children. Each is tried at the evidence word at `at`, for the sets at p and q.
 use super::condition::is_rest_union;
-use compare::cursor::end_at;
+use ends::end_at;
 use goals::Goal;
 use goals::Step;
-use set_laws::same::is_union;
+use sets::rule::same_union;
 ghost use Rattle.set_rules.specs.Tried.{CanTry, Tried};
 
 // Rule 16. Carries S, S', T, T'; P same as S ∪ T, Q as S' ∪ T'; (S, S'), (T, T').
@@ -16,10 +16,10 @@ pub fn rule_16(w: &[u32], ends: &[u32], at: usize, p: usize, q: usize) -> Step
     let t = end_at(ends, s2);
     let t2 = end_at(ends, t);
     let next = end_at(ends, t2);
-    if !is_union(w, ends, p, s, t) {
+    if !same_union(w, ends, p, s, t) {
         return Step::Stop(8);
     }
-    if !is_union(w, ends, q, s2, t2) {
+    if !same_union(w, ends, q, s2, t2) {
         return Step::Stop(8);
     }
     Step::Go(next, Goal::Set(s, s2), Goal::Set(t, t2), Goal::Nothing)

@@ -1,6 +1,5 @@
 -- Equality of lists of numbers as a test, and a written member compared by a cursor.
 -- Assumes nothing.
---     decides-same                    two tests of one statement have one result
 --     sameNumbers-decides             equality of numbers
 --     item-lost, item-end             a cursor that passes the item from the member's first place to its end finds it there
 use mathlib.Core.Path.{_≡_, refl, sym, ap, ap₂, subst, _∙_}
@@ -11,17 +10,12 @@ use native.Mathlib.Omega.{arith}
 use lib.Dec.{eqb}
 use lib.ListN.{length}
 use Rattle.laws.proofs.Bools.{clash}
-use Rattle.laws.proofs.Decides.{Decides, decides-map, decides-and, decides-yes, decides-no, eqb-decides}
+use Rattle.laws.proofs.Decides.{Decides, decides-same, decides-map, decides-and, decides-yes, decides-no, eqb-decides}
 use Rattle.compare.specs.Matching.{between, matched}
 use Rattle.compare.specs.declared.cursor.Match.{Match}
 use Rattle.compare.proofs.Operands.{Inside}
 use Rattle.compare.proofs.Whole.{cursor, whole-sound, whole-complete}
 use Rattle.sets.specs.Items.{sameNumbers}
-
-pub decides-same : (a b : Bool) {P : Type 0} → Decides a P → Decides b P → a ≡ b
-decides-same true b d e = sym (e .complete (d .sound refl))
-decides-same false true d e = clash (d .complete (e .sound refl)) refl
-decides-same false false d e = refl
 
 -- a test of what does not hold
 pub decides-false : (b : Bool) {P : Type 0} → Decides b P → (P → ⊥) → false ≡ b

@@ -21,7 +21,8 @@ use Rattle.sets.specs.Standing.{MemberAt, MembersAt, ViewAt, ItemAt}
 use Rattle.sets.specs.declared.item.View.{View}
 use Rattle.sets.specs.declared.item.View.the-variants.{Plain}
 use Rattle.sets.specs.declared.item.Item.the-variants.{Seen, Pair}
-use Rattle.sets.proofs.Equal.{decides-same, sameNumbers-decides}
+use Rattle.laws.proofs.Decides.{decides-same}
+use Rattle.sets.proofs.Equal.{sameNumbers-decides}
 
 pub sameNumbers-sym : (x y : List ℕ) → sameNumbers x y ≡ sameNumbers y x
 sameNumbers-sym x y =

@@ -1,8 +1,7 @@
 -- The conditions of the rules on sets: each is a written set compared with piles.
 -- Assumes nothing.
 --     can-same, set-does                    a written set and three piles, by trees
---     can-written, rule-written .. -rest    the rules that compare sets
---     hold-all, rule-stand                  set rule 13
+--     can-written, rule-written .. -union    the rules that compare sets
 --     find-test, rule-test                  rule 13
 use mathlib.Core.Path.{_≡_, refl, sym, ap, ap₂, subst, _∙_}
 use mathlib.Core.Bool.{Bool, true}
@@ -15,27 +14,26 @@ use Rattle.language.specs.Syntax.{Sort, Boolean, Expr, truth, neg, Assignment}
 use Rattle.rules.specs.Words.{word, words}
 use Rattle.rules.specs.Assertion.{Members, member, one}
 use Rattle.rules.specs.Replace.{replacement, replaceMembers}
-use Rattle.rules.specs.Sets.{under, without}
-use Rattle.rules.specs.Tests.{stands, within, same}
+use Rattle.rules.specs.Sets.{under}
+use Rattle.rules.specs.Tests.{stands, same}
 use Rattle.ends.specs.Ends.{EndsOf}
 use Rattle.compare.specs.Matching.{numbers}
 use Rattle.compare.specs.declared.cursor.Put.{Put}
 use Rattle.sets.specs.Items.{part, itemNumbers}
-use Rattle.sets.specs.Lists.{written, standsIn, withinAll, sameAll}
-use Rattle.sets.specs.Standing.{MembersAt, ViewAt, ItemAt, CanFind, CanHold}
+use Rattle.sets.specs.Lists.{written, standsIn, sameAll}
+use Rattle.sets.specs.Standing.{MembersAt, ViewAt, ItemAt, CanFind}
 use Rattle.sets.specs.Piles.{countAt, writtenSet, pilesNumbers, SetAt, CanSame}
 use Rattle.sets.specs.Trees.{ExpressionStands, SetStands, PutStands, PileStands, HasSet, HasPile, CanSameSet, SameSet}
 use Rattle.sets.specs.Trees.{stands-empty, stands-one, stands-plain, stands-under, stands-unless, stands-replaced}
-use Rattle.sets.specs.Trees.{stands-without}
 use Rattle.sets.specs.Rules.{CanTwo, SameWritten, CanReplaced, SameReplaced, CanUnder, SameUnder}
-use Rattle.sets.specs.Rules.{CanBranches, SameBranches, CanThree, SameUnion, CanRest, SameRest}
-use Rattle.sets.specs.Rules.{AllStand, CanTest, TestStands}
+use Rattle.sets.specs.Rules.{CanBranches, SameBranches, CanThree, SameUnion}
+use Rattle.sets.specs.Rules.{CanTest, TestStands}
 use Rattle.sets.specs.declared.item.View.the-variants.{Plain, Under, Unless, Replaced}
 use Rattle.sets.specs.declared.item.Item.the-variants.{Certain}
 use Rattle.sets.specs.declared.pile.Pile.{Pile}
-use Rattle.sets.specs.declared.pile.Pile.the-variants.{Empty, One, Set, Without}
+use Rattle.sets.specs.declared.pile.Pile.the-variants.{Empty, One, Set}
 use Rattle.sets.specs.declared.pile.Piles.{Piles}
-use Rattle.sets.proofs.Tests.{stands-numbers, within-numbers}
+use Rattle.sets.proofs.Tests.{stands-numbers}
 use Rattle.sets.proofs.Piles.{set-members}
 use Rattle.sets.proofs.Trees.{expression-is, any-place, fits-part, set-is, set-place, written-is, pile-is, same-trees}
 
@@ -115,16 +113,6 @@ module _ {file ends : List ℕ} where
     third-pile = no-pile;
   }
 
-  pub can-rest : {p t l s : ℕ} → CanRest file ends p t l s →
-      CanSameSet file ends p (three (Without t l) (Set s Plain) Empty)
-  can-rest c = record {
-    ends-of = c .ends-of;
-    set = c .first-set;
-    first-pile = record { tree = _; stands = stands-without (c .whole-set .stands) (c .left-out .stands) };
-    second-pile = plain-pile (c .put-in);
-    third-pile = no-pile;
-  }
-
 module _ {file : List ℕ} {p : ℕ} {r : Bool} where
   pub rule-written : {q : ℕ} → SameSet file p (three (Set q Plain) Empty Empty) r → SameWritten file p q r
   rule-written s = record {
@@ -158,40 +146,9 @@ module _ {file : List ℕ} {p : ℕ} {r : Bool} where
         e .does x y z [] g (stands-plain h) (stands-plain i) stands-empty ∙ ap (λ l. same x (y ++ l)) (append-nil z);
   }
 
-  pub rule-rest : {t l s : ℕ} → SameSet file p (three (Without t l) (Set s Plain) Empty) r → SameRest file p t l s r
-  rule-rest e = record {
-    does = λ x y z u g h i j.
-        e .does x (without y z) u [] g (stands-without h i) (stands-plain j) stands-empty
-        ∙ ap (λ l. same x (without y z ++ l)) (append-nil u);
-  }
-
--- set rule 13
 module _ {file ends : List ℕ} where
   pub set-counted : {q k : ℕ} → EndsOf file ends → HasSet file q → k ≡ countAt file q → MembersAt file ends k (q + 1)
   set-counted o h e = set-members (set-place (set-is o (h .stands))) e
-
-  pub hold-all : {p q j k : ℕ} → CanTwo file ends p q → j ≡ countAt file q → k ≡ countAt file p →
-      CanHold file ends j (q + 1) Plain k (p + 1)
-  unfolding ViewAt
-  hold-all c e f = record {
-    ends-of = c .ends-of;
-    part = set-counted (c .ends-of) (c .second-set) e;
-    view-at = tt;
-    members = set-counted (c .ends-of) (c .first-set) f;
-  }
-
-  pub rule-stand : {p q j k : ℕ} {r : Bool} → EndsOf file ends → j ≡ countAt file q → k ≡ countAt file p →
-      r ≡ withinAll (written file ends j (q + 1)) (written file ends k (p + 1)) → AllStand file p q r
-  rule-stand {p} {q} {j} {k} o e f h = record {
-    does = λ x y g i.
-        let a = written-is o g in
-        let b = written-is o i in
-        h
-        ∙ ap₂ withinAll
-        (ap (λ n. written file ends n (q + 1)) e ∙ b .numbers-are)
-        (ap (λ n. written file ends n (p + 1)) f ∙ a .numbers-are)
-        ∙ sym (within-numbers y x (b .fit-all) (a .fit-all));
-  }
 
   -- rule 13: the word of true is 9:1
   pub find-test : {p b k : ℕ} → CanTest file ends p b → k ≡ countAt file p → CanFind file ends k (p + 1) (Certain b)

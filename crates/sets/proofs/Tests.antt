@@ -18,7 +18,8 @@ use Rattle.compare.specs.Matching.{numbers}
 use Rattle.compare.proofs.Numbers.{FitsWords, numbers-words}
 use Rattle.sets.specs.Items.{sameNumbers}
 use Rattle.sets.specs.Lists.{standsIn, withinAll, sameAll, withoutAll}
-use Rattle.sets.proofs.Equal.{decides-same, sameNumbers-decides}
+use Rattle.laws.proofs.Decides.{decides-same}
+use Rattle.sets.proofs.Equal.{sameNumbers-decides}
 
 abbrev pub numbersOf : Member → List ℕ
 numbersOf m = numbers (memberWords m)

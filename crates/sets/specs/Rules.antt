@@ -5,8 +5,6 @@
 --     CanUnder, SameUnder          rules 5, 12: under B
 --     CanBranches, SameBranches    rule 6
 --     CanThree, SameUnion          rules 9, 16: S ∪ T
---     CanRest, SameRest            set rule 17: (T without S') ∪ S
---     AllStand                     set rule 13: each of Q stands in P
 --     CanTest, TestStands          rule 13: true ⇒ B stands in P
 use mathlib.Core.Path.{_≡_}
 use mathlib.Core.Bool.{Bool, true}
@@ -53,13 +51,6 @@ module _ (file ends : List ℕ) where
     pub second-set : HasSet file s
     pub third-set : HasSet file t
 
-  pub record CanRest (p t l s : ℕ) : Type 0 where
-    pub ends-of : EndsOf file ends
-    pub first-set : HasSet file p
-    pub whole-set : HasSet file t
-    pub left-out : HasSet file l
-    pub put-in : HasSet file s
-
   pub record CanTest (p b : ℕ) : Type 0 where
     pub ends-of : EndsOf file ends
     pub first-set : HasSet file p
@@ -84,13 +75,6 @@ module _ (file : List ℕ) where
 
   pub record SameUnion (p s t : ℕ) (r : Bool) : Type 0 where
     pub does : (x y z : Members) → SetStands file x p → SetStands file y s → SetStands file z t → r ≡ same x (y ++ z)
-
-  pub record SameRest (p t l s : ℕ) (r : Bool) : Type 0 where
-    pub does : (x y z u : Members) → SetStands file x p → SetStands file y t → SetStands file z l → SetStands file u s →
-        r ≡ same x (without y z ++ u)
-
-  pub record AllStand (p q : ℕ) (r : Bool) : Type 0 where
-    pub does : (x y : Members) → SetStands file x p → SetStands file y q → r ≡ within y x
 
   pub record TestStands (p b : ℕ) (r : Bool) : Type 0 where
     pub does : (x : Members) (β : Expr Boolean) → SetStands file x p → ExpressionStands file β b →

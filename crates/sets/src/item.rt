@@ -1,10 +1,10 @@
 use compare::cursor::Match;
 use compare::cursor::Put;
-use compare::cursor::end_at;
 use compare::cursor::match_range;
 use compare::cursor::match_word;
 use compare::expression::match_boolean;
 use compare::expression::match_expression;
+use ends::end_at;
 ghost use mathlib.Core.Path.{_≡_};
 ghost use Rattle.compare.specs.Matching.{matched, between};
 ghost use Rattle.sets.specs.Items.{underNumbers, unlessNumbers, exchangedMember, seenAs, itemNumbers, sameNumbers, pastMember};

@@ -1,15 +1,13 @@
 use crate::item::Item;
 use crate::item::View;
 use crate::member::has_item;
-use crate::member::seen_in;
 use crate::pile::Pile;
 use crate::pile::Piles;
 use crate::pile::count;
 use crate::set::same_set;
 use compare::cursor::Put;
 ghost use Rattle.sets.specs.Rules.{CanTwo, SameWritten, CanReplaced, SameReplaced, CanUnder, SameUnder};
-ghost use Rattle.sets.specs.Rules.{CanBranches, SameBranches, CanThree, SameUnion, CanRest, SameRest};
-ghost use Rattle.sets.specs.Rules.{AllStand, CanTest, TestStands};
+ghost use Rattle.sets.specs.Rules.{CanBranches, SameBranches, CanThree, SameUnion, CanTest, TestStands};
 
 // Rules 1, 10 and 13: P same as Q.
 pub fn same_written(w: &[u32], ends: &[u32], p: usize, q: usize) -> bool
@@ -102,33 +100,6 @@ pub fn same_union(w: &[u32], ends: &[u32], p: usize, s: usize, t: usize) -> bool
             third: Pile::Empty,
         },
     )
-}
-
-// Set rule 17: P same as (T without S') ∪ S; S' stands at l.
-pub fn same_rest(w: &[u32], ends: &[u32], p: usize, t: usize, l: usize, s: usize) -> bool
-    requires { ⌜ CanRest (now w) (now ends) p t l s ⌝ }
-    ensures { λ r. ⌜ SameRest (now (w .entry)) p t l s r ⌝ }
-{
-    same_set(
-        w,
-        ends,
-        p,
-        Piles {
-            first: Pile::Without(t, l),
-            second: Pile::Set(s, View::Plain),
-            third: Pile::Empty,
-        },
-    )
-}
-
-// Set rule 13: each of Q stands in P.
-pub fn all_stand(w: &[u32], ends: &[u32], p: usize, q: usize) -> bool
-    requires { ⌜ CanTwo (now w) (now ends) p q ⌝ }
-    ensures { λ r. ⌜ AllStand (now (w .entry)) p q r ⌝ }
-{
-    let k = count(w, p);
-    let j = count(w, q);
-    seen_in(w, ends, j, q + 1, View::Plain, k, p + 1)
 }
 
 // Rule 13: true ⇒ B stands in P.

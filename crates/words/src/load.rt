@@ -2,7 +2,22 @@
 ghost use mathlib.Core.Path.{_≡_};
 ghost use Prim.Native.Nat.{_+_, _*_, _<_};
 ghost use lib.ListN.{length};
+ghost use Rattle.layout.specs.File.{badLength};
 ghost use Rattle.words.specs.Load.{wordAt, lesser, Loaded};
+
+// Refusal 1 (document 01, "Judging order"): the byte count is 0, over 32,768 or no multiple of 4.
+pub fn bad_length(file: &[u8]) -> bool
+    ensures { λ r. ⌜ r ≡ badLength (now (file .entry)) ⌝ }
+{
+    let n = file.len();
+    if n == 0 {
+        return true;
+    }
+    if 32768 < n {
+        return true;
+    }
+    n % 4 != 0
+}
 
 fn wide(x: u8) -> u32
     ensures { λ r. ⌜ (r ≡ x) × (r < 256) ⌝ }

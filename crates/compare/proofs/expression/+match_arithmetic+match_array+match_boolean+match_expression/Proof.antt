@@ -24,7 +24,7 @@ use Rattle.compare.proofs.expression.+match_arithmetic+match_array+matc
 use Rattle.compare.proofs.expression.match_expression.Reads as match-expression
 use Rattle.compare.proofs.expression.match_expression.Kinds as match-expression-kinds
 use Rattle.compare.proofs.expression.+match_arithmetic+match_array+match_boolean+match_expression.Lts-match_expression as match-expression-lts
-use Rattle.compare.proofs.cursor.end_at.Reads as end-at-reads
+use Rattle.ends.proofs.end_at.Reads as end-at-reads
 use Rattle.compare.proofs.cursor.match_head.Reads as match-head-reads
 use Rattle.compare.proofs.expression.+match_arithmetic+match_array+match_boolean+match_expression.{
   statement,

@@ -1,6 +1,5 @@
 -- `evaluate::boolean::eval_boolean` meets its contract: what comes of a boolean is what comes of its operands. The
--- measure is the
--- words left from it on.
+-- measure is the words left from it on.
 -- Assumes nothing.
 use mathlib.Core.Path.{sym, ap, _∙_}
 use native.Mathlib.Omega.{arith}
@@ -23,7 +22,7 @@ use Rattle.evaluate.proofs.combine.either.Reads as either-reads
 use Rattle.evaluate.proofs.combine.negate.Reads as negate-reads
 use Rattle.evaluate.proofs.expression.eval_arithmetic.Reads as eval-arithmetic-reads
 use Rattle.heads.proofs.boolean_head.Reads as boolean-head-reads
-use Rattle.heads.proofs.end_at.Reads as end-at-reads
+use Rattle.ends.proofs.end_at.Reads as end-at-reads
 use Rattle.evaluate.proofs.boolean.+eval_boolean.{statement}
 use Rattle.evaluate.proofs.boolean.+eval_boolean.Tie.{close}
 

@@ -1,7 +1,6 @@
 -- The cycle of calls in which arithmetic and array expressions are worked out meets its contracts: what comes of an
--- expression is
--- what comes of its operands. The measure is the words left from the expression on, twice; one less for a select's own
--- function.
+-- expression is what comes of its operands. The measure is the words left from the expression on, twice; one less for
+-- a select's own function.
 -- Assumes nothing.
 use mathlib.Core.Path.{sym, ap, _∙_}
 use native.Mathlib.Omega.{arith}
@@ -34,7 +33,7 @@ use Rattle.evaluate.proofs.store.fetch.Reads as fetch-reads
 use Rattle.evaluate.proofs.store.value_at.Reads as value-at-reads
 use Rattle.heads.proofs.arithmetic_head.Reads as arithmetic-head-reads
 use Rattle.heads.proofs.array_head.Reads as array-head-reads
-use Rattle.heads.proofs.end_at.Reads as end-at-reads
+use Rattle.ends.proofs.end_at.Reads as end-at-reads
 use Rattle.evaluate.proofs.expression.+eval_arithmetic+eval_array+eval_select.{statement}
 use Rattle.evaluate.proofs.expression.+eval_arithmetic+eval_array+eval_select.Tie.{close}
 

@@ -1,7 +1,8 @@
 -- `flow::file::check_loaded` meets its contract: the words that were loaded are all of the file's.
 -- Assumes nothing.
 use borrow.Author.Needs.{needs}
-use Rattle.flow.proofs.Outcomes.{AllLoaded, all-loaded, loaded-room, loaded-outcome}
+use Rattle.words.proofs.Lengths.{AllLoaded, all-loaded}
+use Rattle.flow.proofs.Outcomes.{loaded-room, loaded-outcome}
 use Rattle.flow.proofs.file.check_loaded.Statement.{statement}
 use Rattle.flow.proofs.file.check_loaded.Tie as tie
 

@@ -4,7 +4,8 @@ use borrow.Author.Needs.{needs}
 use mathlib.Core.Path.{sym, _∙_}
 use native.Mathlib.Omega.{arith}
 use Rattle.reader.specs.Walk.{limitsOf}
-use Rattle.flow.proofs.Outcomes.{bad-outcome, good-length}
+use Rattle.words.proofs.Lengths.{good-length}
+use Rattle.flow.proofs.Outcomes.{bad-outcome}
 use Rattle.flow.proofs.file.outcome.Statement.{statement}
 use Rattle.flow.proofs.file.outcome.Tie as tie
 

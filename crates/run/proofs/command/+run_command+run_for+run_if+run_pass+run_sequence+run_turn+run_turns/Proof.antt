@@ -1,8 +1,7 @@
--- The cycle of calls in which commands are run meets its contracts: what comes of a command is what comes of its parts,
--- and a loop
--- goes on as long as one turn after the other is due. The measure is the words left from the command on, five times, so
--- that
--- the functions for parts of a command come between it and its own parts; a loop's is the steps left.
+-- The cycle of calls in which commands are run meets its contracts: what comes of a command is what comes of its
+-- parts, and a loop goes on as long as one turn after the other is due. The measure is the words left from the
+-- command on, five times, so that the functions for parts of a command come between it and its own parts; a loop's is
+-- the steps left.
 -- Assumes nothing.
 use mathlib.Core.Path.{refl, sym, ap, subst, _∙_}
 use native.Mathlib.Omega.{arith}
@@ -45,7 +44,7 @@ use Rattle.run.proofs.command.run_turns.Kinds as run-turns-kinds
 use Rattle.run.proofs.command.+run_command+run_for+run_if+run_pass+run_sequence+run_turn+run_turns.Lts-run_turns as run-turns-lts
 use Rattle.evaluate.proofs.boolean.eval_boolean.Reads as eval-boolean-reads
 use Rattle.heads.proofs.command_head.Reads as command-head-reads
-use Rattle.heads.proofs.end_at.Reads as end-at-reads
+use Rattle.ends.proofs.end_at.Reads as end-at-reads
 use Rattle.run.proofs.repeat.body_at.Reads as body-at-reads
 use Rattle.run.proofs.repeat.end_pass.Reads as end-pass-reads
 use Rattle.run.proofs.repeat.loop_test.Reads as loop-test-reads

@@ -1,8 +1,10 @@
 -- `runner::file::run_bytes` meets its contract: refusal 1, then the words that were loaded. Assumes nothing.
 use mathlib.Core.Path.{sym, _∙_}
+use native.Mathlib.Omega.{arith}
 use Rattle.reader.specs.Walk.{limitsOf}
 use Rattle.evaluate.specs.Evaluated.{lent}
-use Rattle.runner.proofs.Files.{bad-bytes, AllLoaded, all-loaded, loaded-bytes}
+use Rattle.words.proofs.Lengths.{AllLoaded, good-length, all-loaded}
+use Rattle.runner.proofs.Files.{bad-bytes, loaded-bytes}
 use borrow.Author.Needs.{needs}
 use Rattle.runner.proofs.file.run_bytes.Statement.{statement}
 use Rattle.runner.proofs.file.run_bytes.Tie as tie
@@ -13,7 +15,8 @@ loaded : (c : tie.After-words2) →
     (c .before .load .result)
 loaded c =
     let if1 = c .before .before .before in
-    all-loaded (sym (if1 .before .bad-length .ensures) ∙ if1 .if1 .left) (c .before .load .ensures) (search needs)
+    let good = sym (if1 .before .bad-length .ensures) ∙ if1 .if1 .left in
+    all-loaded good (c .before .load .ensures) (omega (arith, good-length (if1 .before .before .before .args .file .now) good))
 
 pub run-bytes-spec : {M : Type 1} → statement M
 run-bytes-spec =

@@ -9,4 +9,4 @@ is-rest-union-spec =
     tie.close
     (tie.spec
     (λ c κs. can-rest-same (c .before .before .pre))
-    (λ c. rest-at (c .is-same-set .ensures)))
+    (λ c. rest-at (c .same-set .ensures)))

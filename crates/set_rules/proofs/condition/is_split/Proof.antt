@@ -20,7 +20,7 @@ is-split-spec =
     (λ c.
     let c₁ = c .before in
     let c₅ = c₁ .before .before .before .before in
-    one-split (c₅ .pre .ends-of) (c₁ .if1 .taken) (c .is-same-set .ensures))
+    one-split (c₅ .pre .ends-of) (c₁ .if1 .taken) (c .same-set .ensures))
     (λ c κs. search needs)
     (λ c.
     let c₁ = c .before in
@@ -52,4 +52,4 @@ is-split-spec =
     let c₄ = c₃ .before in
     let c₈ = c₄ .before .before .before .before in
     two-split (c₈ .pre .ends-of) (c₄ .if1 .left) (sym (c₃ .has-two .ensures) ∙ not-false _ (c₂ .if2 .left))
-    (c₁ .end-at .ensures) (c .is-same-set2 .ensures)))
+    (c₁ .end-at .ensures) (c .same-set2 .ensures)))

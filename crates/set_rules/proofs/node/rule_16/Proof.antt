@@ -4,6 +4,7 @@ use mathlib.Core.Path.{refl}
 use native.Mathlib.Omega.{arith}
 use borrow.Author.Tests.{not-true, not-false}
 use Rattle.rule_laws.proofs.Places.{set-known}
+use Rattle.set_laws.proofs.Unions.{union-at}
 use Rattle.set_rules.proofs.Goal.{low-head}
 use Rattle.set_rules.proofs.Nodes.{carried-16, can-unite-first, can-unite-second, first-stops, second-stops}
 use Rattle.set_rules.proofs.Nodes.{united-tried}
@@ -50,7 +51,7 @@ rule-16-spec =
     let c₅ = c₄ .before in
     let c₈ = c₅ .before .before .before in
     first-stops (c₈ .pre) (c₅ .end-at .ensures) (c₄ .end-at2 .ensures) (c₃ .end-at3 .ensures) (c₂ .end-at4 .ensures)
-    (c₁ .is-union .ensures) (not-true _ (c .if1 .taken)))
+    (union-at (c₁ .same-union .ensures)) (not-true _ (c .if1 .taken)))
     (λ c κs.
     let c₂ = c .before .before in
     let c₃ = c₂ .before in
@@ -69,7 +70,7 @@ rule-16-spec =
     let c₇ = c₆ .before in
     let c₁₀ = c₇ .before .before .before in
     second-stops (c₁₀ .pre) (c₇ .end-at .ensures) (c₆ .end-at2 .ensures) (c₅ .end-at3 .ensures) (c₄ .end-at4 .ensures)
-    (c₃ .is-union .ensures) (not-false _ (c₂ .if1 .left)) (c₁ .is-union2 .ensures) (not-true _ (c .if2 .taken)))
+    (union-at (c₃ .same-union .ensures)) (not-false _ (c₂ .if1 .left)) (union-at (c₁ .same-union2 .ensures)) (not-true _ (c .if2 .taken)))
     (λ c.
     let c₁ = c .before in
     let c₂ = c₁ .before in
@@ -80,4 +81,4 @@ rule-16-spec =
     let c₇ = c₆ .before in
     let c₁₀ = c₇ .before .before .before in
     united-tried (c₁₀ .pre) (c₇ .end-at .ensures) (c₆ .end-at2 .ensures) (c₅ .end-at3 .ensures) (c₄ .end-at4 .ensures)
-    (c₃ .is-union .ensures) (not-false _ (c₂ .if1 .left)) (c₁ .is-union2 .ensures) (not-false _ (c .if2 .left))))
+    (union-at (c₃ .same-union .ensures)) (not-false _ (c₂ .if1 .left)) (union-at (c₁ .same-union2 .ensures)) (not-false _ (c .if2 .left))))

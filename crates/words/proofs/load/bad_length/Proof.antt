@@ -1,8 +1,8 @@
--- `flow::file::bad_length` meets its contract by its tests.
+-- `words::load::bad_length` meets its contract by its tests.
 -- Assumes nothing.
 use borrow.Author.Tests.{eq-eqb, ne-eqb, lt-ltb, le-ltb}
-use Rattle.flow.proofs.file.bad_length.Statement.{statement}
-use Rattle.flow.proofs.file.bad_length.Tie as tie
+use Rattle.words.proofs.load.bad_length.Statement.{statement}
+use Rattle.words.proofs.load.bad_length.Tie as tie
 
 pub bad-length-spec : {M : Type 1} → statement M
 bad-length-spec =

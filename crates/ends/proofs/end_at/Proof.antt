@@ -1,9 +1,8 @@
--- `compare::cursor::end_at` meets its contract.
--- Assumes nothing.
-use borrow.Author.Needs.{needs}
+-- `ends::end_at` meets its contract. Assumes nothing.
 use native.Mathlib.Omega.{arith}
-use Rattle.compare.proofs.cursor.end_at.Statement.{statement}
-use Rattle.compare.proofs.cursor.end_at.Tie as tie
+use borrow.Author.Needs.{needs}
+use Rattle.ends.proofs.end_at.Statement.{statement}
+use Rattle.ends.proofs.end_at.Tie as tie
 
 pub end-at-spec : {M : Type 1} → statement M
 end-at-spec =
