@@ -2,14 +2,13 @@
 -- Assumes nothing.
 --     between-none, between-first    none, the first and the others
 --     between-join                   up to a place and from there on
---     between-length                 how many there are
 use mathlib.Core.Path.{_≡_, refl, sym, ap, _∙_}
 use mathlib.Core.List.{List, [], _∷_, _++_}
 use Prim.Native.Nat.{ℕ, zero, suc, _+_, _-_, _<_, _≤_}
 use native.Mathlib.Numerals.{add-one}
 use native.Mathlib.Omega.{arith}
 use lib.ListN.{length, getD, take, drop, length-take, drop-of-length-le}
-use lib.Seq.{slice, slice-cons, length-slice}
+use lib.Seq.{slice, slice-cons}
 use Rattle.compare.specs.Matching.{between}
 
 module _ (file : List ℕ) where
@@ -34,7 +33,3 @@ module _ (file : List ℕ) where
   pub between-join : (a q e : ℕ) → a ≤ q → q ≤ e → e ≤ length file →
       between file a e ≡ between file a q ++ between file q e
   between-join a q e h k l = join (q - a) a q e (omega arith) k l
-
-  pub between-length : (a e : ℕ) → e ≤ length file → length (between file a e) ≡ e - a
-  unfolding between
-  between-length a e h = length-slice a e file h

@@ -2,8 +2,7 @@
 -- Assumes nothing.
 --     GoalAt, goal-at, here            the trees; of a goal that stands, of one that can be tried
 --     head, low-head, command-head     its evidence word and its command's first word are in the file
---     pre-known, post-known, command-known
---                                      its three parts are in the list of ends
+--     post-known, command-known        its postcondition and its command are in the list of ends
 --     verdict-is                       its verdict, by its evidence
 --     tried, leaf-tried, stops         a rule tried for every such tree; a rule with no children; one that fails
 --     flow-child, set-child, pre-child a child's goal stands
@@ -74,9 +73,6 @@ module _ {file ends : List ℕ} {rule p c q at : ℕ} (can : CanTry file ends ru
       let s = i .start in
       let w = i .within in
       omega arith
-
-  pub pre-known : PartKnown file ends p
-  pre-known = set-known (can .ends-of) (here .before-at)
 
   pub post-known : PartKnown file ends q
   post-known = set-known (can .ends-of) (here .after-at)

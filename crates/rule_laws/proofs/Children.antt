@@ -1,7 +1,6 @@
 -- What the word of a rule comes to, from its verdict (document 01, "Judging order" 8 and 9).
 -- Assumes nothing.
 --     word-passes, word-fails         a word whose condition is a test
---     both-tests                      two tests, tried as written, are one
 --     under                           a verdict under the limits
 --     no-children, one-child, two-children, three-children
 --                                     the goals of the children, from the verdict
@@ -9,12 +8,12 @@
 --     leaf-stops, leaf-goes, settled-passes, settled-fails, settled-large
 --                                     the same steps in code
 use mathlib.Core.Path.{_≡_, refl, sym, ap, _∙_}
-use mathlib.Core.Bool.{Bool, true, false, _&&_}
+use mathlib.Core.Bool.{Bool, true, false}
 use mathlib.Core.List.{List}
 use Prim.Native.Nat.{ℕ, _+_}
 use native.Mathlib.Omega.{arith}
 use Rattle.rules.specs.Context.{Limits}
-use Rattle.rules.specs.Condition.{test, _then_}
+use Rattle.rules.specs.Condition.{test}
 use Rattle.rules.specs.Judge.{Verdict, accepted, refused, oneMore, _also_, judgeWord, judgeLeaf}
 use Rattle.goals.specs.Goals.{TreeGoal, nothing, verdict, GoalStands, nothing-stands, ChildrenOf, Comes}
 use Rattle.goals.specs.declared.Goal.{Goal}
@@ -33,12 +32,6 @@ word-passes i v h = rw h refl
 pub word-fails : (i : ℕ) {b : Bool} (v : Verdict) → b ≡ false → judgeWord i (test b) v ≡ refused 8 i
 unfolding judgeWord test
 word-fails i v h = rw h refl
-
--- two tests, tried as written, are one
-pub both-tests : (a b : Bool) → (test a then test b) ≡ test (a && b)
-unfolding test _then_
-both-tests true b = refl
-both-tests false b = refl
 
 also-none : (v : Verdict) → (v also accepted 0) ≡ v
 unfolding _also_

@@ -1,7 +1,6 @@
 -- Laws that the rules of all three judgements use.
 --     Places      what stands at a place, by its end in the list of ends
 --     Commands    the form of a written command by the kind of its first word, and its parts
---     Sets        a written set with no member, with one
 --     Passing     a cursor that passes words decides sameness with what stands there
 --     Meaning     the words of what a `for` means
 --     Keeping     a scan for what a command modifies
@@ -9,7 +8,6 @@
 --     Children    what the word of a rule comes to, from its verdict
 pub mod Places
 pub mod Commands
-pub mod Sets
 pub mod Passing
 pub mod Meaning
 pub mod Keeping

@@ -5,7 +5,7 @@
 --     written-at, command-at, set-at             the same of what stands at a place of a goal
 --     at-written, at-command, at-set             and back
 --     written-to, command-to, set-to, known-to   at the same place by another name
---     written-any, written-inside                an expression of some sort; it has words, and ends in the file
+--     written-inside                             an expression has words, and ends in the file
 --     command-inside, set-inside                 the same of a command and of a set
 --     written-known, command-known, set-known    its place is in the list of ends
 use mathlib.Core.Path.{_≡_, refl, sym, subst}
@@ -23,7 +23,7 @@ use Rattle.layout.specs.Spelling.{membersWords}
 use Rattle.layout.specs.EvidenceWords.{expressionPart, commandPart, setPart}
 use Rattle.layout.specs.Standing.{StandsTo, PartStands}
 use Rattle.ends.specs.Ends.{EndsOf}
-use Rattle.compare.specs.Places.{endAt, AnyAt}
+use Rattle.compare.specs.Places.{endAt}
 use Rattle.compare.proofs.Operands.{Inside, expression-inside, stands-inside}
 use Rattle.goals.specs.Goals.{At}
 use Rattle.rule_laws.specs.Places.{WrittenAt, CommandAt, SetAt, PartKnown}
@@ -94,10 +94,6 @@ module _ {file ends : List ℕ} where
 
   pub at-set : {limits : Limits} {m : Members} {at : ℕ} → SetAt file ends limits m at → At file (setPart limits m) at
   at-set {at = at} x = record { levels = x .levels; low = x .low; end = endAt ends at; stands = x .stands }
-
-  pub written-any : {k : Sort} {e : Expr k} {at : ℕ} → WrittenAt file ends e at → AnyAt file ends at
-  written-any {k} {e} x =
-      record { sort = k; expression = record { tree = e; levels = x .levels; stands = x .stands } }
 
   pub written-inside : {k : Sort} {e : Expr k} {at : ℕ} → WrittenAt file ends e at → Inside file at (endAt ends at)
   written-inside {e = e} x = expression-inside (record { tree = e; levels = x .levels; stands = x .stands })

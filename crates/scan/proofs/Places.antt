@@ -1,6 +1,6 @@
 -- What stands at a place starts there and ends where the list of ends has it.
 -- Assumes nothing.
---     expression-starts, command-starts, set-starts    of an expression, a command and a set
+--     expression-starts, command-starts                of an expression and a command
 --     closed-place                                     the scan up to that end
 use mathlib.Core.Path.{_≡_, sym, subst}
 use mathlib.Core.Bool.{Bool}
@@ -9,13 +9,11 @@ use Prim.Native.Nat.{ℕ}
 use native.Mathlib.Omega.{arith}
 use lib.ListN.{getD}
 use Rattle.language.specs.Syntax.{Sort, Expr, Command}
-use Rattle.rules.specs.Assertion.{Members}
-use Rattle.rules.specs.Context.{Limits}
-use Rattle.layout.specs.EvidenceWords.{Part, expressionPart, commandPart, setPart}
+use Rattle.layout.specs.EvidenceWords.{Part, expressionPart, commandPart}
 use Rattle.layout.specs.Standing.{PartStands}
 use Rattle.ends.specs.Ends.{EndsOf}
 use Rattle.ends.proofs.Sizes.{sizes-inside}
-use Rattle.ends.proofs.Ends.{Sized, expression-sized, command-sized, set-sized}
+use Rattle.ends.proofs.Ends.{Sized, expression-sized, command-sized}
 use Rattle.scan.specs.Scan.{Closed}
 use Rattle.scan.specs.Place.{StartsAt, ClosedAt}
 
@@ -33,10 +31,6 @@ module _ (file ends : List ℕ) (h : EndsOf file ends) where
 
   pub command-starts : (c : Command) (d at p : ℕ) → PartStands file (commandPart c) d at p → StartsAt file ends at
   command-starts c d at p s = starts (command-sized file d c at p s) (h .command-end c d at p s)
-
-  pub set-starts : (limits : Limits) (m : Members) (d at p : ℕ) → PartStands file (setPart limits m) d at p →
-      StartsAt file ends at
-  set-starts limits m d at p s = starts (set-sized file limits d m at p s) (h .set-end limits m d at p s)
 
 module _ (file ends : List ℕ) (at : ℕ) (h : StartsAt file ends at) where
   -- what stands there stands up to the end at hand

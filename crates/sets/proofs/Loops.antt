@@ -30,15 +30,6 @@ sameNumbers-sym x y =
     (decides-map (λ h. sym h) (λ h. sym h) (sameNumbers-decides y x))
 
 module _ (file ends : List ℕ) where
-  -- a member as it stands, and an item of a written set
-  pub plain-is : (a : ℕ) → seenAs file ends Plain a ≡ between file a (pastMember ends a)
-  unfolding seenAs
-  plain-is a = refl
-
-  pub seen-is : (a : ℕ) (view : View) → itemNumbers file ends (Seen a view) ≡ seenAs file ends view a
-  unfolding itemNumbers
-  seen-is a view = refl
-
   pub members-first : (n i : ℕ) → MembersAt file ends n i → 0 < n → MemberAt file ends i
   unfolding MembersAt
   members-first zero i m h = absurd (omega arith)

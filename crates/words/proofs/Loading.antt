@@ -3,7 +3,6 @@
 --     words-length, words-at    how many words bytes make; the word at a place
 --     front, front-more         the first words stand in front; one more
 --     loaded-words              what a caller has who lends room enough
---     loaded-length             the length of the room, and what of it is loaded
 use mathlib.Core.Path.{_≡_, refl, sym, _∙_, ap}
 use mathlib.Core.Bool.{Bool, true, false, cond}
 use mathlib.Core.List.{List, [], _∷_, _++_}
@@ -43,9 +42,6 @@ module _ (bytes before : List ℕ) where
   abbrev pub front : ℕ → List ℕ
   front i = take i (wordsOf bytes) ++ drop i before
 
-  pub front-none : before ≡ front 0
-  front-none = refl
-
   pub front-more : (i : ℕ) → 4 * i + 3 < length bytes → i < length before →
       set (front i) i (wordAt bytes i) ≡ front (i + 1)
   front-more i h k =
@@ -77,11 +73,3 @@ loaded-words {bytes} {before} {after} {n} h k =
     let l : length (wordsOf bytes) ≤ n = rw (words-length bytes) (omega arith) in
     let w : take n (wordsOf bytes) ≡ wordsOf bytes = take-all n (wordsOf bytes) l in
     (e, rw (h .content, w) (take-at (wordsOf bytes) (drop n before) n (words-length bytes ∙ sym e)))
-
--- the words that were loaded are a part of the room that was lent
-pub loaded-length : {bytes before after : List ℕ} {n : ℕ} → Loaded bytes before after n →
-    (length after ≡ length before) × (n ≤ length after)
-loaded-length {bytes} {before} {after} {n} h =
-    let k = lesser-both (length bytes / 4) (length before) n (h .count) in
-    let l : length after ≡ length before = ap length (h .content) ∙ front-length bytes before n (k .0) (k .1) in
-    (l, omega arith)
