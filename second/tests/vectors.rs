@@ -1,32 +1,24 @@
-//! All rows of outside vectors, if the folder SECOND_VECTORS is given; otherwise skipped with a message.
+//! All rows of the outside vectors in ../tests, or in the folder SECOND_VECTORS if it is given.
 
 use second::judge::check;
 use second::rows::{bytes_of_hex, changes_of, store_of};
 use second::run::{run, SCALARS};
 use std::path::PathBuf;
 
-fn folder() -> Option<PathBuf> {
-    if let Ok(given) = std::env::var("SECOND_VECTORS") {
-        let path = PathBuf::from(given);
-        return path.is_dir().then_some(path);
-    }
-    None
+fn folder() -> PathBuf {
+    PathBuf::from(std::env::var("SECOND_VECTORS").unwrap_or("../tests".to_string()))
 }
 
-fn text(file: &str) -> Option<String> {
-    let Some(folder) = folder() else {
-        eprintln!("skipped: no vectors (set SECOND_VECTORS)");
-        return None;
-    };
-    Some(std::fs::read_to_string(folder.join(file)).expect("a text of vectors"))
+fn rows(file: &str) -> Vec<String> {
+    let text = std::fs::read_to_string(folder().join(file)).expect("a text of vectors");
+    text.lines().filter(|line| !line.starts_with('#')).map(str::to_string).collect()
 }
 
 #[test]
 fn check_rows() {
-    let Some(text) = text("check.txt") else { return };
     let mut agreed = 0;
     let mut differ = Vec::new();
-    for row in text.lines() {
+    for row in rows("rows.tsv") {
         let fields: Vec<&str> = row.split('\t').collect();
         let bytes = bytes_of_hex(fields[2]).expect("hexadecimal");
         let line = check(&bytes).line();
@@ -36,17 +28,16 @@ fn check_rows() {
             differ.push(format!("{}: {} wanted, {line} given", fields[0], fields[1]));
         }
     }
-    println!("check.txt: {agreed} rows agree, {} differ", differ.len());
+    println!("rows.tsv: {agreed} rows agree, {} differ", differ.len());
     assert!(differ.is_empty(), "{}", differ.join("\n"));
     assert!(agreed > 0);
 }
 
 #[test]
 fn run_rows() {
-    let Some(text) = text("runs.txt") else { return };
     let mut agreed = 0;
     let mut differ = Vec::new();
-    for row in text.lines() {
+    for row in rows("runs.tsv") {
         let fields: Vec<&str> = row.split('\t').collect();
         let budget: u64 = fields[1].parse().expect("a budget");
         let bytes = bytes_of_hex(fields[4]).expect("hexadecimal");
@@ -63,17 +54,13 @@ fn run_rows() {
             differ.push(format!("{}: {wanted} wanted, {given} given", fields[0]));
         }
     }
-    println!("runs.txt: {agreed} rows agree, {} differ", differ.len());
+    println!("runs.tsv: {agreed} rows agree, {} differ", differ.len());
     assert!(differ.is_empty(), "{}", differ.join("\n"));
     assert!(agreed > 0);
 }
 
 fn whole_files(sub: &str) {
-    let Some(folder) = folder() else {
-        eprintln!("skipped: no vectors (set SECOND_VECTORS)");
-        return;
-    };
-    let folder = folder.join(sub);
+    let folder = folder().join(sub);
     let expected = std::fs::read_to_string(folder.join("expected")).expect("expected");
     let mut agreed = 0;
     for row in expected.lines() {
