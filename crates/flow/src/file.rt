@@ -130,7 +130,8 @@ fn check_8192(file: &[u8], limits: Limits) -> Outcome
     check_loaded(file, &mut words, &mut table, limits)
 }
 
-// Refusals 1 to 9. Room is cleared for no more words than there are, by powers of two.
+// Refusals 1 to 9. Clearing room for 8,192 words would be most of a small file's cost, so a file gets the least of these
+// rooms that it fits.
 pub(crate) fn outcome(file: &[u8], limits: Limits) -> Outcome
     requires { ⌜ WithinLimits limits ⌝ }
     ensures { λ r. ⌜ r ≡ outcomeOf (limitsOf limits) (fileOf (limitsOf limits) (now (file .entry))) ⌝ }
