@@ -3,7 +3,8 @@ ghost use mathlib.Core.Path.{_≡_};
 ghost use mathlib.Core.Bool.{true};
 ghost use Rattle.compare.specs.EqualWords.{EqualWords, EqualCount, Room};
 
-// Whether the four words from a on are those from b on. No test stands between them, so that they can be compared at once.
+// Whether the four words from a on are those from b on. No test stands between them, so that they can be compared at
+// once.
 fn same_four(w: &[u32], a: usize, b: usize) -> bool
     requires { ⌜ Room (now w) a b 4 ⌝ }
     ensures { λ r. ⌜ (r ≡ true → EqualWords (now (w .entry)) a b 4) ⌝ }
@@ -15,7 +16,8 @@ fn same_four(w: &[u32], a: usize, b: usize) -> bool
     first | second | third | fourth == 0
 }
 
-// A number of words, at most `count`, in which the words from a on and from b on are equal: those before the first four that differ.
+// A number of words, at most `count`, in which the words from a on and from b on are equal: those before the first four
+// that differ.
 pub fn equal_words(w: &[u32], a: usize, b: usize, count: usize) -> usize
     requires { ⌜ Room (now w) a b count ⌝ }
     ensures { λ r. ⌜ EqualCount (now (w .entry)) a b count r ⌝ }

@@ -1,5 +1,5 @@
-// What words assign, as masks. Behind the ends of a file stand the masks of its whole blocks of 32 words, so that a long command is
-// not scanned anew each time that a rule asks what it modifies.
+// What words assign, as masks. Behind the ends of a file stand the masks of its whole blocks of 32 words, so that a long
+// command is not scanned anew each time that a rule asks what it modifies.
 use super::mask::mark;
 ghost use mathlib.Core.Path.{_≡_};
 ghost use Prim.Native.Nat.{_+_, _*_, _-_, _/_, _%_, _<_, _≤_};
@@ -23,7 +23,8 @@ fn marks(w: &[u32], from: usize, to: usize) -> u64
 // Puts the mask of a block.
 fn put_block(ends: &mut [u32], at: usize, mask: u64)
     requires { ⌜ «at» + 1 < length (now ends) ⌝ }
-    ensures { λ r. ⌜ now (ends .exit) ≡ set (set (now (ends .entry)) «at» (mask % 4294967296)) («at» + 1) (mask / 4294967296) ⌝ }
+    ensures { λ r. ⌜ now (ends .exit)
+        ≡ set (set (now (ends .entry)) «at» (mask % 4294967296)) («at» + 1) (mask / 4294967296) ⌝ }
 {
     ends[at] = (mask % 4294967296) as u32;
     ends[at + 1] = (mask / 4294967296) as u32;

@@ -1,4 +1,5 @@
-// Where each expression, command and set of a file ends, found in one pass from the last word to the first, and what its words assign.
+// Where each expression, command and set of a file ends, found in one pass from the last word to the first, and what its
+// words assign.
 pub mod mask; // mask.rt: identifiers as the bits of a number
 pub mod blocks; // blocks.rt: what words assign, by blocks
 
