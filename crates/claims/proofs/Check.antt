@@ -2,18 +2,22 @@
 -- Assumes nothing.
 --     demand-2    accepted exactly when the file reads and its evidence is a derivation
 --     demand-3    every accepted file is secure
-use mathlib.Core.Path.{_≡_, refl, sym, _∙_, ap, subst}
+use mathlib.Core.Path.{_≡_, refl, sym, _∙_, subst}
 use mathlib.Core.List.{List}
 use Prim.Native.Nat.{ℕ}
-use Rattle.rules.specs.Assertion.{Secure}
-use Rattle.rules.specs.Context.{Limits, Context}
-use Rattle.rules.specs.Judge.{Verdict, accepted, refused, judgeFlow}
+use native.Mathlib.Omega.{arith}
+use Rattle.rules.specs.Context.{Limits}
+use Rattle.rules.specs.Judge.{Verdict, accepted, refused}
 use Rattle.rules.proofs.Judged.{Accepts, flow-judged}
 use Rattle.rules.proofs.Sound.{flow-secure}
+use Rattle.layout.specs.Bytes.{wordsOf}
 use Rattle.layout.specs.Reading.{Reading, read, fault}
 use Rattle.layout.specs.File.{File, fileOf}
+use Rattle.layout.specs.Counted.{countEvidence}
 use Rattle.layout.specs.Verdict.{judged, verdictOf}
-use Rattle.layout.proofs.Counted.{Counts, file-counts}
+use Rattle.layout.proofs.WholeFile.{file-spelled}
+use Rattle.layout.proofs.Counted.{file-counts, file-counted}
+use Rattle.execution.proofs.ReadFile.{file-words}
 use Rattle.claims.specs.Check.{Derives, Demand2, Demand3}
 
 acceptance : (v : Verdict) → Accepts v → (n : ℕ) × (v ≡ accepted n)
@@ -32,14 +36,22 @@ module _ (limits : Limits) (bytes : List ℕ) where
   }
   derives (fault k p) h a = absurd a
 
+  -- the count of what is read, when it is accepted, is that of the file's words
+  counted : (r : Reading File) → fileOf limits bytes ≡ r → (n : ℕ) → judged (record { limits = limits }) r ≡ accepted n →
+      n ≡ countEvidence (wordsOf bytes)
+  counted (read f end) e n h =
+      file-counts (record { limits = limits }) limits f .counted n h
+      ∙ sym (file-counted limits (wordsOf bytes) f
+      (file-spelled limits (wordsOf bytes) f end (file-words limits bytes f end e) .spelled))
+  counted (fault k p) e n h = absurd (let z : _≡_ {A = ℕ} 0 1 = cc in omega arith)
+
   pub demand-2 : Demand2 limits bytes
   unfolding verdictOf
   demand-2 = record {
     sound = λ n h. derives (fileOf limits bytes) refl (subst Accepts (sym h) tt);
     complete = λ d. acceptance _ (subst (λ r. Accepts (judged (record { limits = limits }) r)) (sym (d .reads))
         (flow-judged (record { limits = limits }) _ _ _ _ .complete (d .derivation)));
-    counted = λ n h f end e. file-counts (record { limits = limits }) limits f .counted n
-        (sym (ap (judged (record { limits = limits })) e) ∙ h);
+    counted = λ n h. counted (fileOf limits bytes) refl n h;
   }
 
   pub demand-3 : Demand3 limits bytes

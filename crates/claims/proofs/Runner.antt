@@ -1,29 +1,50 @@
 -- Demand 2 of the runner, from the laws of its definition.
 -- Assumes nothing.
 --     runner    the claim
-use mathlib.Core.Path.{_≡_}
+use mathlib.Core.Path.{sym, subst}
 use mathlib.Core.List.{List}
 use Prim.Native.Nat.{ℕ}
+use native.Mathlib.Omega.{arith}
+use Rattle.language.specs.Syntax.{Command}
+use Rattle.language.specs.Store.{Store}
 use Rattle.rules.specs.Context.{Limits}
 use Rattle.layout.specs.File.{File}
-use Rattle.execution.specs.Lent.{Lent}
-use Rattle.execution.specs.Ran.{done, runOf}
+use Rattle.execution.specs.Lent.{Lent, storeOf}
+use Rattle.execution.specs.Ran.{Answer, Ran, runOf}
+use Rattle.execution.specs.Executes.{Executes, ends, stops}
+use Rattle.execution.proofs.ReadFile.{file-refused}
 use Rattle.execution.proofs.Order.{not-read-is, over-budget-is, ill-sized-is}
-use Rattle.execution.proofs.Exact.{ends-alike, ends-where-defined, stops-where, stops-where-due}
-use Rattle.claims.specs.Runner.{Starts, Runner}
+use Rattle.execution.proofs.Order.{Judged, not-read, over-budget, ill-sized, is-run, judged}
+use Rattle.execution.proofs.Exact.{held-itself, executes-number, executed, reported, steps-within}
+use Rattle.claims.specs.Runner.{Starts, OfRun, Runner}
+
+-- what the definition comes to is an answer of a run
+of-run : {c : Command} {s : Store} {budget : ℕ} {a : Answer} {n : ℕ} {t : Store} → Executes c s budget a n t → OfRun a
+of-run (ends u r) = tt
+of-run (stops u due said) = executes-number (stops u due said)
 
 module _ (limits : Limits) (bytes : List ℕ) (budget : ℕ) (m : Lent) where
+  ran : (f : File) → Starts limits bytes budget m f → OfRun (runOf limits bytes budget m .answer)
+  ran f h =
+      let x = executed limits bytes budget m f (h .end) (h .reads) (h .affordable) (h .sized) (storeOf m) (held-itself m) in
+      subst OfRun (sym (x .reports .answer)) (of-run (x .executes))
+
+  only-run : {r : Ran} → Judged limits bytes budget m r → OfRun (r .answer) → (f : File) × Starts limits bytes budget m f
+  only-run (not-read {k = k} {p = p} e) x = let h = file-refused limits bytes k p e in absurd (omega arith)
+  only-run (over-budget e l) x = absurd (omega arith)
+  only-run (ill-sized e l h) x = absurd (omega arith)
+  only-run (is-run {f = f} {p = p} e l h) x = (f, record { end = p; reads = e; affordable = l; sized = h })
+
   pub runner : Runner limits bytes budget m
   runner = record {
     not-read = not-read-is limits bytes budget m;
     over-budget = over-budget-is limits bytes budget m;
     ill-sized = ill-sized-is limits bytes budget m;
-    ends-alike = λ x.
-        let h = ends-alike limits bytes budget m x in
-        (h .0, record { end = h .1; reads = h .2; affordable = h .3; sized = h .4 }, h .5);
-    ends = λ f h. ends-where-defined limits bytes budget m f (h .end) (h .reads) (h .affordable) (h .sized);
-    stops-where = λ k q x l.
-        let h = stops-where limits bytes budget m k q x l in
-        (h .0, record { end = h .1; reads = h .2; affordable = h .3; sized = h .4 }, h .5);
-    stops = λ f h. stops-where-due limits bytes budget m f (h .end) (h .reads) (h .affordable) (h .sized);
+    started = ran;
+    within = λ f h. steps-within limits bytes budget m;
+    only-started = only-run (judged limits bytes budget m);
+    sound = λ f h s held.
+        let x = executed limits bytes budget m f (h .end) (h .reads) (h .affordable) (h .sized) s held in
+        (x .answer, x .count, x .last, x .executes, x .reports);
+    complete = λ f h. reported limits bytes budget m f (h .end) (h .reads) (h .affordable) (h .sized);
   }

@@ -10,10 +10,9 @@ use Rattle.rules.specs.Assertion.{Secure}
 use Rattle.rules.specs.Context.{Limits}
 use Rattle.rules.specs.Derivation.{Flow}
 use Rattle.rules.specs.Judge.{accepted}
+use Rattle.layout.specs.Bytes.{wordsOf}
 use Rattle.layout.specs.Reading.{read}
-use Rattle.layout.specs.EvidenceWords.{joined}
 use Rattle.layout.specs.File.{File, fileOf}
-use Rattle.layout.specs.FileWords.{fileParts}
 use Rattle.layout.specs.Counted.{countEvidence}
 use Rattle.layout.specs.Verdict.{verdictOf}
 
@@ -26,9 +25,8 @@ pub record Derives (limits : Limits) (bytes : List ℕ) : Type 0 where
 pub record Demand2 (limits : Limits) (bytes : List ℕ) : Type 0 where
   pub sound : (n : ℕ) → verdictOf limits bytes ≡ accepted n → Derives limits bytes
   pub complete : Derives limits bytes → (n : ℕ) × (verdictOf limits bytes ≡ accepted n)
-  -- the count is that of the evidence words among the words of the file's parts
-  pub counted : (n : ℕ) → verdictOf limits bytes ≡ accepted n → (f : File) (end : ℕ) →
-      fileOf limits bytes ≡ read f end → n ≡ countEvidence (joined (fileParts limits f))
+  -- the count is that of the evidence words of the file
+  pub counted : (n : ℕ) → verdictOf limits bytes ≡ accepted n → n ≡ countEvidence (wordsOf bytes)
 
 -- any two ending runs from stores that agree as the precondition demands end in stores that agree as the postcondition
 -- demands

@@ -18,8 +18,8 @@ use Rattle.layout.specs.Standing.{Stands}
 use Rattle.layout.proofs.Stands.{parted}
 use Rattle.ends.specs.Sizes.{countOf, past, sizes}
 use Rattle.ends.proofs.Sizes.{sizes-length, sizes-at, past-more}
-use Rattle.ends.proofs.Small.{Small, kindOf, contentOf, kind-at, content-at}
-use Rattle.ends.proofs.Small.{expression-small, command-small}
+use Rattle.layout.proofs.Small.{Small, kindOf, contentOf, kind-at, content-at}
+use Rattle.layout.proofs.Small.{expression-small, command-small}
 
 module _ {file : List ℕ} where
   -- what stands after a word

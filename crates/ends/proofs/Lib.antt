@@ -1,6 +1,5 @@
 -- Where the parts of a file end, and what its words assign.
 --     Sizes         the sizes of what starts at each word
---     Small         the kinds and payloads of the words of what stands
 --     Ends          the places that the sizes make are the ends
 --     Fill          ends written from the last word to the first
 --     Bits          bits of numbers
@@ -8,7 +7,6 @@
 --     BlockMasks    masks of blocks
 --     Table         ends and masks together
 pub mod Sizes
-pub mod Small
 pub mod Ends
 pub mod Fill
 pub mod Bits

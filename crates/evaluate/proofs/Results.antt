@@ -19,7 +19,7 @@ use Rattle.language.specs.Syntax.{Sort, Expr}
 use Rattle.language.specs.Store.{Value, sameInteger, put}
 use Rattle.layout.specs.Bytes.{numberAt}
 use Rattle.layout.specs.EvidenceWords.{expressionPart}
-use Rattle.execution.specs.Lent.{storeOf, elementAt, elements}
+use Rattle.execution.specs.Lent.{lent, storeOf, elementAt, elements}
 use Rattle.execution.specs.Evaluate.{Outcome, worked, stops, onWorked, tested, index, evaluate}
 use Rattle.ends.specs.Ends.{EndsOf}
 use Rattle.words.specs.Decode.{decodeOf}
@@ -35,7 +35,7 @@ use Rattle.arithmetic.specs.Worked.{outcome, checked}
 use Rattle.arithmetic.specs.declared.Worked.{Worked}
 use Rattle.arithmetic.specs.declared.Worked.the-variants as Worked
 use Rattle.arithmetic.proofs.Signed.{back}
-use Rattle.evaluate.specs.Evaluated.{testOutcome, fillOutcome, lent, operated, compared, conjoined, disjoined}
+use Rattle.evaluate.specs.Evaluated.{testOutcome, fillOutcome, operated, compared, conjoined, disjoined}
 use Rattle.evaluate.specs.Evaluated.{negated}
 use Rattle.evaluate.specs.Evaluated.{entry, entered, withEntry, replaced, Evaluates, Tests, Fills}
 use Rattle.evaluate.specs.declared.Tested.{Tested}

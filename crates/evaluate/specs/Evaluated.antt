@@ -2,7 +2,6 @@
 -- there.
 -- Working. Assumes nothing.
 --     testOutcome, fillOutcome       the code's answers as outcomes
---     lent                           a lent store
 --     operated .. replaced           what the definition makes of the outcomes of operands
 --     CanEvaluate, CanSelect         what the functions ask for
 --     Evaluates, Tests, Fills        what they promise, by sort
@@ -17,7 +16,7 @@ use Rattle.language.specs.Syntax as syntax
 use Rattle.language.specs.Store.{apply, relate}
 use Rattle.layout.specs.Bytes.{numberAt}
 use Rattle.layout.specs.EvidenceWords.{expressionPart}
-use Rattle.execution.specs.Lent.{Lent, storeOf, elements}
+use Rattle.execution.specs.Lent.{lent, storeOf, elements}
 use Rattle.execution.specs.Evaluate.{Outcome, worked, stops, onWorked, index, evaluate}
 use Rattle.ends.specs.Ends.{EndsOf}
 use Rattle.words.specs.Decode.{decodeOf}
@@ -42,9 +41,6 @@ testOutcome (Tested.Stops k) = stops k
 abbrev pub fillOutcome : Filled → List ℤ → Outcome (List ℤ)
 fillOutcome Filled.Done l = worked l
 fillOutcome (Filled.Stops k) l = stops k
-
-abbrev pub lent : List ℤ → List ℤ → Lent
-lent ss vs = record { scalars = ss; values = vs }
 
 abbrev pub operated : Operator → Outcome ℤ → Outcome ℤ → Outcome ℤ
 operated o a b = onWorked a λ v. onWorked b λ w. checked (apply (operatorMeant o) v w)

@@ -1,11 +1,13 @@
 -- What it means that a run on a budget agrees with the language's definition, and how agreement is put together.
 -- Assumes nothing.
+--     PassesBefore                    the steps before a count meet no refusal
 --     Agrees                          an end, over what a run and a step that is due are
 --     agrees-map                      other names for the same runs and steps
 --     agrees-step, agrees-after       one step; a step and what follows it
 --     agrees-sequence, agrees-loop    one run after another; the turns of a while
 use mathlib.Core.Path.{_≡_, refl, sym, subst}
 use mathlib.Core.Bool.{Bool, true, false}
+use mathlib.Core.Option.{Option, none, some}
 use Prim.Native.Nat.{ℕ, zero, suc, _+_, _<_, _≤_}
 use native.Mathlib.Omega.{arith}
 use Rattle.language.specs.Syntax.{Boolean, Expr, Command, sequence, while}
@@ -15,103 +17,114 @@ use Rattle.laws.proofs.Bools.{clash}
 use Rattle.execution.specs.Lent.{Lent}
 use Rattle.execution.specs.Evaluate.{Outcome}
 use Rattle.execution.specs.Run.{End, ended, stopped, onEnded, step, turns}
-use Rattle.execution.specs.Refuses.{valuesFit, indexesFit}
 use Rattle.execution.specs.Due.{Step, tests}
 use Rattle.execution.proofs.Small.{SmallExpression}
-use Rattle.execution.proofs.Evaluated.{WorkedOut, is-worked, value-leaves, index-leaves, evaluated}
+use Rattle.execution.proofs.Evaluated.{WorkedOut, is-worked, is-stopped, evaluated}
 use Rattle.execution.proofs.Assigned.{Holds}
 use Rattle.language.proofs.Once.{one-end, one-count}
-use Rattle.execution.specs.Refuses.{Steps, Fits, FitsBefore, Refuses, refuses-13, refuses-14, refuses-15}
-use Rattle.execution.proofs.Steps.{SameSteps, DueAfter, at-step, after-step, AllBefore}
+use Rattle.execution.specs.Refusal.{refusalOf, stepRefusal}
+use Rattle.execution.proofs.Refusal.{refusalLeft}
+use Rattle.execution.proofs.Steps.{Steps, SameSteps, DueAfter, at-step, after-step, AllBefore}
 use Rattle.execution.proofs.Steps.{DueSequence, in-first, in-second, DueLoop, loop-test, loop-body, loop-again}
 use Rattle.execution.proofs.Steps.{loop-steps}
 
+-- the steps before a count meet no refusal
+pub record PassesBefore (D : Steps) (n : ℕ) : Type 0 where
+  pub passes-before : {k : ℕ} {d : Step} {p : ℕ} {t : Store} → D k d p t → k < n → stepRefusal d t ≡ none
+
 -- `R k t`: a run of k steps to t; n is the budget
 pub data Agrees (R : ℕ → Store → Type 0) (D : Steps) (n : ℕ) : End → Type 0 where
-  agrees-ended : (k l : ℕ) {m : Lent} {t : Store} → R k t → FitsBefore D k → Holds m t → k + l ≡ n →
+  agrees-ended : (k l : ℕ) {m : Lent} {t : Store} → R k t → PassesBefore D k → Holds m t → k + l ≡ n →
       Agrees R D n (ended l m)
   agrees-stopped : (k l : ℕ) {number p : ℕ} {d : Step} {m : Lent} {t : Store} →
-      D k d p t → Refuses number d l t → FitsBefore D k → Holds m t → k + l ≡ n → Agrees R D n (stopped number p l m)
+      D k d p t → refusalLeft l d t ≡ some number → PassesBefore D k → Holds m t → k + l ≡ n →
+      Agrees R D n (stopped number p l m)
 
-pub fits-none : {D : Steps} → FitsBefore D 0
-fits-none = record { fits-before = λ x l. absurd (omega arith) }
+pub passes-none : {D : Steps} → PassesBefore D 0
+passes-none = record { passes-before = λ x l. absurd (omega arith) }
 
-fits-map : {D D′ : Steps} {n : ℕ} → SameSteps D D′ → FitsBefore D n → FitsBefore D′ n
-fits-map same f = record { fits-before = λ x l. f .fits-before (same .back x) l }
+passes-map : {D D′ : Steps} {n : ℕ} → SameSteps D D′ → PassesBefore D n → PassesBefore D′ n
+passes-map same f = record { passes-before = λ x l. f .passes-before (same .back x) l }
 
 pub agrees-map : {R R′ : ℕ → Store → Type 0} {D D′ : Steps} {n : ℕ} {x : End} →
     ((k : ℕ) (t : Store) → R k t → R′ k t) → SameSteps D D′ → Agrees R D n x → Agrees R′ D′ n x
-agrees-map runs same (agrees-ended k l r f h e) = agrees-ended k l (runs _ _ r) (fits-map same f) h e
-agrees-map runs same (agrees-stopped k l x q f h e) = agrees-stopped k l (same .to x) q (fits-map same f) h e
+agrees-map runs same (agrees-ended k l r f h e) = agrees-ended k l (runs _ _ r) (passes-map same f) h e
+agrees-map runs same (agrees-stopped k l x q f h e) = agrees-stopped k l (same .to x) q (passes-map same f) h e
 
--- one step, that is due at one-end
+-- one step, that is due at once: o is what its operands come to, by the refusal r that they meet first
 pub agrees-step : {A : Type 0} {W : A → Type 0} {R : ℕ → Store → Type 0} {D : Steps} (at n : ℕ) {m : Lent} {s : Store}
-    (d : Step) {o : Outcome A} {f : A → ℕ → End} →
-    D 0 d at s → Holds m s → WorkedOut W (valuesFit d s) (indexesFit d s) o →
-    ((l : ℕ) (v : A) → W v → Fits d s → n ≡ suc l → Agrees R D n (f v l)) → Agrees R D n (step at n m o f)
-agrees-step at zero d due h w next = agrees-stopped 0 0 due refuses-13 fits-none h (omega arith)
-agrees-step at (suc n) d due h (is-worked {a = v} w e i) next =
-    next n v w (record { values-fit = e; indexes-fit = i }) refl
-agrees-step at (suc n) d due h (value-leaves e) next =
-    agrees-stopped 0 (suc n) due (refuses-14 e) fits-none h (omega arith)
-agrees-step at (suc n) d due h (index-leaves e) next =
-    agrees-stopped 0 (suc n) due (refuses-15 e) fits-none h (omega arith)
+    (d : Step) {r : Option ℕ} {o : Outcome A} {f : A → ℕ → End} →
+    D 0 d at s → Holds m s → WorkedOut W r o → ((k : ℕ) → r ≡ some k → stepRefusal d s ≡ some k) →
+    ((l : ℕ) (v : A) → W v → r ≡ none → n ≡ suc l → Agrees R D n (f v l)) → Agrees R D n (step at n m o f)
+agrees-step at zero d due h w said next = agrees-stopped 0 0 due refl passes-none h (omega arith)
+agrees-step at (suc n) d due h (is-worked {a = v} w) said next = next n v w refl refl
+agrees-step at (suc n) d due h (is-stopped {k = k}) said next =
+    agrees-stopped 0 (suc n) due (said k refl) passes-none h (omega arith)
+
+-- a test is refused as its expression is
+pub tests-said : (b : Expr Boolean) (s : Store) (k : ℕ) → refusalOf b s ≡ some k → stepRefusal (tests b) s ≡ some k
+unfolding stepRefusal
+tests-said b s k e = e
+
+pub tests-pass : (b : Expr Boolean) (s : Store) → refusalOf b s ≡ none → stepRefusal (tests b) s ≡ none
+unfolding stepRefusal
+tests-pass b s e = e
 
 -- a step and what follows it
-fits-after : {at : ℕ} {d : Step} {s : Store} {D : Steps} {n : ℕ} → Fits d s → FitsBefore D n →
-    FitsBefore (DueAfter at d s D) (suc n)
-fits-after {at} {d} {s} {D} {n} h f = record { fits-before = each }
+passes-after : {at : ℕ} {d : Step} {s : Store} {D : Steps} {n : ℕ} → stepRefusal d s ≡ none → PassesBefore D n →
+    PassesBefore (DueAfter at d s D) (suc n)
+passes-after {at} {d} {s} {D} {n} h f = record { passes-before = each }
   where
-    each : {k p : ℕ} {d′ : Step} {t : Store} → DueAfter at d s D k d′ p t → k < suc n → Fits d′ t
+    each : {k p : ℕ} {d′ : Step} {t : Store} → DueAfter at d s D k d′ p t → k < suc n → stepRefusal d′ t ≡ none
     each at-step l = h
-    each (after-step x) l = f .fits-before x (omega arith)
+    each (after-step x) l = f .passes-before x (omega arith)
 
 pub agrees-after : {R R′ : ℕ → Store → Type 0} {D : Steps} {at : ℕ} {d : Step} {s : Store} {l n : ℕ} {x : End} →
-    ((k : ℕ) (t : Store) → R k t → R′ (suc k) t) → Fits d s → n ≡ suc l → Agrees R D l x →
+    ((k : ℕ) (t : Store) → R k t → R′ (suc k) t) → stepRefusal d s ≡ none → n ≡ suc l → Agrees R D l x →
     Agrees R′ (DueAfter at d s D) n x
 agrees-after runs h e (agrees-ended k j r f holds e′) =
-    agrees-ended (suc k) j (runs _ _ r) (fits-after h f) holds (omega arith)
+    agrees-ended (suc k) j (runs _ _ r) (passes-after h f) holds (omega arith)
 agrees-after runs h e (agrees-stopped k j r q f holds e′) =
-    agrees-stopped (suc k) j (after-step r) q (fits-after h f) holds (omega arith)
+    agrees-stopped (suc k) j (after-step r) q (passes-after h f) holds (omega arith)
 
 -- a run, then another from where it ended
 module _ {c : Command} {D : Steps} {E : Store → Steps} {s : Store} (before : AllBefore c s D) where
-  fits-first : {n p : ℕ} {d : Step} {t : Store} → D n d p t → FitsBefore D n → FitsBefore (DueSequence c D E s) n
-  fits-first {n} stop f = record { fits-before = each }
+  passes-first : {n p : ℕ} {d : Step} {t : Store} → D n d p t → PassesBefore D n → PassesBefore (DueSequence c D E s) n
+  passes-first {n} stop f = record { passes-before = each }
     where
-      each : {k p : ℕ} {d : Step} {t : Store} → DueSequence c D E s k d p t → k < n → Fits d t
-      each (in-first x) l = f .fits-before x l
-      each (in-second r x) l = let l′ = before .all-before stop r .before in absurd (omega arith)
+      each : {k p : ℕ} {d : Step} {t : Store} → DueSequence c D E s k d p t → k < n → stepRefusal d t ≡ none
+      each (in-first x) l = f .passes-before x l
+      each (in-second r x) l = let l′ = before .all-before stop r in absurd (omega arith)
 
-  fits-second : {j n : ℕ} {u : Store} → Runs c j s u → FitsBefore D j → FitsBefore (E u) n →
-      FitsBefore (DueSequence c D E s) (j + n)
-  fits-second {j} {n} {u} r f g = record { fits-before = each }
+  passes-second : {j n : ℕ} {u : Store} → Runs c j s u → PassesBefore D j → PassesBefore (E u) n →
+      PassesBefore (DueSequence c D E s) (j + n)
+  passes-second {j} {n} {u} r f g = record { passes-before = each }
     where
-      each : {k p : ℕ} {d : Step} {t : Store} → DueSequence c D E s k d p t → k < j + n → Fits d t
-      each (in-first x) l = f .fits-before x (before .all-before x r .before)
+      each : {k p : ℕ} {d : Step} {t : Store} → DueSequence c D E s k d p t → k < j + n → stepRefusal d t ≡ none
+      each (in-first x) l = f .passes-before x (before .all-before x r)
       each (in-second {k = k} {p = p} {d = d} {t = t} r′ x) l =
           let e = one-count r r′ in
-          g .fits-before (subst (λ v. E v k d p t) (sym (one-end r r′)) x) (omega arith)
+          g .passes-before (subst (λ v. E v k d p t) (sym (one-end r r′)) x) (omega arith)
 
   pub agrees-sequence : {c′ : Command} {n : ℕ} {x : End} {f : ℕ → Lent → End} → Agrees (λ k t. Runs c k s t) D n x →
       ((l : ℕ) (m : Lent) (t : Store) → l ≤ n → Holds m t → Agrees (λ k u. Runs c′ k t u) (E t) l (f l m)) →
       Agrees (λ k t. Runs (sequence c c′) k s t) (DueSequence c D E s) n (onEnded x f)
-  agrees-sequence (agrees-stopped k l x q f h e) next = agrees-stopped k l (in-first x) q (fits-first x f) h e
+  agrees-sequence (agrees-stopped k l x q f h e) next = agrees-stopped k l (in-first x) q (passes-first x f) h e
   agrees-sequence {c′} {n} (agrees-ended k l {m = m} {t = t} r f h e) next = second (next l m t (omega arith) h)
     where
       second : {x : End} → Agrees (λ k u. Runs c′ k t u) (E t) l x →
           Agrees (λ k t. Runs (sequence c c′) k s t) (DueSequence c D E s) n x
       second (agrees-ended i j r′ f′ h′ e′) =
-          agrees-ended (k + i) j (runs-sequence r r′) (fits-second r f f′) h′ (omega arith)
+          agrees-ended (k + i) j (runs-sequence r r′) (passes-second r f f′) h′ (omega arith)
       second (agrees-stopped i j x q f′ h′ e′) =
-          agrees-stopped (k + i) j (in-second r x) q (fits-second r f f′) h′ (omega arith)
+          agrees-stopped (k + i) j (in-second r x) q (passes-second r f f′) h′ (omega arith)
 
 -- a loop whose test is false is the test alone
 module _ {b : Expr Boolean} {c : Command} {at : ℕ} {D : Store → Steps} {s : Store} where
-  fits-done : value b s ≡ false → Fits (tests b) s → FitsBefore (DueLoop b c at D s) 1
-  fits-done e f = record { fits-before = λ x l. each x }
+  passes-done : value b s ≡ false → stepRefusal (tests b) s ≡ none → PassesBefore (DueLoop b c at D s) 1
+  passes-done e f = record { passes-before = λ x l. each x }
     where
-      each : {k p : ℕ} {d : Step} {t : Store} → DueLoop b c at D s k d p t → Fits d t
+      each : {k p : ℕ} {d : Step} {t : Store} → DueLoop b c at D s k d p t → stepRefusal d t ≡ none
       each loop-test = f
       each (loop-body e′ x) = clash e′ e
       each (loop-again e′ r x) = clash e′ e
@@ -133,17 +146,18 @@ module _ (b : Expr Boolean) (c : Command) (at : ℕ) (D : Store → Steps) (smal
     unfolding turns
     agrees-loop zero n l m s h =
         let none : n ≡ 0 = omega arith in
-        rw none (agrees-stopped 0 0 loop-test refuses-13 fits-none h (omega arith))
+        rw none (agrees-stopped 0 0 loop-test refl passes-none h (omega arith))
     agrees-loop (suc fuel) n l m s h =
-        agrees-step at n (tests b) loop-test h (evaluated m s (h .held) b small) (turn (agrees-loop fuel))
+        agrees-step at n (tests b) loop-test h (evaluated m s (h .held) b small) (tests-said b s)
+        (turn (agrees-loop fuel))
       where
         turn :
             ((n : ℕ) → n ≤ fuel → (m : Lent) (s : Store) → Holds m s →
             LoopAgrees b c at D s n (turns fuel b body at n m)) →
-            (j : ℕ) (v : Bool) → v ≡ value b s → Fits (tests b) s → n ≡ suc j →
+            (j : ℕ) (v : Bool) → v ≡ value b s → refusalOf b s ≡ none → n ≡ suc j →
             LoopAgrees b c at D s n (elim v [ true ↦ onEnded (body j m) (turns fuel b body at) | false ↦ ended j m ])
-        turn rest j false e f q = agrees-ended 1 j (runs-done (sym e)) (fits-done (sym e) f) h (omega arith)
+        turn rest j false e f q = agrees-ended 1 j (runs-done (sym e)) (passes-done (sym e) (tests-pass b s f)) h (omega arith)
         turn rest j true e f q =
             agrees-map (λ k t r. r) (loop-steps (sym e))
-            (agrees-after (λ k t r. again-runs (sym e) r) f q
+            (agrees-after (λ k t r. again-runs (sym e) r) (tests-pass b s f) q
             (agrees-sequence (before s) (body-agrees j m s h) λ i m′ t i≤j h′. rest i (omega arith) m′ t h′))

@@ -1,5 +1,5 @@
--- An assignment of the runner gives the store that the language's definition gives, or stops where a value or an index
--- of its right side leaves its range.
+-- An assignment of the runner gives the store that the language's definition gives, or stops by the refusal that its
+-- right side meets first.
 -- Assumes nothing.
 --     Sized, Holds         32 scalars and 2,048 values; a lent store that is sized, held by a store
 --     held-set             a scalar is set
@@ -21,7 +21,7 @@ use Rattle.language.specs.Store.{Store, value, put}
 use Rattle.language.specs.Runs.{assigned}
 use Rattle.execution.specs.Lent.{Lent, elementsFrom, elements, HeldBy}
 use Rattle.execution.specs.Run.{given}
-use Rattle.execution.specs.Refuses.{valuesFit, indexesFit}
+use Rattle.execution.specs.Refusal.{stepRefusal}
 use Rattle.execution.specs.Due.{gives}
 use Rattle.execution.proofs.Small.{SmallAssignment}
 use Rattle.execution.proofs.Evaluated.{Near, WorkedOut, mapped, evaluated}
@@ -133,8 +133,8 @@ held-paste m s h a l f g near = record {
 
 -- THE LAW of assignments
 pub given-holds : (a : Assignment) → SmallAssignment a → (m : Lent) (s : Store) → Holds m s →
-    WorkedOut (λ m′. Holds m′ (assigned a s)) (valuesFit (gives a) s) (indexesFit (gives a) s) (given a m)
-unfolding SmallAssignment
+    WorkedOut (λ m′. Holds m′ (assigned a s)) (stepRefusal (gives a) s) (given a m)
+unfolding SmallAssignment stepRefusal
 given-holds (toScalar x e) small m s h =
     mapped (λ v. record { scalars = set (m .scalars) x v; values = m .values })
     (evaluated m s (h .held) e (small .1)) λ v n. held-set m s h x (small .0) v (value e s) n

@@ -2,7 +2,7 @@
 --     Small, ReadFile               identifiers below 32, and that what is read has no others; refusals 1 to 7
 --     Evaluated, Assigned           expressions and assignments, in a lent store and in a store that holds it
 --     Before                        a step that is due comes before the end
---     Refuses                       refusals of a step
+--     Refusal                       refusals of a step: their numbers
 --     Steps, OneStep                the steps of each command; one step at most is due
 --     Agrees, RunAgrees             a run on a budget agrees with the definition
 --     Order, Exact                  the runner's answer on bytes
@@ -11,7 +11,7 @@ pub mod ReadFile
 pub mod Evaluated
 pub mod Assigned
 pub mod Before
-pub mod Refuses
+pub mod Refusal
 pub mod Steps
 pub mod OneStep
 pub mod Agrees

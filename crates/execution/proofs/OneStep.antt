@@ -1,12 +1,12 @@
--- After so many steps one step at most is due, and a step before one that is due proceeds.
+-- After so many steps one step at most is due.
 -- Assumes nothing.
---     SameStep, Linear           two steps are one; the two laws, of steps
---     linear-map, ..             of steps put together
---     command-linear             of a command
---     due-once, due-proceeds     the laws
+--     SameStep, Linear     two steps are one; after so many steps only one is due
+--     linear-map, ..       of steps put together
+--     command-linear       of a command
+--     due-once             the law
 use mathlib.Core.Path.{_≡_, refl, sym, subst}
 use mathlib.Core.Bool.{Bool, true, false}
-use Prim.Native.Nat.{ℕ, _+_, _<_}
+use Prim.Native.Nat.{ℕ, _+_}
 use native.Mathlib.Omega.{arith}
 use lib.ListN.{length}
 use Rattle.language.specs.Syntax.{Boolean, Expr, Assignment}
@@ -16,9 +16,7 @@ use Rattle.language.specs.Runs.{start, increment}
 use Rattle.rules.specs.Words.{words, commandWords}
 use Rattle.execution.specs.Due.{Step, tests, Due, due-skip, due-assert, due-assign}
 use Rattle.language.proofs.Once.{one-end, one-count}
-use Rattle.execution.proofs.Before.{Proceeds}
-use Rattle.execution.specs.Refuses.{Steps}
-use Rattle.execution.proofs.Steps.{SameSteps, DueAfter, at-step, after-step, AllBefore, command-before}
+use Rattle.execution.proofs.Steps.{Steps, SameSteps, DueAfter, at-step, after-step, AllBefore, command-before}
 use Rattle.execution.proofs.Steps.{DueSequence, in-first, in-second, DueLoop, loop-test, loop-body, loop-again}
 use Rattle.execution.proofs.Steps.{then-steps, else-steps, sequence-steps, while-steps, for-steps}
 use Rattle.execution.proofs.Steps.{turn-before}
@@ -34,18 +32,13 @@ is-same = record { same-step = refl; same-place = refl; same-store = refl }
 pub record Linear (D : Steps) : Type 0 where
   pub one : {k : ℕ} {d : Step} {p : ℕ} {t : Store} {k′ : ℕ} {d′ : Step} {p′ : ℕ} {t′ : Store} →
       D k d p t → D k′ d′ p′ t′ → k ≡ k′ → SameStep d p t d′ p′ t′
-  pub goes-on : {k : ℕ} {d : Step} {p : ℕ} {t : Store} {k′ : ℕ} {d′ : Step} {p′ : ℕ} {t′ : Store} →
-      D k d p t → D k′ d′ p′ t′ → k < k′ → Proceeds d t
 
 linear-map : {D D′ : Steps} → SameSteps D D′ → Linear D → Linear D′
-linear-map same L = record {
-  one = λ x y e. L .one (same .back x) (same .back y) e;
-  goes-on = λ x y l. L .goes-on (same .back x) (same .back y) l;
-}
+linear-map same L = record { one = λ x y e. L .one (same .back x) (same .back y) e }
 
 -- a step, and what follows it
-linear-after : {at : ℕ} {d : Step} {s : Store} {D : Steps} → Proceeds d s → Linear D → Linear (DueAfter at d s D)
-linear-after {at} {d = d₀} {s} {D} h L = record { one = same; goes-on = on }
+linear-after : {at : ℕ} {d : Step} {s : Store} {D : Steps} → Linear D → Linear (DueAfter at d s D)
+linear-after {at} {d = d₀} {s} {D} L = record { one = same }
   where
     same : {k : ℕ} {d : Step} {p : ℕ} {t : Store} {k′ : ℕ} {d′ : Step} {p′ : ℕ} {t′ : Store} →
         DueAfter at d₀ s D k d p t → DueAfter at d₀ s D k′ d′ p′ t′ → k ≡ k′ → SameStep d p t d′ p′ t′
@@ -53,12 +46,6 @@ linear-after {at} {d = d₀} {s} {D} h L = record { one = same; goes-on = on }
     same at-step (after-step y) e = absurd (omega arith)
     same (after-step x) at-step e = absurd (omega arith)
     same (after-step x) (after-step y) e = L .one x y (omega arith)
-
-    on : {k : ℕ} {d : Step} {p : ℕ} {t : Store} {k′ : ℕ} {d′ : Step} {p′ : ℕ} {t′ : Store} →
-        DueAfter at d₀ s D k d p t → DueAfter at d₀ s D k′ d′ p′ t′ → k < k′ → Proceeds d t
-    on at-step y l = h
-    on (after-step x) at-step l = absurd (omega arith)
-    on (after-step x) (after-step y) l = L .goes-on x y (omega arith)
 
 -- a sequence
 module _ {c : Command} {D : Steps} {E : Store → Steps} {s : Store} (before : AllBefore c s D) (L : Linear D)
@@ -70,21 +57,13 @@ module _ {c : Command} {D : Steps} {E : Store → Steps} {s : Store} (before : A
     sequence-one : {k : ℕ} {d : Step} {p : ℕ} {t : Store} {k′ : ℕ} {d′ : Step} {p′ : ℕ} {t′ : Store} →
         DueSequence c D E s k d p t → DueSequence c D E s k′ d′ p′ t′ → k ≡ k′ → SameStep d p t d′ p′ t′
     sequence-one (in-first x) (in-first y) e = L .one x y e
-    sequence-one (in-first x) (in-second r y) e = let l = before .all-before x r .before in absurd (omega arith)
-    sequence-one (in-second r x) (in-first y) e = let l = before .all-before y r .before in absurd (omega arith)
+    sequence-one (in-first x) (in-second r y) e = let l = before .all-before x r in absurd (omega arith)
+    sequence-one (in-second r x) (in-first y) e = let l = before .all-before y r in absurd (omega arith)
     sequence-one (in-second r x) (in-second r′ y) e =
         let q = one-count r r′ in M _ .one x (from-there (one-end r r′) y) (omega arith)
 
-    sequence-on : {k : ℕ} {d : Step} {p : ℕ} {t : Store} {k′ : ℕ} {d′ : Step} {p′ : ℕ} {t′ : Store} →
-        DueSequence c D E s k d p t → DueSequence c D E s k′ d′ p′ t′ → k < k′ → Proceeds d t
-    sequence-on (in-first x) (in-first y) l = L .goes-on x y l
-    sequence-on (in-first x) (in-second r y) l = before .all-before x r .proceeds
-    sequence-on (in-second r x) (in-first y) l = let b = before .all-before y r .before in absurd (omega arith)
-    sequence-on (in-second r x) (in-second r′ y) l =
-        let q = one-count r r′ in M _ .goes-on x (from-there (one-end r r′) y) (omega arith)
-
     linear-sequence : Linear (DueSequence c D E s)
-    linear-sequence = record { one = sequence-one; goes-on = sequence-on }
+    linear-sequence = record { one = sequence-one }
 
 -- a loop
 module _ {b : Expr Boolean} {c : Command} {at : ℕ} {D : Store → Steps}
@@ -102,61 +81,37 @@ module _ {b : Expr Boolean} {c : Command} {at : ℕ} {D : Store → Steps}
     loop-one (loop-body e′ x) loop-test e = absurd (omega arith)
     loop-one (loop-body e′ x) (loop-body e″ y) e = L _ .one x y (omega arith)
     loop-one (loop-body e′ x) (loop-again e″ r y) e =
-        let l = before _ .all-before x r .before in absurd (omega arith)
+        let l = before _ .all-before x r in absurd (omega arith)
     loop-one (loop-again e′ r x) loop-test e = absurd (omega arith)
     loop-one (loop-again e′ r x) (loop-body e″ y) e =
-        let l = before _ .all-before y r .before in absurd (omega arith)
+        let l = before _ .all-before y r in absurd (omega arith)
     loop-one (loop-again e′ r x) (loop-again e″ r′ y) e =
         let q = one-count r r′ in loop-one x (loop-from (one-end r r′) y) (omega arith)
 
-    loop-on : {s : Store} {k : ℕ} {d : Step} {p : ℕ} {t : Store} {k′ : ℕ} {d′ : Step} {p′ : ℕ} {t′ : Store} →
-        DueLoop b c at D s k d p t → DueLoop b c at D s k′ d′ p′ t′ → k < k′ → Proceeds d t
-    loop-on loop-test y l = tt
-    loop-on (loop-body e′ x) loop-test l = absurd (omega arith)
-    loop-on (loop-body e′ x) (loop-body e″ y) l = L _ .goes-on x y (omega arith)
-    loop-on (loop-body e′ x) (loop-again e″ r y) l = before _ .all-before x r .proceeds
-    loop-on (loop-again e′ r x) loop-test l = absurd (omega arith)
-    loop-on (loop-again e′ r x) (loop-body e″ y) l =
-        let b = before _ .all-before y r .before in absurd (omega arith)
-    loop-on (loop-again e′ r x) (loop-again e″ r′ y) l =
-        let q = one-count r r′ in loop-on x (loop-from (one-end r r′) y) (omega arith)
-
     linear-loop : (s : Store) → Linear (DueLoop b c at D s)
-    linear-loop s = record { one = loop-one; goes-on = loop-on }
+    linear-loop s = record { one = loop-one }
 
 -- single steps
 skip-linear : (at : ℕ) (s : Store) → Linear (Due skip at s)
-skip-linear at s = record { one = same; goes-on = on }
+skip-linear at s = record { one = same }
   where
     same : {k : ℕ} {d : Step} {p : ℕ} {t : Store} {k′ : ℕ} {d′ : Step} {p′ : ℕ} {t′ : Store} →
         Due skip at s k d p t → Due skip at s k′ d′ p′ t′ → k ≡ k′ → SameStep d p t d′ p′ t′
     same due-skip due-skip e = is-same
 
-    on : {k : ℕ} {d : Step} {p : ℕ} {t : Store} {k′ : ℕ} {d′ : Step} {p′ : ℕ} {t′ : Store} →
-        Due skip at s k d p t → Due skip at s k′ d′ p′ t′ → k < k′ → Proceeds d t
-    on due-skip due-skip l = absurd (omega arith)
-
 assert-linear : (b : Expr Boolean) (at : ℕ) (s : Store) → Linear (Due (assert b) at s)
-assert-linear b at s = record { one = same; goes-on = on }
+assert-linear b at s = record { one = same }
   where
     same : {k : ℕ} {d : Step} {p : ℕ} {t : Store} {k′ : ℕ} {d′ : Step} {p′ : ℕ} {t′ : Store} →
         Due (assert b) at s k d p t → Due (assert b) at s k′ d′ p′ t′ → k ≡ k′ → SameStep d p t d′ p′ t′
     same due-assert due-assert e = is-same
 
-    on : {k : ℕ} {d : Step} {p : ℕ} {t : Store} {k′ : ℕ} {d′ : Step} {p′ : ℕ} {t′ : Store} →
-        Due (assert b) at s k d p t → Due (assert b) at s k′ d′ p′ t′ → k < k′ → Proceeds d t
-    on due-assert due-assert l = absurd (omega arith)
-
 assign-linear : (a : Assignment) (at : ℕ) (s : Store) → Linear (Due (assign a) at s)
-assign-linear a at s = record { one = same; goes-on = on }
+assign-linear a at s = record { one = same }
   where
     same : {k : ℕ} {d : Step} {p : ℕ} {t : Store} {k′ : ℕ} {d′ : Step} {p′ : ℕ} {t′ : Store} →
         Due (assign a) at s k d p t → Due (assign a) at s k′ d′ p′ t′ → k ≡ k′ → SameStep d p t d′ p′ t′
     same due-assign due-assign e = is-same
-
-    on : {k : ℕ} {d : Step} {p : ℕ} {t : Store} {k′ : ℕ} {d′ : Step} {p′ : ℕ} {t′ : Store} →
-        Due (assign a) at s k d p t → Due (assign a) at s k′ d′ p′ t′ → k < k′ → Proceeds d t
-    on due-assign due-assign l = absurd (omega arith)
 
 command-linear : (c : Command) (at : ℕ) (s : Store) → Linear (Due c at s)
 command-linear skip at s = skip-linear at s
@@ -173,8 +128,8 @@ command-linear (ifElse b c c′) at s =
     branch : Linear (Due c (at + 1 + length (words b)) s) →
         Linear (Due c′ (at + 1 + length (words b) + length (commandWords c)) s) → (v : Bool) → value b s ≡ v →
         Linear (Due (ifElse b c c′) at s)
-    branch L M true e = linear-map (then-steps e) (linear-after {d = tests b} tt L)
-    branch L M false e = linear-map (else-steps e) (linear-after {d = tests b} tt M)
+    branch L M true e = linear-map (then-steps e) (linear-after {d = tests b} L)
+    branch L M false e = linear-map (else-steps e) (linear-after {d = tests b} M)
 command-linear (while b c) at s =
     let i = at + 1 + length (words b) in
     linear-map while-steps (linear-loop (command-before c i) (λ u. command-linear c i u) s)
@@ -183,13 +138,8 @@ command-linear (for q r c) at s =
     (linear-loop (turn-before q c at) λ u. linear-sequence (command-before c (at + 1) u) (command-linear c (at + 1) u)
     (assign-linear (increment q) at)))
 
--- THE LAWS
+-- THE LAW
 pub due-once : {c : Command} {i : ℕ} {s : Store} {k : ℕ} {d : Step} {p : ℕ} {t : Store}
     {k′ : ℕ} {d′ : Step} {p′ : ℕ} {t′ : Store} →
     Due c i s k d p t → Due c i s k′ d′ p′ t′ → k ≡ k′ → SameStep d p t d′ p′ t′
 due-once {c} {i} {s} x y e = command-linear c i s .one x y e
-
-pub due-proceeds : {c : Command} {i : ℕ} {s : Store} {k : ℕ} {d : Step} {p : ℕ} {t : Store}
-    {k′ : ℕ} {d′ : Step} {p′ : ℕ} {t′ : Store} →
-    Due c i s k d p t → Due c i s k′ d′ p′ t′ → k < k′ → Proceeds d t
-due-proceeds {c} {i} {s} x y l = command-linear c i s .goes-on x y l

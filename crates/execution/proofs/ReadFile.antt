@@ -8,7 +8,7 @@ use mathlib.Core.Path.{_≡_, refl, subst}
 use mathlib.Core.Bool.{Bool, true, false}
 use mathlib.Core.List.{List, [], _∷_}
 use mathlib.Core.Option.{Option, none, some}
-use Prim.Native.Nat.{ℕ, zero, suc, _+_, _*_, _<_, _≤_}
+use Prim.Native.Nat.{ℕ, zero, suc, _+_, _*_, _≤_}
 use native.Mathlib.Omega.{arith}
 use borrow.Author.Tests.{eqb-true}
 use lib.Dec.{eqb, ltb}
@@ -22,7 +22,6 @@ use Rattle.layout.specs.For.{firstUnsteady}
 use Rattle.layout.specs.Spelling.{FitsExpression, FitsCommand}
 use Rattle.layout.specs.EvidenceWords.{EachFits}
 use Rattle.layout.specs.File.{File, parts, steadyFile, finish, badLength, wordsRead, fileOf}
-use Rattle.layout.proofs.Yields.{FaultAt}
 use Rattle.layout.proofs.WholeFile.{parts-fault, file-spelled}
 use Rattle.execution.proofs.Small.{SmallExpression, SmallAssignment, SmallCommand}
 
@@ -58,7 +57,7 @@ command-small (for q m c) (suc d) h = (omega (arith, h .0 .0), omega (arith, h .
 
 module _ (limits : Limits) (bytes : List ℕ) where
   -- what was read was read from words
-  file-words : (f : File) (p : ℕ) → fileOf limits bytes ≡ read f p → wordsRead limits (wordsOf bytes) ≡ read f p
+  pub file-words : (f : File) (p : ℕ) → fileOf limits bytes ≡ read f p → wordsRead limits (wordsOf bytes) ≡ read f p
   unfolding fileOf
   file-words f p = go (badLength bytes)
     where

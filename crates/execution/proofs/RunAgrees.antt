@@ -3,8 +3,10 @@
 -- each command's steps are one step, a sequence or a loop.
 -- Assumes nothing.
 --     CommandAgrees, run-agrees
-use mathlib.Core.Path.{_≡_, refl, sym}
+use mathlib.Core.Path.{_≡_, refl, sym, ap, ap₂}
 use mathlib.Core.Bool.{Bool, true, false, cond}
+use mathlib.Core.List.{[], _∷_}
+use mathlib.Core.Option.{none, some, Option·none-ne-some}
 use Prim.Native.Nat.{ℕ, suc, _+_}
 use native.Mathlib.Omega.{arith}
 use lib.ListN.{length}
@@ -21,10 +23,10 @@ use Rattle.execution.specs.Due.{Due, due-skip, due-assert, due-assign, d
 use Rattle.execution.proofs.Small.{SmallExpression, SmallAssignment, SmallCommand}
 use Rattle.execution.proofs.Evaluated.{is-worked, evaluated}
 use Rattle.execution.proofs.Assigned.{Holds, given-holds}
-use Rattle.execution.specs.Refuses.{Fits, refuses-12}
+use Rattle.execution.specs.Refusal.{unless, first, refusalOf, stepRefusal}
 use Rattle.execution.proofs.Steps.{then-steps, else-steps, sequence-steps, while-steps, for-steps}
 use Rattle.execution.proofs.Steps.{Test, Turn, InTurn, turn-before, command-before}
-use Rattle.execution.proofs.Agrees.{Agrees, agrees-ended, agrees-stopped, fits-none}
+use Rattle.execution.proofs.Agrees.{Agrees, agrees-ended, agrees-stopped, passes-none, tests-said, tests-pass}
 use Rattle.execution.proofs.Agrees.{agrees-map, agrees-step, agrees-after, agrees-sequence, agrees-loop}
 
 -- the run of a command agrees with the definition
@@ -32,51 +34,74 @@ abbrev pub CommandAgrees : Command → ℕ → Store → ℕ → End → Type 0
 CommandAgrees c at s n x = Agrees (λ k t. Runs c k s t) (Due c at s) n x
 
 -- ---- single steps
-skip-alone : {at : ℕ} {s : Store} {k : ℕ} {d : Step} {p : ℕ} {t : Store} → Fits skips s →
-    Due skip at s k d p t → Fits d t
+skips-pass : (s : Store) → stepRefusal skips s ≡ none
+unfolding stepRefusal
+skips-pass s = refl
+
+none-some : {A : Type 0} {k : ℕ} → none ≡ some k → A
+none-some {k = k} e = absurd (Option·none-ne-some k e)
+
+-- 12 is tried after the test's own refusals
+asserts-said : (b : Expr Boolean) (s : Store) (k : ℕ) → refusalOf b s ≡ some k → stepRefusal (asserts b) s ≡ some k
+unfolding stepRefusal first
+asserts-said b s k e = ap (λ r. first (r ∷ unless (value b s) 12 ∷ [])) e
+
+module _ (b : Expr Boolean) (s : Store) (e : refusalOf b s ≡ none) where
+  asserts-pass : value b s ≡ true → stepRefusal (asserts b) s ≡ none
+  unfolding stepRefusal first
+  asserts-pass v = ap₂ (λ r t. first (r ∷ unless t 12 ∷ [])) e v
+
+  asserts-fail : value b s ≡ false → stepRefusal (asserts b) s ≡ some 12
+  unfolding stepRefusal first
+  asserts-fail v = ap₂ (λ r t. first (r ∷ unless t 12 ∷ [])) e v
+
+skip-alone : {at : ℕ} {s : Store} {k : ℕ} {d : Step} {p : ℕ} {t : Store} → stepRefusal skips s ≡ none →
+    Due skip at s k d p t → stepRefusal d t ≡ none
 skip-alone f due-skip = f
 
 assert-alone : {b : Expr Boolean} {at : ℕ} {s : Store} {k : ℕ} {d : Step} {p : ℕ} {t : Store} →
-    Fits (asserts b) s → Due (assert b) at s k d p t → Fits d t
+    stepRefusal (asserts b) s ≡ none → Due (assert b) at s k d p t → stepRefusal d t ≡ none
 assert-alone f due-assert = f
 
 assign-alone : {a : Assignment} {at : ℕ} {s : Store} {k : ℕ} {d : Step} {p : ℕ} {t : Store} →
-    Fits (gives a) s → Due (assign a) at s k d p t → Fits d t
+    stepRefusal (gives a) s ≡ none → Due (assign a) at s k d p t → stepRefusal d t ≡ none
 assign-alone f due-assign = f
 
 assigns-agrees : (a : Assignment) → SmallAssignment a → (at n : ℕ) (m : Lent) (s : Store) → Holds m s →
     CommandAgrees (assign a) at s n (assigns a at n m)
 assigns-agrees a small at n m s h =
-    agrees-step at n (gives a) due-assign h (given-holds a small m s h) λ l m′ h′ f e.
-    agrees-ended 1 l runs-assign (record { fits-before = λ x _. assign-alone f x }) h′ (omega arith)
+    agrees-step at n (gives a) due-assign h (given-holds a small m s h) (λ k e. e) λ l m′ h′ f e.
+    agrees-ended 1 l runs-assign (record { passes-before = λ x _. assign-alone f x }) h′ (omega arith)
 
 -- ---- THE LAW
 pub run-agrees : (c : Command) → SmallCommand c → (at n : ℕ) (m : Lent) (s : Store) → Holds m s →
     CommandAgrees c at s n (run c at n m)
 unfolding run SmallCommand SmallAssignment SmallExpression
 run-agrees skip small at n m s h =
-    agrees-step {W = λ m′. Holds m′ s} at n skips due-skip h (is-worked h refl refl) λ l m′ h′ f e.
-    agrees-ended 1 l runs-skip (record { fits-before = λ x _. skip-alone f x }) h′ (omega arith)
+    agrees-step {W = λ m′. Holds m′ s} at n skips due-skip h (is-worked h) (λ k e. none-some e) λ l m′ h′ f e.
+    agrees-ended 1 l runs-skip (record { passes-before = λ x _. skip-alone (skips-pass s) x }) h′ (omega arith)
 run-agrees (sequence c c′) small at n m s h =
     agrees-map (λ k t r. r) sequence-steps
     (agrees-sequence (command-before c (at + 1) s) (run-agrees c (small .0) (at + 1) n m s h) λ l m′ t _ h′.
     run-agrees c′ (small .1) (at + 1 + length (commandWords c)) l m′ t h′)
 run-agrees (assert b) small at n m s h =
-    agrees-step at n (asserts b) due-assert h (evaluated m s (h .held) b small) asserted
+    agrees-step at n (asserts b) due-assert h (evaluated m s (h .held) b small) (asserts-said b s) asserted
   where
-    asserted : (l : ℕ) (v : Bool) → v ≡ value b s → Fits (asserts b) s → n ≡ suc l →
+    asserted : (l : ℕ) (v : Bool) → v ≡ value b s → refusalOf b s ≡ none → n ≡ suc l →
         CommandAgrees (assert b) at s n (cond v (ended l m) (stopped 12 at n m))
     asserted l true e f q =
-        agrees-ended 1 l (runs-assert (sym e)) (record { fits-before = λ x _. assert-alone f x }) h (omega arith)
+        let pass = asserts-pass b s f (sym e) in
+        agrees-ended 1 l (runs-assert (sym e)) (record { passes-before = λ x _. assert-alone pass x }) h (omega arith)
     asserted l false e f q =
-        rw q (agrees-stopped 0 (suc l) due-assert (refuses-12 f (sym e)) fits-none h (omega arith))
+        rw q (agrees-stopped 0 (suc l) due-assert (asserts-fail b s f (sym e)) passes-none h (omega arith))
 run-agrees (assign a) small at n m s h = assigns-agrees a small at n m s h
 run-agrees (ifElse b c c′) small at n m s h =
-    agrees-step at n (tests b) due-if h (evaluated m s (h .held) b (small .0)) λ l v e f q. branch v e f q
+    agrees-step at n (tests b) due-if h (evaluated m s (h .held) b (small .0)) (tests-said b s) λ l v e f q.
+    branch v e (tests-pass b s f) q
     (run-agrees c (small .1) (at + 1 + length (words b)) l m s h)
     (run-agrees c′ (small .2) (at + 1 + length (words b) + length (commandWords c)) l m s h)
   where
-    branch : {l : ℕ} {x y : End} (v : Bool) → v ≡ value b s → Fits (tests b) s → n ≡ suc l →
+    branch : {l : ℕ} {x y : End} (v : Bool) → v ≡ value b s → stepRefusal (tests b) s ≡ none → n ≡ suc l →
         CommandAgrees c (at + 1 + length (words b)) s l x →
         CommandAgrees c′ (at + 1 + length (words b) + length (commandWords c)) s l y →
         CommandAgrees (ifElse b c c′) at s n (elim v [ true ↦ x | false ↦ y ])

@@ -1,12 +1,12 @@
 -- The steps that are due in a command are one step, those of a sequence or those of a loop.
 -- Assumes nothing.
---     SameSteps                          two names for the same steps
+--     Steps, SameSteps                   steps; two names for the same
 --     DueAfter, DueSequence, DueLoop     a step and what follows it; a sequence; a while
 --     then-steps, else-steps, sequence-steps, while-steps, for-steps     each command's steps
 --     AllBefore, command-before          steps that come before the end of each run
 use mathlib.Core.Path.{_≡_, sym, subst}
 use mathlib.Core.Bool.{true, false}
-use Prim.Native.Nat.{ℕ, suc, _+_}
+use Prim.Native.Nat.{ℕ, suc, _+_, _<_}
 use native.Mathlib.Numerals.{one-add}
 use native.Mathlib.Omega.{arith}
 use lib.ListN.{length}
@@ -21,8 +21,11 @@ use Rattle.execution.specs.Due.{Due, due-first, due-second, due-assign, 
 use Rattle.execution.specs.Due.{due-while, due-body, due-again, due-start, due-turn}
 use Rattle.execution.specs.Due.{DueTurn, due-test, due-within, due-increment, due-next}
 use Rattle.language.proofs.Once.{one-count}
-use Rattle.execution.proofs.Before.{Before, due-before}
-use Rattle.execution.specs.Refuses.{Steps}
+use Rattle.execution.proofs.Before.{due-before}
+
+-- `D k d p t`: after k steps d is due, at place p, in t
+abbrev pub Steps : Type 1
+Steps = ℕ → Step → ℕ → Store → Type 0
 
 -- two names for the same steps
 pub record SameSteps (D D′ : Steps) : Type 0 where
@@ -67,7 +70,7 @@ loop-steps {b} {c} {at} {D} {s} e = record { to = of; back = is }
 -- every step of D comes before the end of each run of c from s
 pub record AllBefore (c : Command) (s : Store) (D : Steps) : Type 0 where
   pub all-before : {k : ℕ} {d : Step} {p : ℕ} {t : Store} {n : ℕ} {u : Store} → D k d p t → Runs c n s u →
-      Before k n d t
+      k < n
 
 pub command-before : (c : Command) (at : ℕ) (s : Store) → AllBefore c s (Due c at s)
 command-before c at s = record { all-before = λ h r. due-before h r }
@@ -153,12 +156,11 @@ pub turn-before : (q : ℕ) (c : Command) (at : ℕ) (s : Store) → AllBefore (
 turn-before q c at s = record { all-before = each }
   where
     each : {k : ℕ} {d : Step} {p : ℕ} {t : Store} {n : ℕ} {u : Store} → InTurn q c at s k d p t →
-        Runs (Turn q c) n s u → Before k n d t
+        Runs (Turn q c) n s u → k < n
     each (in-first x) (runs-sequence r runs-assign) =
-        let b = due-before x r in
-        record { before = (let l = b .before in omega arith); proceeds = b .proceeds }
+        let l = due-before x r in omega arith
     each (in-second r due-assign) (runs-sequence r′ runs-assign) =
-        let e = one-count r r′ in record { before = omega arith; proceeds = tt }
+        let e = one-count r r′ in omega arith
 
 turns-of : {q r : ℕ} {c : Command} {at : ℕ} {s : Store} {k : ℕ} {d : Step} {p : ℕ} {t : Store} →
     DueLoop (Test q r) (Turn q c) at (InTurn q c at) s k d p t → DueTurn q r c at s k d p t

@@ -1,6 +1,7 @@
 -- The store that is lent to the runner (document 01, "Runner"): 32 scalars and 2,048 array values.
 -- Trusted. Assumes nothing.
---     Lent, storeOf    the two lists; the store that they give
+--     Lent, lent       the two lists; made of them
+--     storeOf          the store that they give
 --     elementAt        the value of an array at an index
 --     elements         an array's values at 0 to 63
 --     HeldBy           a store holds the lent values: the scalars, and the arrays at 0 to 63
@@ -11,11 +12,15 @@ use lib.IntN.{ℤ, pos, negsuc}
 use lib.ListN.{getD}
 use Rattle.language.specs.Store.{Store}
 
+-- the calls lend signed 64-bit numbers; nothing here rests on that, since a value is tested where it is made
 pub record Lent : Type 0 where
   pub scalars : List ℤ
   pub values : List ℤ
 
--- array a's index i is value 64 × a + i
+abbrev pub lent : List ℤ → List ℤ → Lent
+lent ss vs = record { scalars = ss; values = vs }
+
+-- array a's index i is value 64 × a + i; other indexes are read by no run, as `evaluated` of proofs/Evaluated says
 abbrev pub elementAt : List ℤ → ℕ → ℤ → ℤ
 elementAt v a (pos i) = getD v (64 * a + i) (pos 0)
 elementAt v a (negsuc i) = pos 0

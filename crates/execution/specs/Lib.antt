@@ -4,12 +4,12 @@
 --     Run         commands run on a budget of steps
 --     Ran         the runner's answer on bytes
 --     Due         the step that is due after so many steps, by the language's definition
---     Refuses     why a refusal is said of such a step
---     Alike       the runner and the definition end alike, and stop alike
+--     Refusal     the refusal that is said of such a step
+--     Executes    what a run on a budget comes to, by the language's definition
 pub mod Lent
 pub mod Evaluate
 pub mod Run
 pub mod Ran
 pub mod Due
-pub mod Refuses
-pub mod Alike
+pub mod Refusal
+pub mod Executes

@@ -23,11 +23,10 @@ use Rattle.layout.specs.Standing.{PartStands}
 use Rattle.layout.specs.For.{unsteadyAt, firstUnsteady}
 use Rattle.layout.specs.File.{File, parts, steadyFile, finish, wordsRead, badLength, fileOf}
 use Rattle.layout.specs.FileWords.{fileParts, FileSpelled}
-use Rattle.layout.specs.Counted.{isEvidence, countEvidence}
 use Rattle.layout.specs.Verdict.{judged, verdictOf, packed}
 use Rattle.layout.proofs.Stands.{stands-chain}
 use Rattle.layout.proofs.Back.{stands-from}
-use Rattle.layout.proofs.Counted.{file-counts}
+use Rattle.layout.proofs.Counted.{count-length, file-counts}
 use Rattle.layout.proofs.WholeFile.{parts-fault}
 use Rattle.words.proofs.Loading.{words-length}
 use Rattle.flow.specs.Checked.{answerOf, Checked}
@@ -111,15 +110,6 @@ module _ (limits : Limits) (bytes : List ℕ) where
           (words-fault limits (wordsOf bytes)))
 
 -- ---- refusals 8 and 9, and the count
-count-length : (l : List Word) → countEvidence l ≤ length l
-unfolding countEvidence
-count-length [] = omega arith
-count-length (w ∷ l) = go (isEvidence w) (count-length l)
-  where
-    go : (t : Bool) → countEvidence l ≤ length l → cond t (suc (countEvidence l)) (countEvidence l) ≤ suc (length l)
-    go true h = omega arith
-    go false h = omega arith
-
 abbrev pub SmallBy : ℕ → judge.Verdict → Type 0
 SmallBy n (judge.accepted m) = m ≤ n
 SmallBy n (judge.refused k i) = (k ≤ 9) × (i ≤ n)

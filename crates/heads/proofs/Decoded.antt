@@ -20,8 +20,8 @@ use Rattle.layout.specs.Spelling.{payloadOf, FitsExpression, FitsCommand}
 use Rattle.layout.specs.EvidenceWords.{expressionPart, commandPart}
 use Rattle.layout.specs.Standing.{Stands, PartStands}
 use Rattle.layout.proofs.Words.{signed-payload}
-use Rattle.ends.proofs.Small.{Small, kind-at, content-at, expression-small, command-small}
-use Rattle.ends.proofs.Small as small
+use Rattle.layout.proofs.Small.{Small, kind-at, content-at, expression-small, command-small}
+use Rattle.layout.proofs.Small as small
 use Rattle.words.specs.Decode.{decodeOf, kindOf, arithmeticOf, booleanOf, arrayOf, commandOf}
 use Rattle.words.specs.declared.Operator.{Operator}
 use Rattle.words.specs.declared.Operator.the-variants.{Plus, Minus, Times}

@@ -3,34 +3,23 @@
 --     goal-counts    with the evidence's first place, it is at most its end
 --     goal-inside    evidence that counts ends inside the file
 --     also-counts    the count so far, with the next goal's
-use mathlib.Core.Path.{_≡_, refl}
-use mathlib.Core.Bool.{Bool, true, false, cond}
-use mathlib.Core.List.{List, [], _∷_}
+use mathlib.Core.Path.{_≡_}
+use mathlib.Core.List.{List, _∷_}
 use Prim.Native.Nat.{ℕ, suc, _+_, _≤_}
 use native.Mathlib.Omega.{arith}
 use lib.ListN.{length}
 use Rattle.rules.specs.Words.{Word}
 use Rattle.rules.specs.Context.{Limits}
 use Rattle.rules.specs.Judge.{Verdict, accepted, refused, _also_}
-use Rattle.layout.specs.Counted.{isEvidence, countEvidence}
 use Rattle.layout.specs.Standing.{Stands}
 use Rattle.layout.proofs.Stands.{stands-end, stands-inside}
-use Rattle.layout.proofs.Counted.{Counts, flow-counts, set-counts, pre-counts}
+use Rattle.layout.proofs.Counted.{evidenceIn, count-length, Counts, flow-counts, set-counts, pre-counts}
 use Rattle.goals.specs.declared.Goal.{Goal}
 use Rattle.goals.specs.Goals.{TreeGoal, verdict, GoalStands, nothing-stands, flow-stands, set-stands, pre-stands}
 
-count-length : (l : List Word) → countEvidence l ≤ length l
-unfolding countEvidence
-count-length [] = omega arith
-count-length (w ∷ l) = go (isEvidence w) (count-length l)
-  where
-    go : (t : Bool) → countEvidence l ≤ length l → cond t (suc (countEvidence l)) (countEvidence l) ≤ suc (length l)
-    go true h = omega arith
-    go false h = omega arith
-
 -- what stands in a file, word by word
 module _ {file : List ℕ} {F : Type 0} {at end : ℕ} where
-  stands-counts : {l : List Word} {v : Verdict} → Stands file l F at end → Counts v (countEvidence l) →
+  stands-counts : {l : List Word} {v : Verdict} → Stands file l F at end → Counts v (evidenceIn l) →
       (n : ℕ) → v ≡ accepted n → at + n ≤ end
   stands-counts {l} s h n e =
       let x = stands-end file at l end (s .stand) in

@@ -1,18 +1,25 @@
--- The count that acceptance reports is the count of the evidence's words of kinds 33 to 35; no other word has such a kind.
+-- The count that acceptance reports is the count of the file's words of kinds 33 to 35: only evidence has such words.
 -- Assumes nothing.
+--     isEvidenceWord, evidenceIn, count-length   words of these kinds among those of trees
 --     expression-none, command-none, set-none    expressions, commands and sets have none
 --     pre-counts, set-counts, flow-counts        evidence, as it is judged
---     file-counts                                a file, as it is judged
-use mathlib.Core.Path.{_≡_, refl, sym, _∙_, ap, subst}
-use mathlib.Core.Bool.{Bool, true, false, cond}
+--     file-counts                                a file, as it is judged, by the words of its parts
+--     count-spelled, file-counted                the same by the words of the file
+use mathlib.Core.Path.{_≡_, refl, sym, _∙_, ap, ap₂}
+use mathlib.Core.Bool.{Bool, true, false, _&&_, cond}
 use mathlib.Core.List.{List, [], _∷_, _++_}
 use mathlib.Core.Option.{Option, none, some}
-use Prim.Native.Nat.{ℕ, suc, _+_}
+use Prim.Native.Nat.{ℕ, suc, _+_, _*_, _/_, _<_, _≤_}
 use native.Mathlib.Omega.{arith}
+use native.Mathlib.Numerals.{add-one}
+use borrow.Author.Tests.{le-leb, lt-leb}
+use lib.Dec.{leb}
+use lib.ListN.{length, drop}
+use lib.Seq.{drop-cons, drop-length}
 use Rattle.language.specs.Syntax.{Sort, Arithmetic, Boolean, Array, Expr, constant, scalar, operation, select}
 use Rattle.language.specs.Syntax.{compare, truth, and, or, neg, array, zeros, update, toScalar, toArray}
 use Rattle.language.specs.Syntax.{Command, skip, sequence, assert, assign, ifElse, while, for}
-use Rattle.rules.specs.Words.{Word, words, commandWords}
+use Rattle.rules.specs.Words.{Word, word, forWord, words, commandWords}
 use Rattle.rules.specs.Assertion.{Member, Members}
 use Rattle.rules.specs.Context.{Limits, Context}
 use Rattle.rules.specs.Sets.{operands}
@@ -27,25 +34,46 @@ use Rattle.layout.specs.Spelling.{membersWords, setWords}
 use Rattle.layout.specs.EvidenceWords.{Part, joined, preNode, setNode, flowNode, prePart, setEvidencePart, flowPart}
 use Rattle.layout.specs.File.{File}
 use Rattle.layout.specs.FileWords.{fileParts}
+use Rattle.layout.specs.Bytes.{wordCount, numberAt}
+use Rattle.layout.specs.Spelling.{SpelledAt}
+use Rattle.layout.specs.FileWords.{FileSpelled}
 use Rattle.layout.specs.Counted.{isEvidence, countEvidence}
+use Rattle.layout.proofs.Small.{AllSmall, kindOf, kind-at, parts-small}
 
-count-append : (l m : List Word) → countEvidence (l ++ m) ≡ countEvidence l + countEvidence m
-unfolding countEvidence
-count-append [] m = omega arith
-count-append (w ∷ l) m = go (isEvidence w) (count-append l m)
+abbrev isEvidenceWord : Word → Bool
+isEvidenceWord (word k z) = leb 33 k && leb k 35
+isEvidenceWord (forWord q m) = false
+
+unfoldable pub evidenceIn : List Word → ℕ
+evidenceIn [] = 0
+evidenceIn (w ∷ l) = cond (isEvidenceWord w) (suc (evidenceIn l)) (evidenceIn l)
+
+pub count-length : (l : List Word) → evidenceIn l ≤ length l
+unfolding evidenceIn
+count-length [] = omega arith
+count-length (w ∷ l) = go (isEvidenceWord w) (count-length l)
   where
-    go : (t : Bool) → countEvidence (l ++ m) ≡ countEvidence l + countEvidence m →
-        cond t (suc (countEvidence (l ++ m))) (countEvidence (l ++ m))
-        ≡ cond t (suc (countEvidence l)) (countEvidence l) + countEvidence m
+    go : (t : Bool) → evidenceIn l ≤ length l → cond t (suc (evidenceIn l)) (evidenceIn l) ≤ suc (length l)
+    go true h = omega arith
+    go false h = omega arith
+
+count-append : (l m : List Word) → evidenceIn (l ++ m) ≡ evidenceIn l + evidenceIn m
+unfolding evidenceIn
+count-append [] m = omega arith
+count-append (w ∷ l) m = go (isEvidenceWord w) (count-append l m)
+  where
+    go : (t : Bool) → evidenceIn (l ++ m) ≡ evidenceIn l + evidenceIn m →
+        cond t (suc (evidenceIn (l ++ m))) (evidenceIn (l ++ m))
+        ≡ cond t (suc (evidenceIn l)) (evidenceIn l) + evidenceIn m
     go true e = omega (arith, e)
     go false e = e
 
 -- words that have none, one after the other
-two : (l m : List Word) → countEvidence l ≡ 0 → countEvidence m ≡ 0 → countEvidence (l ++ m) ≡ 0
+two : (l m : List Word) → evidenceIn l ≡ 0 → evidenceIn m ≡ 0 → evidenceIn (l ++ m) ≡ 0
 two l m g h = let e = count-append l m in omega (arith, e, g, h)
 
-expression-none : {k : Sort} (e : Expr k) → countEvidence (words e) ≡ 0
-unfolding words countEvidence
+expression-none : {k : Sort} (e : Expr k) → evidenceIn (words e) ≡ 0
+unfolding words evidenceIn
 expression-none (constant z) = refl
 expression-none (scalar x) = refl
 expression-none (operation o a b) = two (words a) (words b) (expression-none a) (expression-none b)
@@ -61,8 +89,8 @@ expression-none (update h i a) =
     two (words h) (words i ++ words a) (expression-none h)
     (two (words i) (words a) (expression-none i) (expression-none a))
 
-command-none : (c : Command) → countEvidence (commandWords c) ≡ 0
-unfolding commandWords countEvidence
+command-none : (c : Command) → evidenceIn (commandWords c) ≡ 0
+unfolding commandWords evidenceIn
 command-none skip = refl
 command-none (sequence c d) = two (commandWords c) (commandWords d) (command-none c) (command-none d)
 command-none (assert b) = expression-none b
@@ -74,8 +102,8 @@ command-none (ifElse b c d) =
 command-none (while b c) = two (words b) (commandWords c) (expression-none b) (command-none c)
 command-none (for q m c) = command-none c
 
-members-none : (p : Members) → countEvidence (membersWords p) ≡ 0
-unfolding countEvidence
+members-none : (p : Members) → evidenceIn (membersWords p) ≡ 0
+unfolding evidenceIn
 members-none [] = refl
 members-none (m ∷ p) =
     two (words (m .antecedent) ++ words (m .consequent)) (membersWords p)
@@ -83,20 +111,20 @@ members-none (m ∷ p) =
     (expression-none (m .consequent)))
     (members-none p)
 
-set-none : (p : Members) → countEvidence (setWords p) ≡ 0
-unfolding countEvidence
+set-none : (p : Members) → evidenceIn (setWords p) ≡ 0
+unfolding evidenceIn
 set-none p = members-none p
 
 -- the count of parts, one after the other
 abbrev counts : List Part → ℕ
 counts [] = 0
-counts (x ∷ l) = countEvidence (x .spelling) + counts l
+counts (x ∷ l) = evidenceIn (x .spelling) + counts l
 
-joined-counts : (l : List Part) → countEvidence (joined l) ≡ counts l
-unfolding joined countEvidence
+joined-counts : (l : List Part) → evidenceIn (joined l) ≡ counts l
+unfolding joined evidenceIn
 joined-counts [] = refl
 joined-counts (x ∷ l) =
-    count-append (x .spelling) (joined l) ∙ ap (λ n. countEvidence (x .spelling) + n) (joined-counts l)
+    count-append (x .spelling) (joined l) ∙ ap (λ n. evidenceIn (x .spelling) + n) (joined-counts l)
 
 -- a verdict whose count, if it is an acceptance, is m
 pub record Counts (v : Verdict) (m : ℕ) : Type 0 where
@@ -116,7 +144,7 @@ also-counts (refused k i) w g h = refused-counts k i _
 
 -- an evidence word, before the parts l
 word-counts : (i : ℕ) (r : Result) (v : Verdict) (l : List Part) (m : ℕ) → Counts v m → m ≡ counts l →
-    Counts (judgeWord i r v) (suc (countEvidence (joined l)))
+    Counts (judgeWord i r v) (suc (evidenceIn (joined l)))
 unfolding judgeWord oneMore
 word-counts i passes (accepted a) l m h e =
     let x = h .counted a refl in
@@ -127,7 +155,7 @@ word-counts i fails v l m h e = refused-counts 8 i _
 word-counts i tooLarge v l m h e = refused-counts 9 i _
 
 -- a word with no parts
-leaf-counts : (i : ℕ) (r : Result) → Counts (judgeWord i r (accepted 0)) (suc (countEvidence (joined [])))
+leaf-counts : (i : ℕ) (r : Result) → Counts (judgeWord i r (accepted 0)) (suc (evidenceIn (joined [])))
 leaf-counts i r = word-counts i r (accepted 0) [] 0 (record { counted = λ n e. cc }) refl
 
 -- a command, a set or operands, by their form: the count is there in every case
@@ -206,8 +234,8 @@ module _ (i m : ℕ) where
 
 module _ (Γ : Context) where
   pub pre-counts : (k : PreEvidence) (φ : Expr Boolean) (c : Command) (φ′ : Expr Boolean) →
-      Counts (judgePre Γ k φ c φ′) (countEvidence (prePart k .spelling))
-  unfolding judgePre preNode countEvidence
+      Counts (judgePre Γ k φ c φ′) (evidenceIn (prePart k .spelling))
+  unfolding judgePre preNode evidenceIn
   pre-counts (pre20 i φ₁ φ₂ k l) φ c φ′ =
       let x = expression-none φ₁ in
       let y = expression-none φ₂ in
@@ -235,8 +263,8 @@ module _ (Γ : Context) where
 
   module _ (limits : Limits) where
     pub set-counts : (k : SetEvidence) (p q : Members) →
-        Counts (judgeSet Γ k p q) (countEvidence (setEvidencePart limits k .spelling))
-    unfolding judgeSet setNode countEvidence
+        Counts (judgeSet Γ k p q) (evidenceIn (setEvidencePart limits k .spelling))
+    unfolding judgeSet setNode evidenceIn
     set-counts (set13 i) p q = leaf-counts i _
     set-counts (set14 i) p q = empty-counts i _ p (leaf-counts i _)
     set-counts (set15 i) p q = empty-counts i _ p (one-counts i _ q λ n. leaf-counts i _)
@@ -256,8 +284,8 @@ module _ (Γ : Context) where
         one-counts i _ q λ n. some-counts i _ (operands (n .antecedent) (n .consequent)) λ r. leaf-counts i _
 
     pub flow-counts : (k : FlowEvidence) (p : Members) (c : Command) (q : Members) →
-        Counts (judgeFlow Γ k p c q) (countEvidence (flowPart limits k .spelling))
-    unfolding judgeFlow flowNode countEvidence
+        Counts (judgeFlow Γ k p c q) (evidenceIn (flowPart limits k .spelling))
+    unfolding judgeFlow flowNode evidenceIn
     flow-counts (flow1 i) p c q = skip-counts i _ c (leaf-counts i _)
     flow-counts (flow2 i m k l) p c q =
         let x = set-none m in
@@ -304,7 +332,7 @@ module _ (Γ : Context) where
 
 -- the parts of a file: its evidence has all of them
 pub file-counts : (Γ : Context) (limits : Limits) (f : File) →
-    Counts (judgeFlow Γ (f .evidence) (f .pre) (f .program) (f .post)) (countEvidence (joined (fileParts limits f)))
+    Counts (judgeFlow Γ (f .evidence) (f .pre) (f .program) (f .post)) (evidenceIn (joined (fileParts limits f)))
 file-counts Γ limits f =
     let x = command-none (f .program) in
     let y = set-none (f .pre) in
@@ -312,3 +340,39 @@ file-counts Γ limits f =
     let e = joined-counts (fileParts limits f) in
     let h = flow-counts Γ limits (f .evidence) (f .pre) (f .program) (f .post) in
     record { counted = λ n k. let u = h .counted n k in omega (arith, x, y, z, e, u) }
+
+-- ---- the same by the words of the file
+same-kind : (n : ℕ) (w : Word) → n / 67108864 ≡ kindOf w → isEvidence n ≡ isEvidenceWord w
+same-kind n (word k z) e = ap (λ j. leb 33 j && leb j 35) e
+same-kind n (forWord q m) e = ap (λ j. leb 33 j && leb j 35) e
+
+-- words that stand up to the end of a file
+count-spelled : (file : List ℕ) (at : ℕ) (l : List Word) → SpelledAt file at l → AllSmall l →
+    wordCount file ≡ at + length l → countEvidence (drop at file) ≡ evidenceIn l
+unfolding countEvidence evidenceIn
+count-spelled file at [] s h e =
+    let end : at ≡ length file = omega arith in
+    ap (λ i. countEvidence (drop i file)) end ∙ ap countEvidence (drop-length file)
+count-spelled file at (w ∷ l) s h e =
+    ap countEvidence (drop-cons file at 0 (s .0))
+    ∙ ap₂ (λ t n. cond t (suc n) n) (same-kind (numberAt file at) w (kind-at file at w (s .1) (h .0)))
+    (ap (λ i. countEvidence (drop i file)) (sym (add-one at))
+    ∙ count-spelled file (at + 1) l (s .2) (h .1) (omega arith))
+
+-- word 0 is no evidence, whatever the count in it
+first-none : (n : ℕ) → isEvidence (63 * 67108864 + n) ≡ false
+first-none n =
+    let k : 35 < (63 * 67108864 + n) / 67108864 = omega arith in
+    rw (lt-leb ((63 * 67108864 + n) / 67108864) 35 k)
+    (rw (le-leb 33 ((63 * 67108864 + n) / 67108864) (omega arith)) refl)
+
+pub file-counted : (limits : Limits) (file : List ℕ) (f : File) → FileSpelled limits file f →
+    countEvidence file ≡ evidenceIn (joined (fileParts limits f))
+unfolding countEvidence
+file-counted limits file f h =
+    let all : AllSmall (joined (fileParts limits f)) = parts-small limits f (h .fits) in
+    let some : 0 < length file = omega (arith, h .whole) in
+    ap countEvidence (drop-cons file 0 0 some)
+    ∙ ap (λ t. cond t (suc (countEvidence (drop 1 file))) (countEvidence (drop 1 file)))
+    (ap isEvidence (h .count) ∙ first-none (wordCount file))
+    ∙ count-spelled file 1 (joined (fileParts limits f)) (h .spelled) all (h .whole)

@@ -10,6 +10,8 @@
 --     BackEvidence       the same of evidence
 --     Faults             where readings end
 --     WholeFile          a whole file
+--     Small              the kinds and payloads of the words of what stands
+--     Counted            the count of evidence words
 pub mod Words
 pub mod Stands
 pub mod Yields
@@ -19,4 +21,5 @@ pub mod Back
 pub mod BackEvidence
 pub mod Faults
 pub mod WholeFile
+pub mod Small
 pub mod Counted

@@ -1,16 +1,14 @@
--- The count of evidence words, all of kinds 33 to 35 (document 01, "Judging order").
+-- The count of evidence words, all of kinds 33 to 35 (document 01, "Judging order"), among the words of a file.
 -- Trusted. Assumes nothing.
 --     isEvidence, countEvidence    a word of these kinds; how many of them there are
-use mathlib.Core.Bool.{Bool, false, _&&_, cond}
+use mathlib.Core.Bool.{Bool, _&&_, cond}
 use mathlib.Core.List.{List, [], _∷_}
-use Prim.Native.Nat.{ℕ, suc}
+use Prim.Native.Nat.{ℕ, suc, _/_}
 use lib.Dec.{leb}
-use Rattle.rules.specs.Words.{Word, word, forWord}
 
-abbrev pub isEvidence : Word → Bool
-isEvidence (word k z) = leb 33 k && leb k 35
-isEvidence (forWord q m) = false
+abbrev pub isEvidence : ℕ → Bool
+isEvidence w = leb 33 (w / 67108864) && leb (w / 67108864) 35
 
-unfoldable pub countEvidence : List Word → ℕ
+unfoldable pub countEvidence : List ℕ → ℕ
 countEvidence [] = 0
 countEvidence (w ∷ l) = cond (isEvidence w) (suc (countEvidence l)) (countEvidence l)

@@ -1,5 +1,6 @@
 -- How expressions, commands and sets stand in a file (document 01, "Layout"): by their words, within the limits.
--- Working: laws in proofs/ say that the reader reads exactly what stands so in a file. Assumes nothing.
+-- Working: `command-past` and `set-past` of proofs/Spelled, `command-stands` and `set-stands` of proofs/Back say that
+-- the reader reads exactly what stands so in a file. Assumes nothing.
 --     payloadOf, encode                          the payload of an integer; a word as a number
 --     SpelledAt                                  words stand in a file one after the other, from a place on
 --     FitsConstant, FitsExpression, FitsCommand  its depth is at most the levels given, its payloads are in range

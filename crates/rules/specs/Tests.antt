@@ -1,5 +1,7 @@
 -- The statements of `Sets` and `Implies` as tests.
--- Working: laws in proofs/Decides and proofs/Table say that each test decides its statement.
+-- Working: `same-decides`, `stands-decides`, `within-decides`, `unmodified-decides`, `isEmpty-decides`,
+-- `sameAntecedent-decides` and `sameConsequent-decides` of proofs/Decides and `table-decides` of proofs/Table say that each
+-- test decides its statement.
 --     sameAntecedent, sameConsequent, sameMember              of `Sets`
 --     stands, within, same                                    of `Sets`
 --     unmodified, isEmpty                                     no identifier is modified; there is none

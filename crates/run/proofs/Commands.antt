@@ -21,7 +21,7 @@ use Rattle.language.specs.Runs.{increment}
 use Rattle.rules.specs.Words.{words, commandWords}
 use Rattle.layout.specs.Bytes.{numberAt}
 use Rattle.layout.specs.EvidenceWords.{expressionPart, commandPart}
-use Rattle.execution.specs.Lent.{Lent, storeOf, elements}
+use Rattle.execution.specs.Lent.{Lent, lent, storeOf, elements}
 use Rattle.execution.specs.Evaluate.{Outcome, worked, onWorked, evaluate}
 use Rattle.execution.specs.Run as definition
 use Rattle.execution.specs.Run.{ended, stopped, onEnded, step, assigns, turns, run}
@@ -34,7 +34,7 @@ use Rattle.heads.proofs.Parts.{command-parts}
 use Rattle.arithmetic.specs.Worked.{outcome, checked}
 use Rattle.arithmetic.proofs.Signed.{back, held-two}
 use Rattle.arithmetic.specs.declared.Worked.{Worked}
-use Rattle.evaluate.specs.Evaluated.{testOutcome, fillOutcome, lent, Evaluates, Tests, Fills}
+use Rattle.evaluate.specs.Evaluated.{testOutcome, fillOutcome, Evaluates, Tests, Fills}
 use Rattle.evaluate.specs.declared.Tested.{Tested}
 use Rattle.evaluate.specs.declared.Tested.the-variants as Tested
 use Rattle.evaluate.specs.declared.Filled.{Filled}

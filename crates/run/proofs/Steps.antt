@@ -14,7 +14,7 @@ use lib.ListN.{set, drop}
 use lib.Seq.{paste}
 use mir.Syntax.{w64}
 use mir.Val.{SFits, toZ, ofZ}
-use Rattle.execution.specs.Lent.{Lent}
+use Rattle.execution.specs.Lent.{Lent, lent}
 use Rattle.execution.specs.Evaluate.{Outcome, worked, stops, onWorked}
 use Rattle.execution.specs.Run as definition
 use Rattle.execution.specs.Run.{ended, stopped, step}
@@ -22,7 +22,7 @@ use Rattle.arithmetic.specs.Worked.{outcome}
 use Rattle.arithmetic.specs.declared.Worked.{Worked}
 use Rattle.arithmetic.specs.declared.Worked.the-variants as Worked
 use Rattle.arithmetic.proofs.Signed.{back}
-use Rattle.evaluate.specs.Evaluated.{testOutcome, fillOutcome, lent}
+use Rattle.evaluate.specs.Evaluated.{testOutcome, fillOutcome}
 use Rattle.evaluate.specs.declared.Tested.{Tested}
 use Rattle.evaluate.specs.declared.Tested.the-variants as Tested
 use Rattle.evaluate.specs.declared.Filled.{Filled}

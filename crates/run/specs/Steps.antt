@@ -11,11 +11,10 @@ use Prim.Native.Nat.{ℕ, zero, suc, _*_, _<_}
 use lib.IntN.{ℤ}
 use lib.ListN.{length, set}
 use lib.Seq.{paste}
-use Rattle.execution.specs.Lent.{Lent}
+use Rattle.execution.specs.Lent.{Lent, lent}
 use Rattle.execution.specs.Evaluate.{Outcome, worked, stops, onWorked}
 use Rattle.execution.specs.Run as definition
 use Rattle.execution.specs.Run.{ended, stopped, step}
-use Rattle.evaluate.specs.Evaluated.{lent}
 use Rattle.run.specs.declared.End.{End}
 use Rattle.run.specs.declared.End.the-variants.{Ended, Stopped}
 use Rattle.run.specs.declared.Choice.{Choice}

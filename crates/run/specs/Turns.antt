@@ -18,14 +18,14 @@ use Rattle.language.specs.Syntax.{skip, sequence, assert, assign, ifElse, while
 use Rattle.language.specs.Runs.{increment}
 use Rattle.rules.specs.Words.{words}
 use Rattle.layout.specs.EvidenceWords.{commandPart}
-use Rattle.execution.specs.Lent.{Lent, storeOf}
+use Rattle.execution.specs.Lent.{Lent, lent, storeOf}
 use Rattle.execution.specs.Evaluate.{evaluate}
 use Rattle.execution.specs.Run as definition
 use Rattle.execution.specs.Run.{ended, stopped, onEnded, assigns, turns, run}
 use Rattle.words.specs.declared.CommandWord.{CommandWord}
 use Rattle.words.specs.declared.CommandWord.the-variants.{While, For}
 use Rattle.heads.specs.Stands.{PartAt}
-use Rattle.evaluate.specs.Evaluated.{testOutcome, lent}
+use Rattle.evaluate.specs.Evaluated.{testOutcome}
 use Rattle.evaluate.specs.declared.Tested.{Tested}
 use Rattle.run.specs.Steps.{endAt, chosen}
 use Rattle.run.specs.declared.End.{End}

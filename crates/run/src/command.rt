@@ -17,7 +17,7 @@ use ends::end_at;
 use evaluate::boolean::eval_boolean;
 use heads::command_head;
 use words::CommandWord;
-ghost use Rattle.evaluate.specs.Evaluated.{lent};
+ghost use Rattle.execution.specs.Lent.{lent};
 ghost use Rattle.run.specs.Places.{CanRun, CanRunAt, RunsAs};
 ghost use Rattle.run.specs.Turns.{loopWord, TurnsAs, TurnAs, PassAs};
 

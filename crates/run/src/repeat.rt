@@ -12,7 +12,7 @@ use evaluate::store::value_at;
 ghost use mathlib.Core.Path.{_≡_};
 ghost use Prim.Native.Nat.{_+_, _<_};
 ghost use lib.ListN.{length};
-ghost use Rattle.evaluate.specs.Evaluated.{lent};
+ghost use Rattle.execution.specs.Lent.{lent};
 ghost use Rattle.run.specs.Places.{CanRunAt};
 ghost use Rattle.run.specs.Turns.{loopWord, bodyPlace, CountsIn, TestsLoop, Increments, EndsPass};
 

@@ -14,7 +14,8 @@ ghost use mathlib.Core.Path.{_≡_};
 ghost use Prim.Native.Nat.{_<_};
 ghost use lib.ListN.{length};
 ghost use Rattle.arithmetic.specs.Worked.{outcome};
-ghost use Rattle.evaluate.specs.Evaluated.{testOutcome, fillOutcome, lent};
+ghost use Rattle.execution.specs.Lent.{lent};
+ghost use Rattle.evaluate.specs.Evaluated.{testOutcome, fillOutcome};
 ghost use Rattle.run.specs.Steps.{passed, asserted, chosen, StoresScalar, StoresArray, CanStore};
 ghost use Rattle.run.specs.Places.{CanRunAt, RunsAs};
 

@@ -1,11 +1,10 @@
 -- Refusals 1 to 7 on the runner's way, and what the words are that they let pass.
 -- Assumes nothing.
--- read-file                             words that refusals 2 to 6 let pass are a whole file, with its command at place
--- 1
---     refused-words, unsteady-words         2 to 6, and 7
---     steady-words                          words that 2 to 7 let pass
---     bad-bytes, loaded-bytes                             1; the words of bytes that it lets pass
---     run-of                                the definition's answer on bytes
+--     read-file                        words that refusals 2 to 6 let pass are a whole file, its command at place 1
+--     refused-words, unsteady-words    2 to 6, and 7
+--     steady-words                     words that 2 to 7 let pass
+--     bad-bytes, loaded-bytes          1; the words of bytes that it lets pass
+--     run-of                           the definition's answer on bytes, with demand 2
 use mathlib.Core.Path.{_≡_, refl, sym, ap, _∙_}
 use mathlib.Core.Bool.{Bool, true, false, not, _||_}
 use mathlib.Core.List.{List}
@@ -23,6 +22,7 @@ use Rattle.layout.specs.File.{File, parts, steadyFile, badLength, wordsRead, fi
 use Rattle.layout.specs.EvidenceWords.{commandPart}
 use Rattle.execution.specs.Lent.{Lent}
 use Rattle.execution.specs.Ran.{runOf}
+use Rattle.claims.proofs.Runner.{runner}
 use Rattle.ends.specs.Ends.{EndsOf}
 use Rattle.words.proofs.Lengths.{bad-file, good-file, AllLoaded}
 use Rattle.reader.specs.Walk.{limitsOf}
@@ -164,4 +164,5 @@ run-of {limits} l {bytes} {budget} {m} {m′} {r} f =
       steps = ap (λ x. x .steps) e;
       scalars-left = ap (λ x. x .store .scalars) e;
       values-left = ap (λ x. x .store .values) e;
+      exact = runner context.standard bytes budget m;
     }

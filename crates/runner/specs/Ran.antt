@@ -1,5 +1,5 @@
 -- What the runner promises (document 01, "Runner" and "Judging order" 1 to 7 and 10 to 15): the answer, the steps
--- finished and the store afterwards are those of the definition.
+-- finished and the store afterwards are those of the definition, and demand 2 holds of the definition there.
 -- Trusted. Assumes nothing.
 --     answerOf    the code's answer, as the definition's
 --     RunOf       from the lent store m, the answer r and the store m′
@@ -10,6 +10,7 @@ use Rattle.rules.specs.Context.{standard}
 use Rattle.execution.specs.Lent.{Lent}
 use Rattle.execution.specs.Ran as definition
 use Rattle.execution.specs.Ran.{done, refused, runOf}
+use Rattle.claims.specs.Runner.{Runner}
 use Rattle.runner.specs.declared.Answer.{Answer}
 use Rattle.runner.specs.declared.Answer.the-variants.{Done, Refused}
 use Rattle.runner.specs.declared.Ran.{Ran}
@@ -23,3 +24,5 @@ pub record RunOf (bytes : List ℕ) (budget : ℕ) (m : Lent) (r : Ran) (m′ : 
   pub steps : r .steps ≡ (runOf standard bytes budget m) .steps
   pub scalars-left : m′ .scalars ≡ (runOf standard bytes budget m) .store .scalars
   pub values-left : m′ .values ≡ (runOf standard bytes budget m) .store .values
+  -- the definition ends as the language's, or stops where document 01 says and nowhere else
+  pub exact : Runner standard bytes budget m

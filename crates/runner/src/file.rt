@@ -14,7 +14,7 @@ use words::load::load;
 ghost use mathlib.Core.Path.{_≡_};
 ghost use Rattle.layout.specs.File.{fileOf, wordsRead};
 ghost use Rattle.reader.specs.Walk.{limitsOf};
-ghost use Rattle.evaluate.specs.Evaluated.{lent};
+ghost use Rattle.execution.specs.Lent.{lent};
 ghost use Rattle.runner.specs.Running.{refusedAt, CanReport, Reports, RanBy, Small, Found, CanRunFile};
 
 // A refusal before the run: no step is finished.

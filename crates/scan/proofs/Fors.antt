@@ -31,7 +31,7 @@ use Rattle.layout.specs.Standing.{StandsTo, Stands, PartStands, Chain}
 use Rattle.layout.specs.File.{File}
 use Rattle.layout.proofs.Stands.{parted, stands-chain}
 use Rattle.ends.proofs.Sizes.{lt-or-le}
-use Rattle.ends.proofs.Small.{Small, AllSmall, kindOf, kind-at, expression-small, command-small, set-small}
+use Rattle.layout.proofs.Small.{Small, AllSmall, kindOf, kind-at, expression-small, command-small, set-small}
 use Rattle.ends.proofs.Ends.{rest, less-fit}
 use Rattle.scan.specs.Steady.{WholeFile}
 use Rattle.scan.proofs.Trees.{anyOf, appended, Quiet, expression-quiet}

@@ -28,7 +28,7 @@ use Rattle.layout.specs.Standing.{PartStands}
 use Rattle.layout.specs.For.{steady, unsteady, unsteadyAt, firstUnsteady}
 use Rattle.layout.proofs.Back.{command-stands}
 use Rattle.ends.specs.Ends.{EndsOf}
-use Rattle.ends.proofs.Small.{content-at}
+use Rattle.layout.proofs.Small.{content-at}
 use Rattle.ends.proofs.Ends.{rest, less-fit}
 use Rattle.ends.specs.Mask.{bit, ModifiedBy}
 use Rattle.scan.specs.Scan.{Modified}

@@ -23,8 +23,8 @@ use Rattle.layout.specs.Spelling.{FitsExpression, FitsCommand}
 use Rattle.layout.specs.Spelling.{memberWords, membersWords, setWords, FitsMembers, FitsSet}
 use Rattle.layout.specs.Standing.{StandsTo}
 use Rattle.layout.proofs.Stands.{stands-end}
-use Rattle.ends.proofs.Small.{AllSmall, kindOf, contentOf, kind-at, content-at}
-use Rattle.ends.proofs.Small.{expression-small, command-small, set-small}
+use Rattle.layout.proofs.Small.{AllSmall, kindOf, contentOf, kind-at, content-at}
+use Rattle.layout.proofs.Small.{expression-small, command-small, set-small}
 use Rattle.ends.specs.Mask.{bit, Low, slot, ModifiedBy}
 use Rattle.ends.specs.Blocks.{written, ifAny, anyIn, assigns, Marks}
 use Rattle.scan.specs.Scan.{mentioned, marked, Modified, Unmarked, Closed}

@@ -9,7 +9,7 @@ use Prim.Native.Nat.{_+_, _-_, _*_}
 use lib.ListN.{length}
 use Rattle.words.specs.declared.Word.the-variants.{Command}
 use Rattle.heads.proofs.Heads.{command-starts}
-use Rattle.evaluate.specs.Evaluated.{lent}
+use Rattle.execution.specs.Lent.{lent}
 use Rattle.run.specs.Turns.{CountsIn}
 use Rattle.run.proofs.Turns.{Going, going-none, falls as turn-falls, going-on, going-ended, going-stopped}
 use Rattle.run.proofs.Bodies.{can-again, sequence-first, sequence-second, if-can, if-then, if-else, for-small}

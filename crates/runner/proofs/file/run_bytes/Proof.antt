@@ -2,7 +2,7 @@
 use mathlib.Core.Path.{sym, _∙_}
 use native.Mathlib.Omega.{arith}
 use Rattle.reader.specs.Walk.{limitsOf}
-use Rattle.evaluate.specs.Evaluated.{lent}
+use Rattle.execution.specs.Lent.{lent}
 use Rattle.words.proofs.Lengths.{AllLoaded, good-length, all-loaded}
 use Rattle.runner.proofs.Files.{bad-bytes, loaded-bytes}
 use borrow.Author.Needs.{needs}

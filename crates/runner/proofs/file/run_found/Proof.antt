@@ -1,5 +1,5 @@
 -- `runner::file::run_found` meets its contract: refusal 7 by the scan, then the run. Assumes nothing.
-use Rattle.evaluate.specs.Evaluated.{lent}
+use Rattle.execution.specs.Lent.{lent}
 use Rattle.runner.proofs.Files.{unsteady-words, steady-words}
 use borrow.Author.Needs.{needs}
 use Rattle.runner.proofs.file.run_found.Statement.{statement}

@@ -1,5 +1,5 @@
 -- `runner::file::run_program` meets its contract: refusals 10 and 11, then the run. Assumes nothing.
-use Rattle.evaluate.specs.Evaluated.{lent}
+use Rattle.execution.specs.Lent.{lent}
 use Rattle.runner.proofs.Programs.{over-budget, ill-scalars, ill-values, can-run, can-report, reported}
 use borrow.Author.Needs.{needs}
 use Rattle.runner.proofs.file.run_program.Statement.{statement}

@@ -1,6 +1,6 @@
 -- `runner::file::run_words` meets its contract: refusals 2 to 6, then the rest. Assumes nothing.
 use mathlib.Core.Path.{sym, _∙_}
-use Rattle.evaluate.specs.Evaluated.{lent}
+use Rattle.execution.specs.Lent.{lent}
 use Rattle.runner.proofs.Files.{refused-words}
 use borrow.Author.Needs.{needs}
 use Rattle.runner.proofs.file.run_words.Statement.{statement}
