@@ -3,7 +3,7 @@
 --     expression-none, command-none, set-none    expressions, commands and sets have none
 --     pre-counts, set-counts, flow-counts        evidence, as it is judged
 --     file-counts                                a file, as it is judged
-use mathlib.Core.Path.{_≡_, refl, sym, _∙_, ap, subst}
+use mathlib.Core.Path.{_≡_, refl, _∙_, ap}
 use mathlib.Core.Bool.{Bool, true, false, cond}
 use mathlib.Core.List.{List, [], _∷_, _++_}
 use mathlib.Core.Option.{Option, none, some}

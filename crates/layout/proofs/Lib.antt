@@ -10,6 +10,7 @@
 --     BackEvidence       the same of evidence
 --     Faults             where readings end
 --     WholeFile          a whole file
+--     Counted            the count of evidence words is what acceptance reports
 pub mod Words
 pub mod Stands
 pub mod Yields

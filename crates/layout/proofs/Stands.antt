@@ -13,7 +13,7 @@ use Rattle.rules.specs.Words.{Word}
 use Rattle.layout.specs.Bytes.{wordCount, numberAt}
 use Rattle.layout.specs.Spelling.{encode, SpelledAt}
 use Rattle.layout.specs.EvidenceWords.{Part, joined, EachFits}
-use Rattle.layout.specs.Standing.{StandsTo, Stands, PartStands, Chain}
+use Rattle.layout.specs.Standing.{StandsTo, Stands, Chain}
 
 module _ (file : List ℕ) where
   pub stands-end : (at : ℕ) (l : List Word) (p : ℕ) → StandsTo file at l p → p ≡ at + length l

@@ -1,5 +1,6 @@
 -- How evidence stands in a file (document 01, "Layout" and "Rules"): its word, what it carries, then its children.
--- Working: laws in proofs/ say that the reader reads exactly what stands so in a file. Assumes nothing.
+-- Working: proofs/SpelledEvidence.antt and proofs/BackEvidence.antt: the reader reads exactly what stands so in a file.
+-- Assumes nothing.
 --     Part                                      a part of a file: its words, and that it fits at a place
 --     expressionPart, commandPart, setPart      what evidence carries
 --     joined, EachFits                          parts one after the other

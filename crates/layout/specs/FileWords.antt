@@ -1,5 +1,5 @@
 -- A whole file by its words (document 01, "Layout"): 63:n, the command, precondition, postcondition and flow evidence.
--- Working: laws in proofs/ say that the reader reads exactly what stands so in a file. Assumes nothing.
+-- Working: `file-spelled` and `file-back` of proofs/WholeFile: a file is read exactly when it stands so. Assumes nothing.
 --     fileParts      the parts that follow the first word
 --     FileSpelled    the file has these words and no more, the parts fit, and the places are where they start
 use mathlib.Core.Path.{_≡_}

@@ -9,6 +9,7 @@
 --     For             refusal 7
 --     File            refusals 1 to 7: a file as trees
 --     FileWords       how a whole file stands by its words
+--     Counted         the count of evidence words
 --     Verdict         refusals 1 to 9: the answer, and the parts of an accepted file
 pub mod Bytes
 pub mod Reading

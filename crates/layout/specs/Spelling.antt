@@ -1,10 +1,10 @@
 -- How expressions, commands and sets stand in a file (document 01, "Layout"): by their words, within the limits.
--- Working: laws in proofs/ say that the reader reads exactly what stands so in a file. Assumes nothing.
---     payloadOf, encode                          the payload of an integer; a word as a number
---     SpelledAt                                  words stand in a file one after the other, from a place on
---     FitsConstant, FitsExpression, FitsCommand  its depth is at most the levels given, its payloads are in range
---     memberWords, membersWords, setWords        the words of a set
---     FitsMembers, FitsSet                       the same of a set
+-- Working: proofs/Spelled.antt and proofs/Back.antt: the reader reads exactly what stands so in a file. Assumes nothing.
+--     payloadOf, encode                           the payload of an integer; a word as a number
+--     SpelledAt                                   words stand in a file one after the other, from a place on
+--     FitsConstant, FitsExpression, FitsCommand   its depth is at most the levels given, its payloads are in range
+--     memberWords, membersWords, setWords         the words of a set
+--     FitsMembers, FitsSet                        the same of a set
 use mathlib.Core.Path.{_≡_}
 use mathlib.Core.List.{List, [], _∷_, _++_}
 use Prim.Native.Nat.{ℕ, zero, suc, _+_, _*_, _-_, _<_, _≤_}

@@ -1,5 +1,6 @@
 -- Words and parts between two places of a file.
--- Working: laws in proofs/ say that the reader reads exactly what stands so in a file. Assumes nothing.
+-- Working: `stands-spelled` and `spelled-stands` of proofs/Stands: the same as `SpelledAt`, with the place past the words.
+-- Assumes nothing.
 --     StandsTo, Stands     words stand from a place up to another; with what is said to fit there
 --     PartStands, Chain    a part of a file stands there, with so many levels left; parts one after the other
 use mathlib.Core.Path.{_≡_}
