@@ -98,8 +98,8 @@ pub fn read_array(w: &[u32], at: usize, left: usize) -> Walk
     }
 }
 
-// An operand of a sort, from where the walk so far goes on. `is_leaf` tries its word first, so that one of a single word
-// goes no further into the cycle; the word of any other is decoded twice.
+// An operand of a sort, from where the walk so far goes on. `is_leaf` decodes its word: an operand of one word makes no
+// call of the cycle, and the first word of any other is decoded again by its reader.
 pub fn read_operand(sort: Sort, w: &[u32], from: Walk, left: usize) -> Walk
     ensures { λ r. ⌜ r ≡ onward from (λ p. walkOf (expression (now (w .entry)) left (sortMeant sort) p)) ⌝ }
 {
