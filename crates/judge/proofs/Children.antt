@@ -14,16 +14,15 @@ use Rattle.rules.specs.Context.{Limits}
 use Rattle.rules.specs.Judge.{Verdict, accepted, refused, _also_}
 use Rattle.layout.specs.EvidenceWords.{Node, FitsNode}
 use Rattle.goals.specs.declared.Goal.{Goal}
-use Rattle.goals.specs.declared.Goal.the-variants.{Nothing, Flow, Set, Pre}
+use Rattle.goals.specs.declared.Goal.the-variants.{Nothing}
 use Rattle.goals.specs.declared.Step.{Step}
 use Rattle.goals.specs.declared.Step.the-variants.{Stop, Go}
 use Rattle.goals.specs.declared.Judged.{Judged}
 use Rattle.goals.specs.declared.Judged.the-variants.{Accepted, Refused}
 use Rattle.goals.specs.Goals.{TreeGoal, verdict, GoalStands, nothing-stands, flow-stands, set-stands, pre-stands}
 use Rattle.goals.specs.Goals.{ChildrenOf, CanStep, StepOf, judgedOf, CanJudge, JudgedOf}
-use Rattle.judge.specs.Next.{CanGoOn, GoesOn}
+use Rattle.judge.specs.Next.{Due, CanGoOn, GoesOn}
 use Rattle.rules.proofs.Verdicts.{also-chain}
-use Rattle.judge.specs.Next.{Due}
 use Rattle.judge.proofs.Counts.{goal-counts, goal-inside, also-counts}
 
 node-level : (x : Node) (d at : ℕ) → FitsNode x d at → 1 ≤ d

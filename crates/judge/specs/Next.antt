@@ -1,5 +1,5 @@
 -- The next child of an evidence word, where those before it were accepted.
--- Working. Assumes nothing.
+-- Working: `judged-children` of proofs/Children makes the judge's own contract of them. Assumes nothing.
 --     Due                  a goal for which evidence is due
 --     CanGoOn, GoesOn      what judging the next child asks for and promises
 use mathlib.Core.Path.{_≡_}

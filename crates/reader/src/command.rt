@@ -1,4 +1,4 @@
-// Commands. The levels left fall.
+// Commands. The words left fall.
 use super::Due;
 use super::Sort;
 use super::Walk;

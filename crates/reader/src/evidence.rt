@@ -1,4 +1,5 @@
-// Evidence: the walk calls itself on children, and the levels left fall.
+// Evidence: the walk calls itself on children, and both the words left and the levels left fall (document 01, "Where to
+// use each form").
 use super::Due;
 use super::Limits;
 use super::Part;

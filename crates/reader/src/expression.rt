@@ -1,4 +1,4 @@
-// Expressions: a function for each sort, each calling on the others by way of `read_operand`. The levels left fall.
+// Expressions: a function for each sort, each calling on the others by way of `read_operand`. The words left fall.
 use super::Due;
 use super::Sort;
 use super::Walk;
@@ -98,7 +98,8 @@ pub fn read_array(w: &[u32], at: usize, left: usize) -> Walk
     }
 }
 
-// An operand of a sort, from where the walk so far goes on. One of a single word takes no call.
+// An operand of a sort, from where the walk so far goes on. `is_leaf` decodes its word: an operand of one word makes no
+// call of the cycle, and the first word of any other is decoded again by its reader.
 pub fn read_operand(sort: Sort, w: &[u32], from: Walk, left: usize) -> Walk
     ensures { λ r. ⌜ r ≡ onward from (λ p. walkOf (expression (now (w .entry)) left (sortMeant sort) p)) ⌝ }
 {

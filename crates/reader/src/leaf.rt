@@ -55,7 +55,7 @@ fn is_array_leaf(word: Word) -> bool
     }
 }
 
-// Whether the operand of a sort that is due at a place is one word.
+// Whether the operand of a sort that is due at a place is one word. The word is decoded for this alone.
 pub fn is_leaf(sort: Sort, w: &[u32], at: usize, left: usize) -> bool
     ensures { λ r. ⌜ r ≡ leafDue sort (dueOf (now (w .entry)) left at) ⌝ }
 {

@@ -11,7 +11,7 @@ ghost use mathlib.Core.Path.{_≡_};
 ghost use Rattle.layout.specs.Bytes.{kindAt};
 ghost use Rattle.layout.specs.Reading.{several};
 ghost use Rattle.layout.specs.Read.{sortOf, consequentAt, memberAt, set};
-ghost use Rattle.reader.specs.Walk.{walkOf, onward, limitsOf, sortMeant};
+ghost use Rattle.reader.specs.Walk.{walkOf, limitsOf, sortMeant};
 
 // The sort that a kind is of; a kind of no expression counts as arithmetic, whose reader refuses it.
 fn sort_of(kind: u32) -> Sort

@@ -1,4 +1,5 @@
--- The readers of commands meet their contracts: each goes by the word that is due, and the levels left fall.
+-- The readers of commands meet their contracts: each goes by the word that is due. The measure is the words left from the
+-- command on, twice; one more for a part.
 -- Assumes nothing.
 use borrow.Author.Needs.{needs}
 use native.Mathlib.Omega.{arith}
@@ -6,9 +7,9 @@ use mathlib.Core.Path.{refl, _∙_, ap}
 use Prim.Native.Nat.{ℕ, _<_, _+_, _*_}
 use Rattle.layout.specs.Read.{expression, command}
 use Rattle.words.specs.declared.Word.the-variants as Word
-use Rattle.reader.proofs.Walks.{room, onto, command-goes, stop, arm, none-arm}
+use Rattle.reader.proofs.Walks.{onto, command-goes, stop, arm, none-arm}
+use Rattle.reader.proofs.Forward.{wordsLeft, word-left, expression-left, command-left}
 use Rattle.reader.proofs.Rest.{not-command}
-use Prim.Native.Nat.{ℕ, _<_}
 use borrow.Fn.Kinds.{In}
 use borrow.Fn.PlainCycle.{Measures, is, falls, and}
 use Rattle.reader.proofs.command.read_body.Reads as read-body
@@ -27,10 +28,10 @@ use Rattle.reader.proofs.command.+read_body+read_command.{statement}
 use Rattle.reader.proofs.command.+read_body+read_command.Tie.{close}
 
 abbrev μ-read-body : Measures 1 read-body-kinds.ps ℕ
-μ-read-body κs a = 2 * a .1 .1 .0 + 1
+μ-read-body κs a = 2 * wordsLeft (a .0 .now) (a .1 .0) + 1
 
 abbrev μ-read-command : Measures 1 read-command-kinds.ps ℕ
-μ-read-command κs a = 2 * a .1 .1 .0
+μ-read-command κs a = 2 * wordsLeft (a .0 .now) (Next (a .1 .0))
 
 abbrev read-body-at : ℕ → In 1 read-body-kinds.ps
 read-body-at t = and 1 read-body-kinds.ps (is 1 read-body-kinds.ps μ-read-body t) read-body.Pre
@@ -59,7 +60,8 @@ pub +read-body+read-command-spec : {M : Type 1} → statement M
     (read-body-at t)
     read-body.Post
     (λ c. search needs)
-    (λ c κs. omega arith)
+    (λ c κs. let m = c .before in
+    let e = ap (wordsLeft (m .before .before .before .args .w .now)) (m .from .given .1) in omega arith)
     (λ c. search needs)
     (λ c. rw (c .before .before .from .given .1) (c .read-command .ensures))
     (λ c. rw (c .enum-told .given .1)))
@@ -87,12 +89,11 @@ pub +read-body+read-command-spec : {M : Type 1} → statement M
     (λ c. search needs)
     (λ c. search needs)
     (λ c κs. let m = c .before .before .before .before .before .before .before in
-    let a = m .before .before .before .before .args in
-    let h = room (a .w .now) (a .left) (a .at) (m .before .before .word-due .ensures) (m .d2 .given .1) in
+    let h = word-left _ _ _ (m .before .before .word-due .ensures) (m .d2 .given .1) in
     omega arith)
     (λ c κs. let m = c .before .before .before .before .before .before .before .before in
-    let a = m .before .before .before .before .args in
-    let h = room (a .w .now) (a .left) (a .at) (m .before .before .word-due .ensures) (m .d2 .given .1) in
+    let h = word-left _ _ _ (m .before .before .word-due .ensures) (m .d2 .given .1) in
+    let f = command-left h _ (c .read-body .ensures) in
     omega arith)
     (λ c. search needs)
     (λ c κs. search needs)
@@ -103,23 +104,23 @@ pub +read-body+read-command-spec : {M : Type 1} → statement M
     (λ c. search needs)
     (λ c κs. search needs)
     (λ c κs. let m = c .before .before .before .before .before .before .before .before in
-    let a = m .before .before .before .before .args in
-    let h = room (a .w .now) (a .left) (a .at) (m .before .before .word-due .ensures) (m .d2 .given .1) in
+    let h = word-left _ _ _ (m .before .before .word-due .ensures) (m .d2 .given .1) in
+    let f = expression-left h _ _ (c .read-operand2 .ensures) in
     omega arith)
     (λ c κs. let m = c .before .before .before .before .before .before .before .before .before in
-    let a = m .before .before .before .before .args in
-    let h = room (a .w .now) (a .left) (a .at) (m .before .before .word-due .ensures) (m .d2 .given .1) in
+    let h = word-left _ _ _ (m .before .before .word-due .ensures) (m .d2 .given .1) in
+    let f = expression-left h _ _ (c .before .read-operand2 .ensures) in
+    let g = command-left f _ (c .read-body3 .ensures) in
     omega arith)
     (λ c. search needs)
     (λ c κs. search needs)
     (λ c κs. let m = c .before .before .before .before .before .before .before .before in
-    let a = m .before .before .before .before .args in
-    let h = room (a .w .now) (a .left) (a .at) (m .before .before .word-due .ensures) (m .d2 .given .1) in
+    let h = word-left _ _ _ (m .before .before .word-due .ensures) (m .d2 .given .1) in
+    let f = expression-left h _ _ (c .read-operand3 .ensures) in
     omega arith)
     (λ c. search needs)
     (λ c κs. let m = c .before .before .before .before .before .before .before in
-    let a = m .before .before .before .before .args in
-    let h = room (a .w .now) (a .left) (a .at) (m .before .before .word-due .ensures) (m .d2 .given .1) in
+    let h = word-left _ _ _ (m .before .before .word-due .ensures) (m .d2 .given .1) in
     omega arith)
     (λ c. let m = c .before in
     let a = m .before .before .before .before .args in

@@ -1,17 +1,19 @@
--- The readers of evidence meet their contracts: each goes by the word that is due and by its rule's parts. The levels
--- left fall.
+-- The readers of evidence meet their contracts: each goes by the word that is due and by its rule's parts. The words left
+-- and the levels left both fall: the measure is their sum, three times; one more for a part, two more for all parts.
 -- Assumes nothing.
 use borrow.Author.Needs.{needs}
 use native.Mathlib.Omega.{arith}
+use mathlib.Core.Path.{ap}
 use Prim.Native.Nat.{ℕ, _<_, _+_, _*_}
 use Rattle.language.specs.Syntax.{Boolean}
 use Rattle.layout.specs.Read.{expression, command, set}
 use Rattle.layout.specs.ReadEvidence.{preEvidence, setEvidence, flowEvidence}
 use Rattle.reader.specs.Walk.{limitsOf}
+use Rattle.reader.specs.declared.Walk.the-variants.{Next}
 use Rattle.reader.proofs.Walks.{room, more, pre-goes, implication-goes, flow-goes, stop, arm, none-arm}
+use Rattle.reader.proofs.Forward.{wordsLeft, here-left, part-left}
 use Rattle.reader.proofs.Rest.{not-flow, not-implication, not-pre}
 use Rattle.reader.proofs.RuleParts.{pre-parts-walk, implication-parts-walk, flow-parts-walk}
-use Prim.Native.Nat.{ℕ, _<_}
 use borrow.Fn.Kinds.{In}
 use borrow.Fn.PlainCycle.{Measures, is, falls, and}
 use Rattle.reader.proofs.evidence.read_flow.Reads as read-flow
@@ -45,19 +47,19 @@ use Rattle.reader.proofs.evidence.+read_flow+read_part+read_parts+read_
 }
 
 abbrev μ-read-flow : Measures 1 read-flow-kinds.ps ℕ
-μ-read-flow κs a = 3 * a .1 .1 .1 .0
+μ-read-flow κs a = 3 * (wordsLeft (a .0 .now) (Next (a .1 .1 .0)) + a .1 .1 .1 .0)
 
 abbrev μ-read-part : Measures 1 read-part-kinds.ps ℕ
-μ-read-part κs a = 3 * a .1 .1 .1 .1 .0 + 1
+μ-read-part κs a = 3 * (wordsLeft (a .1 .0 .now) (a .1 .1 .1 .0) + a .1 .1 .1 .1 .0) + 1
 
 abbrev μ-read-parts : Measures 1 read-parts-kinds.ps ℕ
-μ-read-parts κs a = 3 * a .1 .1 .1 .1 .0 + 2
+μ-read-parts κs a = 3 * (wordsLeft (a .1 .0 .now) (Next (a .1 .1 .1 .0)) + a .1 .1 .1 .1 .0) + 2
 
 abbrev μ-read-pre : Measures 1 read-pre-kinds.ps ℕ
-μ-read-pre κs a = 3 * a .1 .1 .1 .0
+μ-read-pre κs a = 3 * (wordsLeft (a .0 .now) (Next (a .1 .1 .0)) + a .1 .1 .1 .0)
 
 abbrev μ-read-set-evidence : Measures 1 read-set-evidence-kinds.ps ℕ
-μ-read-set-evidence κs a = 3 * a .1 .1 .1 .0
+μ-read-set-evidence κs a = 3 * (wordsLeft (a .0 .now) (Next (a .1 .1 .0)) + a .1 .1 .1 .0)
 
 abbrev read-flow-at : ℕ → In 1 read-flow-kinds.ps
 read-flow-at t = and 1 read-flow-kinds.ps (is 1 read-flow-kinds.ps μ-read-flow t) read-flow.Pre
@@ -131,9 +133,7 @@ pub +read-flow+read-part+read-parts+read-pre+read-set-evidence-spec : {M : Type 
     (λ c. search needs)
     (λ c κs. search needs)
     (λ c κs. let m = c .before .before .before .before .before .before in
-    let a = m .before .before .before .before .args in
-    let h = room (a .w .now) (a .left) (a .at) (m .before .before .word-due .ensures) (m .d2 .given .1) in
-    omega arith)
+    let h = room _ _ _ (m .before .before .word-due .ensures) (m .d2 .given .1) in omega arith)
     (λ c. let m = c .before in
     let a = m .before .before .before .before .args in
     stop (flow-goes (a .w .now) (limitsOf (a .limits)) (a .left) (a .at)) (m .before .before .word-due .ensures)
@@ -178,11 +178,14 @@ pub +read-flow+read-part+read-parts+read-pre+read-set-evidence-spec : {M : Type 
     (λ c. search needs)
     (λ c κs. search needs)
     (λ c. search needs)
-    (λ c κs. omega arith)
+    (λ c κs. let m = c .before .before .before in
+    let e = ap (wordsLeft (m .before .before .before .args .w .now)) (m .from .given .1) in omega arith)
     (λ c. search needs)
-    (λ c κs. omega arith)
+    (λ c κs. let m = c .before .before .before in
+    let e = ap (wordsLeft (m .before .before .before .args .w .now)) (m .from .given .1) in omega arith)
     (λ c. search needs)
-    (λ c κs. omega arith)
+    (λ c κs. let m = c .before .before .before in
+    let e = ap (wordsLeft (m .before .before .before .args .w .now)) (m .from .given .1) in omega arith)
     (λ c. search needs)
     (λ c. rw (c .before .before .before .from .given .1, c .enum-told .given .1))
     (λ c. let m = c .before .before .before .before in
@@ -205,15 +208,61 @@ pub +read-flow+read-part+read-parts+read-pre+read-set-evidence-spec : {M : Type 
     (λ c. search needs)
     (λ c. search needs)
     (λ c κs. omega arith)
-    (λ c κs. omega arith)
-    (λ c κs. omega arith)
+    (λ c κs. let m = c .before .before in
+    let a = m .before .before .before .args in
+    let x = m .parts .given .0 in
+    let s = here-left (a .w .now) (a .at) in
+    let e = part-left (a .limits) (a .left) (x .0) s (c .read-part .ensures) in
+    omega arith)
+    (λ c κs. let m = c .before .before .before in
+    let a = m .before .before .before .args in
+    let x = m .parts .given .0 in
+    let s = here-left (a .w .now) (a .at) in
+    let e = part-left (a .limits) (a .left) (x .0) s (c .before .read-part .ensures) in
+    let f = part-left (a .limits) (a .left) (x .1 .0) e (c .read-part2 .ensures) in
+    omega arith)
     (λ c. search needs)
     (λ c κs. omega arith)
-    (λ c κs. omega arith)
-    (λ c κs. omega arith)
-    (λ c κs. omega arith)
-    (λ c κs. omega arith)
-    (λ c κs. omega arith)
+    (λ c κs. let m = c .before .before in
+    let a = m .before .before .before .args in
+    let x = m .parts2 .given .0 in
+    let s = here-left (a .w .now) (a .at) in
+    let e = part-left (a .limits) (a .left) (x .0) s (c .read-part4 .ensures) in
+    omega arith)
+    (λ c κs. let m = c .before .before .before in
+    let a = m .before .before .before .args in
+    let x = m .parts2 .given .0 in
+    let s = here-left (a .w .now) (a .at) in
+    let e = part-left (a .limits) (a .left) (x .0) s (c .before .read-part4 .ensures) in
+    let f = part-left (a .limits) (a .left) (x .1 .0) e (c .read-part5 .ensures) in
+    omega arith)
+    (λ c κs. let m = c .before .before .before .before in
+    let a = m .before .before .before .args in
+    let x = m .parts2 .given .0 in
+    let s = here-left (a .w .now) (a .at) in
+    let e = part-left (a .limits) (a .left) (x .0) s (c .before .before .read-part4 .ensures) in
+    let f = part-left (a .limits) (a .left) (x .1 .0) e (c .before .read-part5 .ensures) in
+    let g = part-left (a .limits) (a .left) (x .1 .1 .0) f (c .read-part6 .ensures) in
+    omega arith)
+    (λ c κs. let m = c .before .before .before .before .before in
+    let a = m .before .before .before .args in
+    let x = m .parts2 .given .0 in
+    let s = here-left (a .w .now) (a .at) in
+    let e = part-left (a .limits) (a .left) (x .0) s (c .before .before .before .read-part4 .ensures) in
+    let f = part-left (a .limits) (a .left) (x .1 .0) e (c .before .before .read-part5 .ensures) in
+    let g = part-left (a .limits) (a .left) (x .1 .1 .0) f (c .before .read-part6 .ensures) in
+    let h = part-left (a .limits) (a .left) (x .1 .1 .1 .0) g (c .read-part7 .ensures) in
+    omega arith)
+    (λ c κs. let m = c .before .before .before .before .before .before in
+    let a = m .before .before .before .args in
+    let x = m .parts2 .given .0 in
+    let s = here-left (a .w .now) (a .at) in
+    let e = part-left (a .limits) (a .left) (x .0) s (c .before .before .before .before .read-part4 .ensures) in
+    let f = part-left (a .limits) (a .left) (x .1 .0) e (c .before .before .before .read-part5 .ensures) in
+    let g = part-left (a .limits) (a .left) (x .1 .1 .0) f (c .before .before .read-part6 .ensures) in
+    let h = part-left (a .limits) (a .left) (x .1 .1 .1 .0) g (c .before .read-part7 .ensures) in
+    let i = part-left (a .limits) (a .left) (x .1 .1 .1 .1 .0) h (c .read-part8 .ensures) in
+    omega arith)
     (λ c. rw (c .enum-told .given .1))
     (λ c. rw (c .before .before .before .before .parts .given .1)
     (more _ (c .read-part3 .ensures)
@@ -245,9 +294,7 @@ pub +read-flow+read-part+read-parts+read-pre+read-set-evidence-spec : {M : Type 
     (λ c. search needs)
     (λ c κs. search needs)
     (λ c κs. let m = c .before .before .before .before .before .before in
-    let a = m .before .before .before .before .args in
-    let h = room (a .w .now) (a .left) (a .at) (m .before .before .word-due .ensures) (m .d2 .given .1) in
-    omega arith)
+    let h = room _ _ _ (m .before .before .word-due .ensures) (m .d2 .given .1) in omega arith)
     (λ c. let m = c .before in
     let a = m .before .before .before .before .args in
     stop (pre-goes (a .w .now) (a .left) (a .at)) (m .before .before .word-due .ensures)
@@ -286,9 +333,7 @@ pub +read-flow+read-part+read-parts+read-pre+read-set-evidence-spec : {M : Type 
     (λ c. search needs)
     (λ c κs. search needs)
     (λ c κs. let m = c .before .before .before .before .before .before in
-    let a = m .before .before .before .before .args in
-    let h = room (a .w .now) (a .left) (a .at) (m .before .before .word-due .ensures) (m .d2 .given .1) in
-    omega arith)
+    let h = room _ _ _ (m .before .before .word-due .ensures) (m .d2 .given .1) in omega arith)
     (λ c. let m = c .before in
     let a = m .before .before .before .before .args in
     stop (implication-goes (a .w .now) (limitsOf (a .limits)) (a .left) (a .at)) (m .before .before .word-due .ensures)

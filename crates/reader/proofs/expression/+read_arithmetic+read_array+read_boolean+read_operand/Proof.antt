@@ -1,4 +1,5 @@
--- The readers of the three sorts meet their contracts: each goes by the word that is due, and the levels left fall.
+-- The readers of the three sorts meet their contracts: each goes by the word that is due. The measure is the words left
+-- from the expression on, twice; one more for an operand.
 -- Assumes nothing.
 use borrow.Author.Needs.{needs}
 use native.Mathlib.Omega.{arith}
@@ -7,10 +8,11 @@ use Prim.Native.Nat.{ℕ, _<_, _+_, _*_}
 use Rattle.language.specs.Syntax as syntax
 use Rattle.layout.specs.Read.{expression}
 use Rattle.words.specs.declared.Word.the-variants as Word
-use Rattle.reader.proofs.Walks.{room, onto, expression-goes, stop, arm, none-arm}
+use Rattle.reader.proofs.Walks.{onto, expression-goes, stop, arm, none-arm}
+use Rattle.reader.proofs.Forward.{wordsLeft, word-left, expression-left}
 use Rattle.reader.proofs.Leaving.{leaf-walk}
+use Rattle.reader.specs.declared.Walk.the-variants.{Next}
 use Rattle.reader.proofs.Rest.{not-arithmetic, not-boolean, not-array}
-use Prim.Native.Nat.{ℕ, _<_}
 use borrow.Fn.Kinds.{In}
 use borrow.Fn.PlainCycle.{Measures, is, falls, and}
 use Rattle.reader.proofs.expression.read_arithmetic.Reads as read-arithmetic
@@ -38,16 +40,16 @@ use Rattle.reader.proofs.expression.+read_arithmetic+read_array+read_bo
 }
 
 abbrev μ-read-arithmetic : Measures 1 read-arithmetic-kinds.ps ℕ
-μ-read-arithmetic κs a = 2 * a .1 .1 .0
+μ-read-arithmetic κs a = 2 * wordsLeft (a .0 .now) (Next (a .1 .0))
 
 abbrev μ-read-array : Measures 1 read-array-kinds.ps ℕ
-μ-read-array κs a = 2 * a .1 .1 .0
+μ-read-array κs a = 2 * wordsLeft (a .0 .now) (Next (a .1 .0))
 
 abbrev μ-read-boolean : Measures 1 read-boolean-kinds.ps ℕ
-μ-read-boolean κs a = 2 * a .1 .1 .0
+μ-read-boolean κs a = 2 * wordsLeft (a .0 .now) (Next (a .1 .0))
 
 abbrev μ-read-operand : Measures 1 read-operand-kinds.ps ℕ
-μ-read-operand κs a = 2 * a .1 .1 .1 .0 + 1
+μ-read-operand κs a = 2 * wordsLeft (a .1 .0 .now) (a .1 .1 .0) + 1
 
 abbrev read-arithmetic-at : ℕ → In 1 read-arithmetic-kinds.ps
 read-arithmetic-at t =
@@ -123,21 +125,19 @@ pub +read-arithmetic+read-array+read-boolean+read-operand-spec : {M : Type 1} �
     (λ c. search needs)
     (λ c. search needs)
     (λ c κs. let m = c .before .before .before .before .before .before .before in
-    let a = m .before .before .before .before .args in
-    let h = room (a .w .now) (a .left) (a .at) (m .before .before .word-due .ensures) (m .d2 .given .1) in
+    let h = word-left _ _ _ (m .before .before .word-due .ensures) (m .d2 .given .1) in
     omega arith)
     (λ c κs. let m = c .before .before .before .before .before .before .before .before in
-    let a = m .before .before .before .before .args in
-    let h = room (a .w .now) (a .left) (a .at) (m .before .before .word-due .ensures) (m .d2 .given .1) in
+    let h = word-left _ _ _ (m .before .before .word-due .ensures) (m .d2 .given .1) in
+    let f = expression-left h _ _ (c .read-operand .ensures) in
     omega arith)
     (λ c. search needs)
     (λ c κs. let m = c .before .before .before .before .before .before .before in
-    let a = m .before .before .before .before .args in
-    let h = room (a .w .now) (a .left) (a .at) (m .before .before .word-due .ensures) (m .d2 .given .1) in
+    let h = word-left _ _ _ (m .before .before .word-due .ensures) (m .d2 .given .1) in
     omega arith)
     (λ c κs. let m = c .before .before .before .before .before .before .before .before in
-    let a = m .before .before .before .before .args in
-    let h = room (a .w .now) (a .left) (a .at) (m .before .before .word-due .ensures) (m .d2 .given .1) in
+    let h = word-left _ _ _ (m .before .before .word-due .ensures) (m .d2 .given .1) in
+    let f = expression-left h _ _ (c .read-operand3 .ensures) in
     omega arith)
     (λ c. let m = c .before in
     let a = m .before .before .before .before .args in
@@ -196,16 +196,16 @@ pub +read-arithmetic+read-array+read-boolean+read-operand-spec : {M : Type 1} �
     (λ c. search needs)
     (λ c. search needs)
     (λ c κs. let m = c .before .before .before .before .before .before .before in
-    let a = m .before .before .before .before .args in
-    let h = room (a .w .now) (a .left) (a .at) (m .before .before .word-due .ensures) (m .d2 .given .1) in
+    let h = word-left _ _ _ (m .before .before .word-due .ensures) (m .d2 .given .1) in
     omega arith)
     (λ c κs. let m = c .before .before .before .before .before .before .before .before in
-    let a = m .before .before .before .before .args in
-    let h = room (a .w .now) (a .left) (a .at) (m .before .before .word-due .ensures) (m .d2 .given .1) in
+    let h = word-left _ _ _ (m .before .before .word-due .ensures) (m .d2 .given .1) in
+    let f = expression-left h _ _ (c .read-operand .ensures) in
     omega arith)
     (λ c κs. let m = c .before .before .before .before .before .before .before .before .before in
-    let a = m .before .before .before .before .args in
-    let h = room (a .w .now) (a .left) (a .at) (m .before .before .word-due .ensures) (m .d2 .given .1) in
+    let h = word-left _ _ _ (m .before .before .word-due .ensures) (m .d2 .given .1) in
+    let f = expression-left h _ _ (c .before .read-operand .ensures) in
+    let g = expression-left f _ _ (c .read-operand2 .ensures) in
     omega arith)
     (λ c. let m = c .before in
     let a = m .before .before .before .before .args in
@@ -257,36 +257,32 @@ pub +read-arithmetic+read-array+read-boolean+read-operand-spec : {M : Type 1} �
     (λ c. search needs)
     (λ c. search needs)
     (λ c κs. let m = c .before .before .before .before .before .before .before in
-    let a = m .before .before .before .before .args in
-    let h = room (a .w .now) (a .left) (a .at) (m .before .before .word-due .ensures) (m .d2 .given .1) in
+    let h = word-left _ _ _ (m .before .before .word-due .ensures) (m .d2 .given .1) in
     omega arith)
     (λ c κs. let m = c .before .before .before .before .before .before .before .before in
-    let a = m .before .before .before .before .args in
-    let h = room (a .w .now) (a .left) (a .at) (m .before .before .word-due .ensures) (m .d2 .given .1) in
+    let h = word-left _ _ _ (m .before .before .word-due .ensures) (m .d2 .given .1) in
+    let f = expression-left h _ _ (c .read-operand .ensures) in
     omega arith)
     (λ c. search needs)
     (λ c. search needs)
     (λ c κs. let m = c .before .before .before .before .before .before .before in
-    let a = m .before .before .before .before .args in
-    let h = room (a .w .now) (a .left) (a .at) (m .before .before .word-due .ensures) (m .d2 .given .1) in
+    let h = word-left _ _ _ (m .before .before .word-due .ensures) (m .d2 .given .1) in
     omega arith)
     (λ c κs. let m = c .before .before .before .before .before .before .before .before in
-    let a = m .before .before .before .before .args in
-    let h = room (a .w .now) (a .left) (a .at) (m .before .before .word-due .ensures) (m .d2 .given .1) in
+    let h = word-left _ _ _ (m .before .before .word-due .ensures) (m .d2 .given .1) in
+    let f = expression-left h _ _ (c .read-operand3 .ensures) in
     omega arith)
     (λ c. search needs)
     (λ c κs. let m = c .before .before .before .before .before .before .before in
-    let a = m .before .before .before .before .args in
-    let h = room (a .w .now) (a .left) (a .at) (m .before .before .word-due .ensures) (m .d2 .given .1) in
+    let h = word-left _ _ _ (m .before .before .word-due .ensures) (m .d2 .given .1) in
     omega arith)
     (λ c κs. let m = c .before .before .before .before .before .before .before .before in
-    let a = m .before .before .before .before .args in
-    let h = room (a .w .now) (a .left) (a .at) (m .before .before .word-due .ensures) (m .d2 .given .1) in
+    let h = word-left _ _ _ (m .before .before .word-due .ensures) (m .d2 .given .1) in
+    let f = expression-left h _ _ (c .read-operand5 .ensures) in
     omega arith)
     (λ c. search needs)
     (λ c κs. let m = c .before .before .before .before .before .before .before in
-    let a = m .before .before .before .before .args in
-    let h = room (a .w .now) (a .left) (a .at) (m .before .before .word-due .ensures) (m .d2 .given .1) in
+    let h = word-left _ _ _ (m .before .before .word-due .ensures) (m .d2 .given .1) in
     omega arith)
     (λ c. let m = c .before in
     let a = m .before .before .before .before .args in
@@ -358,11 +354,14 @@ pub +read-arithmetic+read-array+read-boolean+read-operand-spec : {M : Type 1} �
     rw (leaf .before .before .from .given .1)
     (sym (leaf-walk _ _ _ _ (sym (leaf .is-leaf .ensures) ∙ c .if1 .taken) .past)))
     (λ c. search needs)
-    (λ c κs. omega arith)
+    (λ c κs. let m = c .before .before .before .before .before in
+    let e = ap (wordsLeft (m .before .before .before .args .w .now)) (m .from .given .1) in omega arith)
     (λ c. search needs)
-    (λ c κs. omega arith)
+    (λ c κs. let m = c .before .before .before .before .before in
+    let e = ap (wordsLeft (m .before .before .before .args .w .now)) (m .from .given .1) in omega arith)
     (λ c. search needs)
-    (λ c κs. omega arith)
+    (λ c κs. let m = c .before .before .before .before .before in
+    let e = ap (wordsLeft (m .before .before .before .args .w .now)) (m .from .given .1) in omega arith)
     (λ c. search needs)
     (λ c. let m = c .before .before .before .before .before .before in
     rw (m .from .given .1, c .before .enum-told .given .1) (c .read-arithmetic .ensures))
