@@ -1,4 +1,4 @@
-/* Runs a program whose input or output is troublesome:
+/* Runs a program whose reads or writes fail or are cut short:
  *     launch reset FILE PROGRAM...           standard input gives the bytes of FILE, and then a read fails
  *     launch pieces COUNT FILE PROGRAM...    standard input is a pipe that gives COUNT bytes of FILE at a read
  *     launch limit COUNT PROGRAM...          a file that is written holds COUNT bytes: the write that reaches them is cut short, the
