@@ -3,16 +3,21 @@
 --     decimal         a number in decimal digits, for numbers of up to 20 digits
 --     lineOf          the bytes of the line, with its end
 --     Written         the line of an answer stands in front of an array, in so many bytes
+--     LineFor         a line is that of the check's answer for a file
 use mathlib.Core.Path.{_≡_}
 use mathlib.Core.Bool.{true, false}
 use mathlib.Core.List.{List, [], _∷_, _++_}
 use Prim.Native.Nat.{ℕ, zero, suc, _+_, _/_, _%_, _≤_}
 use lib.Dec.{ltb}
 use lib.ListN.{length, take}
+use Rattle.rules.specs.Context.{standard}
+use Rattle.layout.specs.Verdict.{verdictOf}
+use Rattle.flow.specs.Checked.{answerOf}
 use Rattle.flow.specs.declared.Verdict.{Verdict}
 use Rattle.flow.specs.declared.Verdict.the-variants.{Accepted, Refused}
 
--- at most so many digits, the last one last; 48 is `0`
+-- at most so many digits, the last one last; 48 is `0`. The first case is for a number with more digits, and no number of an answer has
+-- more than 20: the code's are below 2^64, and `fewest-short` (proofs/Lines) says that 20 are then enough.
 unfoldable pub decimalBy : ℕ → ℕ → List ℕ
 decimalBy zero n = []
 decimalBy (suc k) n =
@@ -37,3 +42,7 @@ pub record Written (v : Verdict) (after : List ℕ) (r : ℕ) : Type 0 where
   pub inside : r ≤ length after
   pub count : r ≡ length (take r after)
   pub content : take r after ≡ lineOf v
+
+-- what the program asks wherever it writes
+abbrev pub LineFor : List ℕ → List ℕ → Type 0
+LineFor file line = line ≡ lineOf (answerOf (verdictOf standard file))
