@@ -1,5 +1,6 @@
 -- The runner over words, from refusal 1 to the run.
--- Working: proofs/Files.antt, `run-of`, ties it to the definition. Assumes nothing.
+-- Working: `run-of` of proofs/Files and `packed-run` of proofs/Small tie it to the definition's `runOf`. Assumes
+-- nothing.
 --     ranAt, refusedAt         the code's answer and the store then, as the definition's; a refusal before the run
 --     ranBy, RanBy             by what reading gives; what the functions promise
 --     CanReport, Reports       what a run came to

@@ -1,5 +1,5 @@
 -- Piles: the sets that the rules make of written ones, as lists of the numbers of their members.
--- Working: laws in proofs/Trees say that these are the sets that the rules name. Assumes nothing.
+-- Working: `pile-is` and `same-trees` of proofs/Trees say that these are the sets that the rules name. Assumes nothing.
 --     countAt, writtenSet            how many members a written set has; the numbers of its members
 --     pileNumbers, pilesNumbers      by pile; of three piles together
 --     SetAt, PileAt, PilesAt         what a pile names stands in the file
