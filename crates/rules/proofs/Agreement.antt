@@ -4,7 +4,7 @@
 --     agree-left, agree-right, agree-both     of two sets together
 --     agree-under, under-agree                of a set under a test
 --     agree-without                           of a set without another
---     agree-vacuous, agree-operands           sets 14 and 19
+--     agree-operands                          rule 19 of sets
 --     agree-replaced, agree-kept              after an assignment; where nothing is modified
 use mathlib.Core.Path.{_≡_, refl, sym, _∙_, ap, ap₂, subst, subst₂}
 use mathlib.Core.Bool.{Bool, true, false, not, _&&_, _||_, cond}

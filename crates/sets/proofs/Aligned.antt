@@ -1,8 +1,9 @@
 -- Members in the same order.
 -- Assumes nothing.
 --     aligns-not                                       where the test fails nothing is said
---     Aligning, aligning-start, -on, -end              the members of a seen set, one by one
---     one-aligned, of-pile-empty .. of-pile-without    one member; by pile
+--     Aligning, aligning-start, aligning-on, aligning-end
+--                                                      the members of a seen set, one by one
+--     one-aligned, of-pile-empty .. of-pile-set        one member; by pile
 --     aligned-not, aligned-is                          three piles, one after the other
 --     sameAll-self, same-found, same-not, same-last    two lists with the same elements
 use mathlib.Core.Path.{_≡_, refl, sym, ap, ap₂, subst, _∙_}

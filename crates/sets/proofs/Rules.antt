@@ -1,8 +1,8 @@
 -- The conditions of the rules on sets: each is a written set compared with piles.
 -- Assumes nothing.
---     can-same, set-does                    a written set and three piles, by trees
---     can-written, rule-written .. -union    the rules that compare sets
---     find-test, rule-test                  rule 13
+--     can-same, set-does                     a written set and three piles, by trees
+--     can-written .. rule-union              the rules that compare sets
+--     find-test, rule-test                   rule 13
 use mathlib.Core.Path.{_≡_, refl, sym, ap, ap₂, subst, _∙_}
 use mathlib.Core.Bool.{Bool, true}
 use mathlib.Core.List.{List, [], _∷_, _++_, append-nil}
