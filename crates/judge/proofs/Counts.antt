@@ -3,7 +3,7 @@
 --     goal-counts    with the evidence's first place, it is at most its end
 --     goal-inside    evidence that counts ends inside the file
 --     also-counts    the count so far, with the next goal's
-use mathlib.Core.Path.{_≡_}
+use mathlib.Core.Path.{_≡_, refl}
 use mathlib.Core.List.{List, _∷_}
 use Prim.Native.Nat.{ℕ, suc, _+_, _≤_}
 use native.Mathlib.Omega.{arith}
