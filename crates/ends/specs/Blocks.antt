@@ -9,7 +9,7 @@
 --     blockAt, Blocks      the mask of a block, in two halves; each whole block has its mask
 --     CanBlock, Blocked    room for the masks; what is left when they are written
 use mathlib.Core.Path.{_≡_}
-use mathlib.Core.Bool.{Bool, true, false, _||_, cond}
+use mathlib.Core.Bool.{Bool, false, _||_, cond}
 use mathlib.Core.List.{List}
 use mathlib.Core.Option.{Option, none, some}
 use Prim.Native.Nat.{ℕ, zero, suc, _+_, _*_, _/_, _%_, _^_, _<_, _≤_}

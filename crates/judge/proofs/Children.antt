@@ -14,7 +14,7 @@ use Rattle.rules.specs.Context.{Limits}
 use Rattle.rules.specs.Judge.{Verdict, accepted, refused, _also_}
 use Rattle.layout.specs.EvidenceWords.{Node, FitsNode}
 use Rattle.goals.specs.declared.Goal.{Goal}
-use Rattle.goals.specs.declared.Goal.the-variants.{Nothing, Flow, Set, Pre}
+use Rattle.goals.specs.declared.Goal.the-variants.{Nothing}
 use Rattle.goals.specs.declared.Step.{Step}
 use Rattle.goals.specs.declared.Step.the-variants.{Stop, Go}
 use Rattle.goals.specs.declared.Judged.{Judged}

@@ -14,8 +14,8 @@ use Prim.Native.Nat.{ℕ}
 use Rattle.language.specs.Syntax.{Boolean, Expr, truth, neg, Assignment}
 use Rattle.rules.specs.Assertion.{Members, member, one}
 use Rattle.rules.specs.Replace.{replacement, replaceMembers}
-use Rattle.rules.specs.Sets.{under, without}
-use Rattle.rules.specs.Tests.{stands, within, same}
+use Rattle.rules.specs.Sets.{under}
+use Rattle.rules.specs.Tests.{stands, same}
 use Rattle.ends.specs.Ends.{EndsOf}
 use Rattle.compare.specs.declared.cursor.Put.{Put}
 use Rattle.sets.specs.Trees.{ExpressionStands, SetStands, PutStands, HasExpression, HasSet, HasPut}

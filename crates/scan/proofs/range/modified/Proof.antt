@@ -1,6 +1,5 @@
 -- `scan::range::modified` meets its contract: the words assign what the command modifies.
 -- Assumes nothing.
-use borrow.Author.Needs.{needs}
 use Rattle.scan.proofs.Trees.{modified-tree}
 use Rattle.scan.proofs.range.modified.Statement.{statement}
 use Rattle.scan.proofs.range.modified.Tie as tie

@@ -1,9 +1,8 @@
 -- `sets::align::align_one` meets its contract.
 -- Assumes nothing.
 use mathlib.Core.Path.{refl}
-use borrow.Author.Needs.{needs}
 use native.Mathlib.Omega.{arith}
-use borrow.Author.Tests.{not-true, not-false}
+use borrow.Author.Tests.{not-false}
 use Rattle.sets.proofs.Members.{member-pass}
 use Rattle.sets.proofs.Loops.{pair-at}
 use Rattle.sets.proofs.Aligned.{aligns-not, first-member, one-aligned}

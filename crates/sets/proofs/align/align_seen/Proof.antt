@@ -3,7 +3,7 @@
 use mathlib.Core.Path.{refl}
 use borrow.Author.Needs.{needs}
 use native.Mathlib.Omega.{arith}
-use borrow.Author.Tests.{not-true, not-false}
+use borrow.Author.Tests.{not-false}
 use Rattle.sets.proofs.Members.{member-pass}
 use Rattle.sets.proofs.Loops.{seen-at}
 use Rattle.sets.proofs.Aligned.{Aligning, aligning-start, aligning-on, aligning-end, aligns-not, first-member, part-first}

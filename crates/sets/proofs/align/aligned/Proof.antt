@@ -1,7 +1,6 @@
 -- `sets::align::aligned` meets its contract, one pile after the other.
 -- Assumes nothing.
-use borrow.Author.Needs.{needs}
-use borrow.Author.Tests.{not-true, not-false}
+use borrow.Author.Tests.{not-false}
 use Rattle.sets.proofs.Aligned.{aligned-not, aligned-is}
 use Rattle.sets.proofs.align.aligned.Statement.{statement}
 use Rattle.sets.proofs.align.aligned.Tie as tie

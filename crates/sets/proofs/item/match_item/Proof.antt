@@ -2,7 +2,7 @@
 -- Assumes nothing.
 use borrow.Author.Needs.{needs}
 use Rattle.compare.proofs.Exchange.{any-listed}
-use Rattle.sets.proofs.Members.{antecedent-any, consequent-any, any-within, member-inside, member-pass}
+use Rattle.sets.proofs.Members.{any-within}
 use Rattle.sets.proofs.Items.{item-seen, item-pair, item-certain, pair-matched, certain-matched, of-item, of-seen}
 use Rattle.sets.proofs.item.match_item.Statement.{statement}
 use Rattle.sets.proofs.item.match_item.Tie as tie

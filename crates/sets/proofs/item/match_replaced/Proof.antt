@@ -1,8 +1,7 @@
 -- `sets::item::match_replaced` meets its contract: the antecedent, then the consequent.
 -- Assumes nothing.
-use borrow.Author.Needs.{needs}
 use Rattle.compare.proofs.Exchange.{any-listed}
-use Rattle.sets.proofs.Members.{antecedent-any, consequent-any, any-within, member-inside, member-pass}
+use Rattle.sets.proofs.Members.{antecedent-any, consequent-any}
 use Rattle.sets.proofs.Items.{replaced-matched}
 use Rattle.sets.proofs.item.match_replaced.Statement.{statement}
 use Rattle.sets.proofs.item.match_replaced.Tie as tie

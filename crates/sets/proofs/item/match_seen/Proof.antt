@@ -2,7 +2,7 @@
 -- Assumes nothing.
 use borrow.Author.Needs.{needs}
 use native.Mathlib.Omega.{arith}
-use Rattle.sets.proofs.Members.{antecedent-any, consequent-any, any-within, member-inside, member-pass}
+use Rattle.sets.proofs.Members.{member-inside, member-pass}
 use Rattle.sets.proofs.Items.{see-under, see-unless, see-replaced, seen-plain, seen-under, seen-unless, seen-replaced}
 use Rattle.sets.proofs.item.match_seen.Statement.{statement}
 use Rattle.sets.proofs.item.match_seen.Tie as tie

@@ -2,7 +2,7 @@
 -- Assumes nothing.
 use borrow.Author.Needs.{needs}
 use Rattle.compare.proofs.Exchange.{any-listed}
-use Rattle.sets.proofs.Members.{antecedent-any, consequent-any, any-within, member-inside, member-pass}
+use Rattle.sets.proofs.Members.{antecedent-any, consequent-any, any-within}
 use Rattle.sets.proofs.Items.{under-matched}
 use Rattle.sets.proofs.item.match_under.Statement.{statement}
 use Rattle.sets.proofs.item.match_under.Tie as tie

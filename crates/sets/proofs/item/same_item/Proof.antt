@@ -1,8 +1,7 @@
 -- `sets::item::same_item` meets its contract: a cursor that reaches the member's end has passed the same words.
 -- Assumes nothing.
-use borrow.Author.Needs.{needs}
 use borrow.Author.Tests.{not-true, not-false}
-use Rattle.sets.proofs.Members.{antecedent-any, consequent-any, any-within, member-inside, member-pass}
+use Rattle.sets.proofs.Members.{member-inside, member-pass}
 use Rattle.sets.proofs.Equal.{item-lost, item-end}
 use Rattle.sets.proofs.item.same_item.Statement.{statement}
 use Rattle.sets.proofs.item.same_item.Tie as tie

@@ -1,7 +1,5 @@
 -- `sets::member::has_either` meets its contract.
 -- Assumes nothing.
-use mathlib.Core.Path.{_≡_, refl, sym, _∙_}
-use borrow.Author.Needs.{needs}
 use Rattle.sets.proofs.Loops.{plain-at, either-first, either-second}
 use Rattle.sets.proofs.member.has_either.Statement.{statement}
 use Rattle.sets.proofs.member.has_either.Tie as tie

@@ -1,9 +1,8 @@
 -- `sets::member::has_item` meets its contract. The invariant: the item is one of all the members exactly if it is one of those that are left.
 -- Assumes nothing.
-use mathlib.Core.Path.{_≡_, refl, sym, _∙_}
 use borrow.Author.Needs.{needs}
-use Rattle.sets.specs.Items.{pastMember, seenAs, itemNumbers, sameNumbers}
-use Rattle.sets.specs.Lists.{seenAll, written, standsIn, withinAll, withoutAll}
+use Rattle.sets.specs.Items.{itemNumbers}
+use Rattle.sets.specs.Lists.{standsIn}
 use Rattle.sets.proofs.Members.{member-pass}
 use Rattle.sets.specs.declared.item.View.the-variants.{Plain}
 use Rattle.sets.proofs.Loops.{Left, left-start, left-first, left-stop, left-on, left-end, stands-found, stands-skip, item-sym, end-stands}

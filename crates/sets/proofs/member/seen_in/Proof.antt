@@ -1,9 +1,7 @@
 -- `sets::member::seen_in` meets its contract. The invariant: each of all is there exactly if each of those that are left is.
 -- Assumes nothing.
-use mathlib.Core.Path.{_≡_, refl, sym, _∙_}
 use borrow.Author.Needs.{needs}
-use Rattle.sets.specs.Items.{pastMember, seenAs, itemNumbers, sameNumbers}
-use Rattle.sets.specs.Lists.{seenAll, written, standsIn, withinAll, withoutAll}
+use Rattle.sets.specs.Lists.{written, withinAll}
 use Rattle.sets.proofs.Members.{member-pass}
 use borrow.Author.Tests.{not-true, not-false}
 use Rattle.sets.proofs.Loops.{Left, left-start, left-first, left-stop, left-on, left-end, within-stop, within-skip, seen-at, has-seen, end-within}

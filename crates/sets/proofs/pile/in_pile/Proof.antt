@@ -2,10 +2,10 @@
 -- Assumes nothing.
 use borrow.Author.Needs.{needs}
 use native.Mathlib.Omega.{arith}
-use Rattle.sets.specs.Lists.{standsIn, withinAll}
+use Rattle.sets.specs.Lists.{standsIn}
 use Rattle.sets.proofs.Loops.{pair-at}
 use Rattle.sets.proofs.Piles.{pile-one, pile-set, pile-without, set-members}
-use Rattle.sets.proofs.Piles.{of-empty, of-one, of-set, of-without, stands-one, stands-none, heldBy}
+use Rattle.sets.proofs.Piles.{of-empty, of-one, of-set, of-without, stands-one, stands-none}
 use Rattle.sets.proofs.pile.in_pile.Statement.{statement}
 use Rattle.sets.proofs.pile.in_pile.Tie as tie
 

@@ -1,7 +1,5 @@
 -- `sets::pile::in_piles` meets its contract, one pile after the other.
 -- Assumes nothing.
-use borrow.Author.Needs.{needs}
-use borrow.Author.Tests.{not-true, not-false}
 use Rattle.sets.proofs.Piles.{any-first, any-second, any-third}
 use Rattle.sets.proofs.pile.in_piles.Statement.{statement}
 use Rattle.sets.proofs.pile.in_piles.Tie as tie

@@ -2,7 +2,6 @@
 -- Assumes nothing.
 use borrow.Author.Needs.{needs}
 use native.Mathlib.Omega.{arith}
-use Rattle.sets.specs.Lists.{standsIn, withinAll}
 use Rattle.sets.proofs.Loops.{pair-at}
 use Rattle.sets.proofs.Piles.{pile-one, pile-set, pile-without, set-members}
 use Rattle.sets.proofs.Piles.{of-empty, of-one, of-set, of-without, within-one, within-none, heldBy}

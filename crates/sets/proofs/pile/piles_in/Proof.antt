@@ -1,6 +1,5 @@
 -- `sets::pile::piles_in` meets its contract, one pile after the other.
 -- Assumes nothing.
-use borrow.Author.Needs.{needs}
 use borrow.Author.Tests.{not-true, not-false}
 use Rattle.sets.proofs.Piles.{all-first, all-second, all-third}
 use Rattle.sets.proofs.pile.piles_in.Statement.{statement}

@@ -1,6 +1,5 @@
 -- `sets::pile::set_in` meets its contract. The invariant: each of all stands in the piles exactly if each of those that are left does.
 -- Assumes nothing.
-use mathlib.Core.Path.{_≡_}
 use borrow.Author.Needs.{needs}
 use borrow.Author.Tests.{not-true, not-false}
 use Rattle.sets.specs.Lists.{withinAll}

@@ -1,7 +1,6 @@
 -- `sets::set::same_members` meets its contract: in the same order, or each of the one in the other.
 -- Assumes nothing.
 use mathlib.Core.Path.{refl}
-use borrow.Author.Needs.{needs}
 use native.Mathlib.Omega.{arith}
 use borrow.Author.Tests.{not-true, not-false}
 use Rattle.sets.proofs.Piles.{set-members}
