@@ -198,7 +198,8 @@ module _ {file ends : List ℕ} (ends-of : EndsOf file ends) where
           | inr v ↦ elim v [ inl y ↦ y .1 | inr y ↦ let z = y .0 in absurd (omega arith) ]
         ]
 
-    pub boolean-two : ExpressionAt file ends Boolean at → (kindAt file at ≡ 9 → ⊥) → (kindAt file at ≡ 12 → ⊥) → Chained file ends 2 (at + 1) (endAt ends at)
+    pub boolean-two : ExpressionAt file ends Boolean at → (kindAt file at ≡ 9 → ⊥) → (kindAt file at ≡ 12 → ⊥) →
+        Chained file ends 2 (at + 1) (endAt ends at)
     boolean-two x f g =
         elim (boolean-at x) [
           | inl y ↦ absurd (f (y .0))

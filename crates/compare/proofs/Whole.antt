@@ -41,7 +41,9 @@ module _ (file : List ℕ) where
         record {
           past = omega arith;
           within = p .within;
-          same = between-first file at (r .at) (omega arith) (p .within) ∙ ap (λ z. z ∷ between file (at + 1) (r .at)) here ∙ ap (λ z. x ∷ z) (p .same);
+          same =
+              between-first file at (r .at) (omega arith) (p .within) ∙ ap (λ z. z ∷ between file (at + 1) (r .at)) here
+              ∙ ap (λ z. x ∷ z) (p .same);
         }
     step false e h =
         clash h (sym (ap (λ (m : Match). m .same) (matched-lost file (cursor false at) l refl)))

@@ -5,4 +5,7 @@ use Rattle.scan.proofs.range.modified.Statement.{statement}
 use Rattle.scan.proofs.range.modified.Tie as tie
 
 pub modified-spec : {M : Type 1} → statement M
-modified-spec = tie.close (tie.spec (λ c κs. (c .before .before .pre .0 .blocks, c .before .before .pre .1)) (λ c. modified-tree _ (c .marks-between .ensures)))
+modified-spec =
+    tie.close
+    (tie.spec (λ c κs. (c .before .before .pre .0 .blocks, c .before .before .pre .1))
+    (λ c. modified-tree _ (c .marks-between .ensures)))

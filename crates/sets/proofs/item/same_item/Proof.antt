@@ -12,5 +12,12 @@ same-item-spec =
     (tie.spec
     (λ c κs. let s = c .before .before in let p = s .pre in member-pass (p .ends-of) (p .member))
     (λ c κs. let s = c .before .before .before in let p = s .pre in record { ends-of = p .ends-of; item-at = p .item-at })
-    (λ c. let s = c .before .before .before .before .before in let p = s .pre in item-lost _ _ _ _ _ (member-inside (p .member)) (c .before .match-item .ensures) (not-true _ (c .if1 .taken)))
-    (λ c. let s = c .before .before .before .before .before in let p = s .pre in item-end _ _ _ _ _ (member-inside (p .member)) (c .before .match-item .ensures) (c .before .before .past-member .ensures) (not-false _ (c .if1 .left))))
+    (λ c.
+    let s = c .before .before .before .before .before in
+    let p = s .pre in
+    item-lost _ _ _ _ _ (member-inside (p .member)) (c .before .match-item .ensures) (not-true _ (c .if1 .taken)))
+    (λ c.
+    let s = c .before .before .before .before .before in
+    let p = s .pre in
+    item-end _ _ _ _ _ (member-inside (p .member)) (c .before .match-item .ensures)
+    (c .before .before .past-member .ensures) (not-false _ (c .if1 .left))))
