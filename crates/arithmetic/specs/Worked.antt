@@ -1,5 +1,6 @@
 -- What the arithmetic answers, as outcomes of the runner's definition.
--- Working. Assumes nothing.
+-- Working: `operation-worked`, `select-worked` and `update-filled` of evaluate/proofs/Results tie outcomes to the
+-- definition's `evaluate`; `mul-in` and `mul-out` of proofs/Signed tie `mostOf` to the range. Assumes nothing.
 --     outcome, indexOutcome    a value or a stop, an index or a stop
 --     checked                  a value in the signed 64-bit range, or refusal 14
 --     mostOf                   the largest size of a product in range, by the factors' signs

@@ -3,17 +3,15 @@
 --     same-bits, no-difference              where no bit differs
 --     equal-none, equal-four, equal-more    none; four, one by one; some and four more
 --     equal-matched                         a cursor passes words that are equal to those asked for
-use mathlib.Core.Path.{_≡_, refl, sym, ap, ap₂, subst, _∙_}
-use mathlib.Core.Bool.{true}
+use mathlib.Core.Path.{_≡_, refl, sym, ap, ap₂, _∙_}
 use mathlib.Core.List.{List}
-use mathlib.Core.Logic.{_⊎_, inl, inr}
 use Prim.Native.Nat.{ℕ, zero, suc, _+_, _-_, _<_, _≤_}
 use native.Mathlib.Omega.{arith}
 use native.Mathlib.Decide.{decLt}
 use lib.Bits.{bitOr, bitXor, and-le-l, and-le-r, or-add-and, xor-add-and}
 use lib.ListN.{length, getD}
 use Rattle.compare.specs.Matching.{matchAt, between, matched}
-use Rattle.compare.specs.EqualWords.{EqualWords, EqualCount, Room}
+use Rattle.compare.specs.EqualWords.{EqualWords}
 use Rattle.compare.proofs.Matching.{word-here, range-step}
 
 pub same-bits : (a b : ℕ) → bitXor a b ≡ 0 → a ≡ b

@@ -6,7 +6,7 @@
 --     can-first, can-second, can-third                         its operands can be matched, and lie further on
 use mathlib.Core.Path.{_≡_, refl, sym, ap, subst, _∙_}
 use mathlib.Core.List.{List, [], _∷_, _++_, append-assoc, append-nil}
-use Prim.Native.Nat.{ℕ, suc, _+_, _-_, _<_, _≤_}
+use Prim.Native.Nat.{ℕ, _+_, _-_, _<_, _≤_}
 use native.Mathlib.Omega.{arith}
 use lib.ListN.{length, getD}
 use Rattle.language.specs.Syntax.{Sort}
@@ -17,7 +17,7 @@ use Rattle.compare.specs.declared.cursor.Match.{Match}
 use Rattle.compare.specs.declared.cursor.Put.{Put}
 use Rattle.compare.proofs.Ranges.{between-none, between-first, between-join}
 use Rattle.compare.proofs.Matching.{matched-append}
-use Rattle.compare.proofs.Operands.{Inside, expression-inside}
+use Rattle.compare.proofs.Operands.{expression-inside}
 
 module _ (file : List ℕ) (put : Put) where
   pub exchanged-append : (k l : List ℕ) → exchanged file put (k ++ l) ≡ exchanged file put k ++ exchanged file put l

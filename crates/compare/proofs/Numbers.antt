@@ -7,10 +7,8 @@
 use mathlib.Core.Path.{_≡_, refl, sym, ap, ap₂, _∙_}
 use mathlib.Core.Bool.{Bool, true, false}
 use mathlib.Core.List.{List, [], _∷_, _++_, head-eq-of-cons-eq, tail-eq-of-cons-eq, cons≢nil, nil≢cons}
-use Prim.Native.Nat.{ℕ, zero, suc, _+_, _*_, _<_, _≤_}
+use Prim.Native.Nat.{ℕ, zero, suc, _+_, _≤_}
 use native.Mathlib.Omega.{arith}
-use lib.IntN.{ℤ, pos}
-use lib.ListN.{length, getD}
 use Rattle.language.specs.Syntax.{Operator, plus, minus, times, Comparison, equal, less, atMost, Sort, Expr, constant}
 use Rattle.language.specs.Syntax.{scalar, operation, select, compare, truth, and, or, neg, array, zeros, update}
 use Rattle.rules.specs.Words.{Word, word, forWord, words, operatorPayload, comparisonPayload, truthPayload}

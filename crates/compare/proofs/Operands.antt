@@ -5,22 +5,22 @@
 --     boolean-none, boolean-one, boolean-two
 --     array-none, array-three
 --     arithmetic-kind, boolean-kind, array-kind        which sort a kind belongs to
-use mathlib.Core.Path.{_≡_, refl, sym, ap, subst, _∙_}
+use mathlib.Core.Path.{_≡_, refl, sym, subst}
 use mathlib.Core.List.{List, [], _∷_, _++_}
 use Prim.Native.Nat.{ℕ, zero, suc, _+_, _<_, _≤_}
 use native.Mathlib.Omega.{arith}
-use lib.IntN.{ℤ, pos}
-use lib.ListN.{length, length-append}
+use lib.IntN.{pos}
+use lib.ListN.{length}
 use Rattle.language.specs.Syntax.{Operator, plus, minus, times, Comparison, equal, less, atMost, Sort, Arithmetic, Boolean, Array}
 use Rattle.language.specs.Syntax.{Expr, constant, scalar, operation, select, compare, truth, and, or, neg, array, zeros, update}
 use mathlib.Core.Bool.{Bool, true, false}
 use mathlib.Core.Logic.{_⊎_, inl, inr}
 use Rattle.rules.specs.Words.{Word, word, words, operatorPayload, comparisonPayload, truthPayload}
-use Rattle.layout.specs.Bytes.{numberAt, kindAt}
-use Rattle.layout.specs.Spelling.{encode, payloadOf, FitsExpression}
+use Rattle.layout.specs.Bytes.{kindAt}
+use Rattle.layout.specs.Spelling.{payloadOf, FitsExpression}
 use Rattle.layout.specs.EvidenceWords.{expressionPart}
-use Rattle.layout.specs.Standing.{StandsTo, Stands, PartStands}
-use Rattle.layout.proofs.Stands.{stands-end, parted}
+use Rattle.layout.specs.Standing.{StandsTo, PartStands}
+use Rattle.layout.proofs.Stands.{parted}
 use Rattle.layout.proofs.Words.{kind-of-word, payload-small}
 use Rattle.ends.specs.Ends.{EndsOf}
 use Rattle.compare.specs.Places.{endAt, ExpressionTo, ExpressionAt, AnyAt, Chained}
@@ -198,7 +198,8 @@ module _ {file ends : List ℕ} (ends-of : EndsOf file ends) where
           | inr v ↦ elim v [ inl y ↦ y .1 | inr y ↦ let z = y .0 in absurd (omega arith) ]
         ]
 
-    pub boolean-two : ExpressionAt file ends Boolean at → (kindAt file at ≡ 9 → ⊥) → (kindAt file at ≡ 12 → ⊥) → Chained file ends 2 (at + 1) (endAt ends at)
+    pub boolean-two : ExpressionAt file ends Boolean at → (kindAt file at ≡ 9 → ⊥) → (kindAt file at ≡ 12 → ⊥) →
+        Chained file ends 2 (at + 1) (endAt ends at)
     boolean-two x f g =
         elim (boolean-at x) [
           | inl y ↦ absurd (f (y .0))

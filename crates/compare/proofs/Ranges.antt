@@ -2,13 +2,13 @@
 -- Assumes nothing.
 --     between-none, between-first    none, the first and the others
 --     between-join                   up to a place and from there on
-use mathlib.Core.Path.{_≡_, refl, sym, ap, _∙_}
+use mathlib.Core.Path.{_≡_, ap}
 use mathlib.Core.List.{List, [], _∷_, _++_}
 use Prim.Native.Nat.{ℕ, zero, suc, _+_, _-_, _<_, _≤_}
 use native.Mathlib.Numerals.{add-one}
 use native.Mathlib.Omega.{arith}
-use lib.ListN.{length, getD, take, drop, length-take, drop-of-length-le}
-use lib.Seq.{slice, slice-cons}
+use lib.ListN.{length, getD, take, length-take, drop-of-length-le}
+use lib.Seq.{slice-cons}
 use Rattle.compare.specs.Matching.{between}
 
 module _ (file : List ℕ) where

@@ -7,17 +7,16 @@
 use mathlib.Core.Path.{_≡_, refl, sym, ap, ap₂, _∙_}
 use mathlib.Core.Bool.{Bool, true, false, cond}
 use mathlib.Core.List.{List, [], _∷_, _++_, append-nil}
-use Prim.Native.Nat.{ℕ, zero, suc, _+_, _*_, _<_, _≤_}
+use Prim.Native.Nat.{ℕ, zero, suc, _+_, _*_, _≤_}
 use native.Mathlib.Omega.{arith}
 use borrow.Author.Tests.{eqb-true, eqb-false, eq-eqb, ne-eqb}
 use lib.Dec.{eqb}
 use lib.IntN.{ℤ, pos}
-use lib.ListN.{length}
-use Rattle.language.specs.Syntax.{Operator, Comparison, Sort, Arithmetic, Array, Expr, constant, scalar, operation, select}
+use Rattle.language.specs.Syntax.{Sort, Arithmetic, Array, Expr, constant, scalar, operation, select}
 use Rattle.language.specs.Syntax.{compare, truth, and, or, neg, array, zeros, update, toScalar, toArray}
 use Rattle.rules.specs.Words.{Word, word, words, operatorPayload, comparisonPayload, truthPayload}
 use Rattle.rules.specs.Replace.{Replacement, replacement, replace}
-use Rattle.layout.specs.Spelling.{encode, payloadOf, FitsConstant, FitsExpression}
+use Rattle.layout.specs.Spelling.{encode, FitsConstant, FitsExpression}
 use Rattle.layout.proofs.Words.{payload-small}
 use Rattle.compare.specs.Matching.{between, numbers, putFor, exchanged}
 use Rattle.compare.specs.declared.cursor.Put.{Put}

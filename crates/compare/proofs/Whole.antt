@@ -2,9 +2,9 @@
 -- Assumes nothing.
 --     whole-sound, whole-complete    numbers that lead a cursor from one place to another are those between them, and back
 use mathlib.Core.Path.{_≡_, refl, sym, ap, subst, _∙_}
-use mathlib.Core.Bool.{Bool, true, false, _&&_, cond, false≢true}
+use mathlib.Core.Bool.{Bool, true, false, _&&_, cond}
 use mathlib.Core.List.{List, [], _∷_}
-use Prim.Native.Nat.{ℕ, zero, suc, _+_, _-_, _<_, _≤_}
+use Prim.Native.Nat.{ℕ, zero, suc, _+_, _-_, _≤_}
 use native.Mathlib.Omega.{arith}
 use borrow.Author.Tests.{ltb-true, eqb-true}
 use lib.Dec.{eqb, ltb}
@@ -41,7 +41,9 @@ module _ (file : List ℕ) where
         record {
           past = omega arith;
           within = p .within;
-          same = between-first file at (r .at) (omega arith) (p .within) ∙ ap (λ z. z ∷ between file (at + 1) (r .at)) here ∙ ap (λ z. x ∷ z) (p .same);
+          same =
+              between-first file at (r .at) (omega arith) (p .within) ∙ ap (λ z. z ∷ between file (at + 1) (r .at)) here
+              ∙ ap (λ z. x ∷ z) (p .same);
         }
     step false e h =
         clash h (sym (ap (λ (m : Match). m .same) (matched-lost file (cursor false at) l refl)))

@@ -1,5 +1,5 @@
 -- Words of a file that are equal from two places on.
--- Working. Assumes nothing.
+-- Working: `equal-matched` of proofs/EqualWords says that a cursor passes words that are equal so. Assumes nothing.
 --     Room          so many words stand from both places on
 --     EqualWords    so many words from one place on are those from another on
 --     EqualCount    the answer of a scan for such words: a number of them, not over a count

@@ -1,5 +1,7 @@
 -- Numbers matched along a file from a place on, also with others in the place of a word (document 01 compares by words).
--- Working: `matched-all` and `exchanged-replace` in proofs/ say when all of a tree's numbers are matched. Assumes nothing.
+-- Working: `whole-sound` and `whole-complete` of proofs/Whole say which numbers a cursor passes, `numbers-words` of
+-- proofs/Numbers that numbers tell their words, `replaces` of proofs/Replaced that the exchanged numbers of an
+-- expression are those of the replaced one. Assumes nothing.
 --     numbers, between        the numbers of words; of a file from a place up to another
 --     matchAt                 a cursor at a place, nothing missing so far
 --     matchedWord, matched    a cursor after one number, after a list of them

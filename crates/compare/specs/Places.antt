@@ -1,5 +1,6 @@
 -- An expression stands at a place of a file, and its end is in the list of ends.
--- Working. Assumes nothing.
+-- Working: `expression-is` of sets/proofs/Trees says that an expression that stands in the file stands so, with its own
+-- numbers; `replaced-at` of pre_rules/proofs/Assertions ties what is matched to the rules' `replace`. Assumes nothing.
 --     endAt                       the place past the part that starts at a place
 --     ExpressionTo, ExpressionAt  an expression of a sort stands from a place up to another; up to its end in the list
 --     AnyAt, Chained              one of any sort; so many of them, one after the other

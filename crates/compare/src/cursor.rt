@@ -1,7 +1,7 @@
 use crate::equal::equal_words;
 ghost use mathlib.Core.Path.{_≡_};
 ghost use Prim.Native.Nat.{_<_, _≤_};
-ghost use lib.ListN.{length, getD};
+ghost use lib.ListN.{length};
 ghost use Rattle.compare.specs.Matching.{matchAt, matchedWord, matched, between, putFor};
 
 // Whether all that was asked for stood there so far, and the place past it. A failure absorbs what follows.

@@ -3,9 +3,9 @@
 --     bit-or, bit-power, bit-ones    of a disjunction, of a power of 2, of the largest number of 64 bits
 --     shifted                        a shifted 1 is a power of 2
 use mathlib.Core.Path.{_≡_, refl, sym, ap, _∙_}
-use mathlib.Core.Bool.{Bool, true, false, _||_}
-use mathlib.Core.Logic.{_⊎_, inl, inr}
-use Prim.Native.Nat.{ℕ, zero, suc, _+_, _-_, _*_, _/_, _%_, _^_, _<_, _≤_, max}
+use mathlib.Core.Bool.{true, false, _||_}
+use mathlib.Core.Logic.{inl, inr}
+use Prim.Native.Nat.{ℕ, zero, suc, _+_, _-_, _*_, _/_, _%_, _^_, _<_, max}
 use native.Mathlib.Omega.{arith}
 use native.Mathlib.Nat.{eq-or-lt-of-le, div-eq-of-lt, mul-mod-left, mul-comm, one-mul, pow-suc}
 use borrow.Author.Tests.{eq-eqb, ne-eqb}

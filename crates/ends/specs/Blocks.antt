@@ -1,5 +1,6 @@
 -- What words assign, as masks, and masks of whole blocks of 32 words, which stand behind the ends.
--- Working. Assumes nothing.
+-- Working: `marks-any` of proofs/Marks says that a mask has what so many words assign, `modified-tree` of
+-- scan/proofs/Trees that this is what a command there modifies. Assumes nothing.
 --     written              the identifier that a word assigns
 --     ifAny, anyIn         a test of an identifier, if there is one; a test of kind and payload passes at one of so many words
 --     assigns              a word assigns an identifier
@@ -8,7 +9,7 @@
 --     blockAt, Blocks      the mask of a block, in two halves; each whole block has its mask
 --     CanBlock, Blocked    room for the masks; what is left when they are written
 use mathlib.Core.Path.{_≡_}
-use mathlib.Core.Bool.{Bool, true, false, _||_, cond}
+use mathlib.Core.Bool.{Bool, false, _||_, cond}
 use mathlib.Core.List.{List}
 use mathlib.Core.Option.{Option, none, some}
 use Prim.Native.Nat.{ℕ, zero, suc, _+_, _*_, _/_, _%_, _^_, _<_, _≤_}

@@ -1,6 +1,6 @@
 -- A list that has, at the first place of each expression, command and set of a file, the place past it, and behind these places the
 -- masks of what its blocks of words assign.
--- Working. Assumes nothing.
+-- Working: `table-ends` of proofs/Table says that the list that is filled for a file is such a list. Assumes nothing.
 --     EndsOf    the list is such a list
 use mathlib.Core.Path.{_≡_}
 use mathlib.Core.List.{List}

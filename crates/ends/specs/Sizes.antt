@@ -1,5 +1,6 @@
 -- The place past what starts at each word of a file, found from the last word to the first (document 01, "Layout").
--- Working: laws in proofs/Ends say that these places are the ends. Assumes nothing.
+-- Working: `expression-sized`, `command-sized` and `set-sized` of proofs/Ends say that these places are the ends.
+-- Assumes nothing.
 --     countOf        how many expressions and commands follow a word, by its kind and payload
 --     past, sizes    the words of the next parts, by the sizes of what starts at each place; those sizes
 --     endPlaces      the places past what starts at each word

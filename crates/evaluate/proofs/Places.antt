@@ -2,7 +2,7 @@
 -- Assumes nothing.
 --     left                                              twice the words left from a place on
 --     Operand                                           an operand can be worked out, at a place within the file
---     first-middle                                      the end of the first part is in the list of ends
+--     end-is                                            the end of an expression is in the list of ends
 --     only-operand, first-operand, second-operand       the operands, by the parts
 --     first-of-three, second-of-three, third-of-three
 use mathlib.Core.Path.{_≡_, sym, ap, subst, _∙_}

@@ -1,6 +1,7 @@
 -- What working out an expression at a place promises: the outcome of the runner's definition, of the tree that stands
 -- there.
--- Working. Assumes nothing.
+-- Working: `operation-worked`, `select-worked`, `update-filled`, `compare-tested`, `and-tested`, `or-tested` and
+-- `not-tested` of proofs/Results tie it to the definition's `evaluate`. Assumes nothing.
 --     testOutcome, fillOutcome       the code's answers as outcomes
 --     operated .. replaced           what the definition makes of the outcomes of operands
 --     CanEvaluate, CanSelect         what the functions ask for

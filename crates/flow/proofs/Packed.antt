@@ -5,15 +5,13 @@
 --     accepted-small, refused-small      the same, of the check's answer
 --     accepted-packed, refused-packed    the number for C
 use mathlib.Core.Path.{_≡_, refl, sym, _∙_, ap, subst}
-use mathlib.Core.Bool.{Bool, true, false, cond}
+use mathlib.Core.Bool.{Bool, true, false}
 use mathlib.Core.List.{List, [], _∷_}
 use mathlib.Core.Option.{Option, none, some}
 use Prim.Native.Nat.{ℕ, zero, suc, _+_, _*_, _<_, _≤_}
 use native.Mathlib.Omega.{arith}
 use borrow.Author.Tests.{eqb-true, ltb-true}
 use lib.Dec.{eqb, ltb}
-use lib.ListN.{length}
-use Rattle.rules.specs.Words.{Word}
 use Rattle.rules.specs.Context.{Limits, standard}
 use Rattle.rules.specs.Judge as judge
 use Rattle.layout.specs.Bytes.{wordsOf, wordCount, numberAt}

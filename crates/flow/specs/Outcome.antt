@@ -1,5 +1,6 @@
 -- What refusals 1 to 9 leave of a file, with the places of its parts.
 -- Working: `outcome-answer` of proofs/Outcomes and `accepted-at` of proofs/Parts tie it to the layout's verdict.
+-- Assumes nothing.
 --     withPlaces, outcomeOf    a verdict with places; of what was read
 --     WithinLimits, Small      limits that the code can serve; with words
 --     Found, CanJudgeFile      the places of words that refusals 2 to 6 let pass; 2 to 7

@@ -5,7 +5,8 @@
 --     post-known, command-known        its postcondition and its command are in the list of ends
 --     verdict-is                       its verdict, by its evidence
 --     tried, leaf-tried, stops         a rule tried for every such tree; a rule with no children; one that fails
---     flow-child, set-child, pre-child a child's goal stands
+--     flow-child, set-child, pre-child
+--                                      a child's goal stands
 use mathlib.Core.Path.{_≡_, refl, sym, ap, subst, _∙_}
 use mathlib.Core.Bool.{Bool, false}
 use mathlib.Core.List.{List}

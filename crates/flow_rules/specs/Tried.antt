@@ -1,5 +1,5 @@
 -- A rule tried at its evidence word (document 01, flow rules 1 to 14).
--- Working. Assumes nothing.
+-- Working: `can-try` and `step-of` of proofs/Steps tie it to the contract of a rule's word in goals. Assumes nothing.
 --     CanTry    the goal stands, and its evidence is of the rule
 --     Tried     what the word comes to, whatever the limits
 use mathlib.Core.Path.{_≡_}

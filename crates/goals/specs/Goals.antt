@@ -1,5 +1,6 @@
 -- Goals by places, and the goals and evidence that stand there as trees.
--- Working: the judge's contract is an equation with `judgeFlow`. Assumes nothing.
+-- Working: `can-judge` and `judged-outcome` of flow/proofs/Outcomes tie it to what refusals 8 and 9 leave of a file;
+-- what is judged is an equation with `judgeFlow`, `judgeSet` and `judgePre`. Assumes nothing.
 --     TreeGoal, verdict    evidence with the goal that it is judged against; its verdict
 --     At                   a part stands at a place
 --     GoalStands           a goal by places, and its evidence from a place up to another

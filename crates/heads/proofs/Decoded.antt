@@ -1,7 +1,8 @@
 -- The first word of what stands at a place, decoded.
 -- Assumes nothing.
 --     arithmeticHead, booleanHead, arrayHead, commandHead    the first word of a tree
---     arithmetic-decoded, boolean-decoded, ..                is what stands there
+--     arithmetic-decoded, boolean-decoded, array-head-decoded, command-decoded
+--                                                            is what stands there
 use mathlib.Core.Path.{_≡_, refl, ap, ap₂, _∙_}
 use mathlib.Core.Bool.{Bool, true, false}
 use mathlib.Core.List.{List, _∷_}

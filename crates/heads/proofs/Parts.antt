@@ -1,9 +1,9 @@
 -- The parts of what stands at a place, by its first word.
 -- Assumes nothing.
---     Inside, expression-inside, command-inside              it has a word, and ends within the file
---     One, Two, Three                                        so many parts, one after the other
---     ArithmeticParts, BooleanParts, ArrayParts, CommandParts     the parts by the first word
---     arithmetic-parts, boolean-parts, array-parts, command-parts are what stands there
+--     Inside, expression-inside, command-inside                      it has a word, and ends within the file
+--     One, Two, Three                                                so many parts, one after the other
+--     ArithmeticParts, BooleanParts, ArrayParts, CommandParts        the parts by the first word
+--     arithmetic-parts, boolean-parts, array-parts, command-parts    are what stands there
 use mathlib.Core.Path.{_≡_, refl, sym, ap, subst}
 use mathlib.Core.List.{List, _∷_, _++_}
 use Prim.Native.Nat.{ℕ, zero, suc, _+_, _<_, _≤_}

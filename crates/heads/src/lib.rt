@@ -6,8 +6,6 @@ use words::CommandWord;
 use words::Word;
 use words::decode::decode;
 ghost use mathlib.Core.Path.{_≡_};
-ghost use Prim.Native.Nat.{_<_};
-ghost use lib.ListN.{length, getD};
 ghost use Rattle.language.specs.Syntax as syntax;
 ghost use Rattle.layout.specs.Bytes.{numberAt};
 ghost use Rattle.words.specs.Decode.{decodeOf};

@@ -1,6 +1,7 @@
 -- Comparisons by number, formulas over them, and what compiling a boolean gives: the ranges of its distinct comparisons
 -- and the bytes of its formula.
--- Working: a law in proofs/ says that the table of the formulas decides what `implication` does. Assumes nothing.
+-- Working: `table-settled` of proofs/Meaning and `answered` of proofs/Answers say that the table of the formulas
+-- decides what `implication` does. Assumes nothing.
 --     number, entry, Extends           the number of a listed comparison; the one with a number; numbers stay
 --     formula                          the formula of a boolean
 --     FitsWord, FitsWords              the payloads are in range

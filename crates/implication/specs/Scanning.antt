@@ -1,5 +1,6 @@
 -- The words of a boolean by what matters of each, and ranges of words.
--- Working: laws in proofs/ tie them to the words of trees. Assumes nothing.
+-- Working: `scan-boolean` of proofs/Pieces ties the bytes to the words of a boolean, `same-comparison` and
+-- `comparison-same` of proofs/Encodings tie ranges to the comparisons that stand there. Assumes nothing.
 --     byteBy, byteOf, byteAt        the byte of a word in a formula
 --     Skipped                       the first place with a word of a boolean
 --     SameFor, SameRange, Compares  two ranges have the same words

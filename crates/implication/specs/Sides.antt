@@ -1,5 +1,6 @@
 -- What an implication compares (document 01, rules 14, 18, 21 and 28), and the contract of `implies`.
--- Working: it says of written booleans what `implication` of rules/specs/Condition says of trees. Assumes nothing.
+-- Working: `answered`, `left-full` and `right-full` of proofs/Answers tie it to `implication` of rules/specs/Condition.
+-- Assumes nothing.
 --     resultOf                  the result of a condition
 --     PairStands, SideStands    the boolean that a side is
 --     RangeFits, SideFits       the ranges of a side are within a file

@@ -1,5 +1,6 @@
 -- The next child of an evidence word, where those before it were accepted.
--- Working: `judged-children` of proofs/Children makes the judge's own contract of them. Assumes nothing.
+-- Working: `can-first`, `can-second`, `can-third` and `judged-children` of proofs/Children tie it to the verdict of the
+-- word that has the children. Assumes nothing.
 --     Due                  a goal for which evidence is due
 --     CanGoOn, GoesOn      what judging the next child asks for and promises
 use mathlib.Core.Path.{_≡_}

@@ -6,7 +6,7 @@ use mathlib.Core.Bool.{Bool, true, false, _||_, cond}
 use Prim.Native.Nat.{ℕ}
 use Rattle.laws.proofs.Bools.{or-left, or-right}
 use Rattle.language.specs.Syntax.{Assignment, toScalar, toArray, Command}
-use Rattle.language.specs.Store.{Store, put, value}
+use Rattle.language.specs.Store.{Store}
 use Rattle.language.specs.Runs.{assigned, Runs, runs-skip, runs-sequence, runs-assert, runs-assign, runs-then}
 use Rattle.language.specs.Runs.{runs-else, runs-done, runs-again, runs-for}
 use Rattle.language.specs.Modifies.{Identifier, scalarOf, arrayOf, sameIdentifier, target, modifies}

@@ -6,7 +6,7 @@
 use mathlib.Core.Path.{_≡_, refl, sym, ap, ap₂, subst}
 use Prim.Native.Nat.{ℕ, suc, _+_}
 use Rattle.laws.proofs.Bools.{clash}
-use Rattle.language.specs.Syntax.{Command, while}
+use Rattle.language.specs.Syntax.{Command}
 use Rattle.language.specs.Store.{Store}
 use Rattle.language.specs.Runs.{Runs, runs-skip, runs-sequence, runs-assert, runs-assign, runs-then, runs-else}
 use Rattle.language.specs.Runs.{runs-done, runs-again, runs-for}

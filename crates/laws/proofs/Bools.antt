@@ -1,8 +1,9 @@
 -- Tests and their connectives.
 -- Assumes nothing.
 --     and-left, and-right, and-both           of a conjunction
---     or-cases, or-left, or-right             of a disjunction
---     not-true, not-false, clash              of a negation; a test has one result
+--     or-cases, or-first, or-second           of a disjunction that is true
+--     or-left, or-right                       of one that is false
+--     not-true, clash                         of a negation; a test has one result
 use mathlib.Core.Path.{_≡_, refl, sym, _∙_}
 use mathlib.Core.Bool.{Bool, true, false, not, _&&_, _||_, false≢true, true≢false}
 use mathlib.Core.Logic.{_⊎_, inl, inr}

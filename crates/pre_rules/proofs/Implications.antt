@@ -13,7 +13,7 @@ use Prim.Native.Nat.{ℕ, _+_, _≤_}
 use native.Mathlib.Omega.{arith}
 use Rattle.language.specs.Syntax.{Boolean, Expr, and, neg, Command, while}
 use Rattle.rules.specs.Context.{Limits, Context}
-use Rattle.rules.specs.Condition.{Result, passes, _then_, byForm}
+use Rattle.rules.specs.Condition.{Result, _then_, byForm}
 use Rattle.rules.specs.Condition.{implication}
 use Rattle.rules.specs.Evidence.{PreEvidence, pre21, pre28}
 use Rattle.rules.specs.Judge.{refused, judgePre, judgeWord}

@@ -1,5 +1,6 @@
 -- The rules' tests of assertions by words: what each asks for, and what it promises (document 01, rules 20 to 29).
--- Working. Assumes nothing.
+-- Working: `split-at`, `join-at`, `replaced-at` and `true-at` of proofs/Assertions, `repeats-first` and `repeats-both`
+-- of proofs/Implications say that the code's answers are those of the rules on trees. Assumes nothing.
 --     CanSplit, SplitAt          rule 20: φ is (φ1 ∧ B) ∨ (φ2 ∧ ¬B)
 --     CanJoin, JoinAt            rule 26: φ is φ' ∧ B
 --     CanReplace, ReplacedAt     rules 24 and 25: φ is φ' with the right side for the identifier

@@ -1,5 +1,6 @@
 -- A rule tried at its evidence word (document 01, rules 20 to 30).
--- Working. Assumes nothing.
+-- Working: `can-try`, `can-try-within` and `step-of` of proofs/Steps tie it to the contract of a rule's word in goals.
+-- Assumes nothing.
 --     CanTry, CanTryWithin    the goal stands, and its evidence is of the rule; of a rule with an implication
 --     Tried                   what the word comes to, whatever the limits
 use mathlib.Core.Path.{_≡_}

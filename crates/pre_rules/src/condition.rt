@@ -5,7 +5,6 @@ use compare::expression::match_boolean;
 use ends::end_at;
 use rule_laws::part::came_to_end;
 use rule_laws::part::match_part;
-ghost use Prim.Native.Nat.{_<_};
 ghost use Rattle.rule_laws.specs.Places.{PartKnown};
 ghost use Rattle.pre_rules.specs.Conditions.{CanSplit, SplitAt, CanJoin, JoinAt, CanReplace, ReplacedAt, TrueAt};
 

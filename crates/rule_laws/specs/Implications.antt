@@ -1,5 +1,5 @@
 -- Implications between assertions that stand at places (document 01, "Rules").
--- Working. Assumes nothing.
+-- Working: `implies-at` of proofs/Implying ties it to the rules' `implication`. Assumes nothing.
 --     AssertionAt                 an assertion stands at a place
 --     CanImplyAt, ImpliesAt       one implies another: what a test of them asks for and promises
 use mathlib.Core.Path.{_≡_}

@@ -1,5 +1,6 @@
 -- Expressions, commands and sets that stand at a place, up to their ends in the list of ends.
--- Working. Assumes nothing.
+-- Working: `written-at`, `command-at`, `set-at`, `at-written`, `at-command` and `at-set` of proofs/Places say that it
+-- is to stand at a place of a goal. Assumes nothing.
 --     WrittenAt, CommandAt, SetAt    an expression, a command, a set, no deeper than the judge's stack has room for
 --     PartKnown                      a place is in the list of ends, and its end in the file
 use mathlib.Core.List.{List}

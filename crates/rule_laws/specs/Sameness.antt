@@ -1,5 +1,6 @@
 -- Sameness by words of what stands at two places; nothing of what stands at a place is modified.
--- Working. Assumes nothing.
+-- Working: `same-at` of proofs/Passing, `meaning-at` of proofs/Meaning and `kept-at` of proofs/Keeping tie it to the
+-- tests of the trees that stand there. Assumes nothing.
 --     came                    a cursor at which nothing was missing has come to a place
 --     CanSame, SameAt         two written expressions: what a test of them asks for and promises
 --     startNumbers, nextNumbers

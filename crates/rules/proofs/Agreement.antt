@@ -4,7 +4,7 @@
 --     agree-left, agree-right, agree-both     of two sets together
 --     agree-under, under-agree                of a set under a test
 --     agree-without                           of a set without another
---     agree-vacuous, agree-operands           sets 14 and 19
+--     agree-operands                          rule 19 of sets
 --     agree-replaced, agree-kept              after an assignment; where nothing is modified
 use mathlib.Core.Path.{_≡_, refl, sym, _∙_, ap, ap₂, subst, subst₂}
 use mathlib.Core.Bool.{Bool, true, false, not, _&&_, _||_, cond}
@@ -17,20 +17,17 @@ use Rattle.language.specs.Syntax.{Sort, Arithmetic, Boolean, Array, Expr, const
 use Rattle.language.specs.Syntax.{compare, truth, and, or, neg, array, zeros, update, Assignment, Command}
 use Rattle.language.specs.Store.{Store, Value, apply, relate, value}
 use Rattle.language.specs.Runs.{assigned, Runs}
-use Rattle.language.specs.Modifies.{Identifier, modifies, identifiers}
+use Rattle.language.specs.Modifies.{Identifier, identifiers}
 use Rattle.language.proofs.Values.{AllInBoth, same-value}
 use Rattle.language.proofs.Kept.{kept}
 use Rattle.rules.specs.Words.{words, sameWords}
-use Rattle.rules.specs.Assertion.{Member, Members, member, one, OneValue, SameValue, Holds, Agree}
-use Rattle.rules.specs.Context.{Context}
-use Rattle.rules.specs.Replace.{replacement, replace, replaceMembers}
+use Rattle.rules.specs.Assertion.{Member, Members, member, OneValue, SameValue, Holds, Agree}
+use Rattle.rules.specs.Replace.{replacement, replaceMembers}
 use Rattle.rules.specs.Sets.{SameAntecedent, SameConsequent, SameMember, Stands, stands-here, stands-later}
 use Rattle.rules.specs.Sets.{Within, Same, under, listed, without, operands, setIdentifiers, Unmodified}
-use Rattle.rules.specs.Implies.{Implies, EachImpliesFalse}
 use Rattle.rules.proofs.Unique.{same-tree, expression-unique}
 use Rattle.rules.proofs.Decides.{sameWords-decides}
 use Rattle.rules.proofs.Replaced.{replaced-assigned}
-use Rattle.rules.proofs.Starts.{Inside}
 
 -- antecedents that are compared as the same have one value
 pub antecedent-value : (φ ψ : Expr Boolean) → SameAntecedent φ ψ → (s : Store) → value φ s ≡ value ψ s

@@ -3,12 +3,11 @@
 --     Accepts                                          a verdict that is an acceptance
 --     necessary-judged, follows-judged, flow-judged    accepted exactly when derived
 use mathlib.Core.Path.{_≡_, refl, sym, subst}
-use mathlib.Core.List.{[], _∷_, _++_}
-use mathlib.Core.Option.{Option, none, some}
+use mathlib.Core.List.{[], _∷_}
 use Prim.Native.Nat.{ℕ}
 use Rattle.language.specs.Syntax.{Boolean, Expr, Command, ifElse}
 use Rattle.language.specs.Modifies.{identifiers}
-use Rattle.rules.specs.Assertion.{Member, Members, member, one}
+use Rattle.rules.specs.Assertion.{Members}
 use Rattle.rules.specs.Context.{Context}
 use Rattle.rules.specs.Sets.{operands, setIdentifiers}
 use Rattle.rules.specs.Tests.{same}
@@ -27,7 +26,7 @@ use Rattle.rules.specs.Judge.{judgePre, judgeSet, judgeFlow}
 use Rattle.rules.proofs.Decides.{sameWords-decides, sameAntecedent-decides, sameConsequent-decides}
 use Rattle.rules.proofs.Decides.{stands-decides, within-decides, same-decides, unmodified-decides}
 use Rattle.rules.proofs.Decides.{isEmpty-decides}
-use Rattle.rules.proofs.Passes.{Passes, PassesIff, test-passes, then-passes}
+use Rattle.rules.proofs.Passes.{Passes, test-passes, then-passes}
 use Rattle.rules.proofs.Implication.{implication-passes, eachImpliesFalse-passes}
 use Rattle.rules.proofs.Forms.{skip-is, sequence-is, assert-is, scalar-is, array-is, if-is, while-is, for-is}
 use Rattle.rules.proofs.Forms.{empty-is, one-is, some-is}

@@ -9,7 +9,7 @@ use mathlib.Core.Bool.{Bool, true, false, not, _&&_, _||_, cond}
 use lib.Dec.{eqb}
 use Rattle.language.specs.Syntax.{Sort, Expr, constant, scalar, operation, select, compare, truth, and, or, neg}
 use Rattle.language.specs.Syntax.{array, zeros, update, Assignment, toScalar, toArray}
-use Rattle.language.specs.Store.{Store, Value, sameInteger, put, apply, relate, value}
+use Rattle.language.specs.Store.{Store, sameInteger, put, apply, relate, value}
 use Rattle.language.specs.Runs.{assigned}
 use Rattle.rules.specs.Replace.{Replacement, replacement, replace}
 

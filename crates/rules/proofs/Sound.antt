@@ -6,23 +6,21 @@
 --     flow-sound         rules 1 to 14
 --     flow-secure        demand 3, on trees
 use mathlib.Core.Path.{_≡_, refl, sym, _∙_, ap, subst}
-use mathlib.Core.Bool.{Bool, true, false, not, _&&_, _||_}
-use mathlib.Core.List.{[], _++_}
+use mathlib.Core.Bool.{true, false, not, _&&_}
+use mathlib.Core.List.{_++_}
 use Prim.Native.Nat.{ℕ}
 use Rattle.laws.proofs.Bools.{and-both, or-first, or-second, clash}
-use Rattle.language.specs.Syntax.{Sort, Boolean, Expr, truth, and, or, neg, Assignment, toScalar, toArray}
-use Rattle.language.specs.Syntax.{Command, ifElse, while, for}
+use Rattle.language.specs.Syntax.{Boolean, Expr, truth, and, neg}
+use Rattle.language.specs.Syntax.{Command, while}
 use Rattle.language.specs.Store.{Store, value}
-use Rattle.language.specs.Runs.{assigned, meaning, Runs, runs-skip, runs-sequence, runs-assert, runs-assign}
+use Rattle.language.specs.Runs.{Runs, runs-skip, runs-sequence, runs-assert, runs-assign}
 use Rattle.language.specs.Runs.{runs-then, runs-else, runs-done, runs-again, runs-for}
-use Rattle.language.specs.Modifies.{identifiers}
 use Rattle.language.proofs.Values.{AllInBoth, same-value}
 use Rattle.language.proofs.Loops.{both-loops}
 use Rattle.rules.specs.Words.{commandWords}
-use Rattle.rules.specs.Assertion.{Member, Members, member, one, SameValue, Holds, Agree, Secure}
+use Rattle.rules.specs.Assertion.{Members, member, one, Holds, Agree, Secure}
 use Rattle.rules.specs.Context.{Context}
-use Rattle.rules.specs.Replace.{replacement}
-use Rattle.rules.specs.Sets.{Same, Stands, under, without}
+use Rattle.rules.specs.Sets.{Same, under, without}
 use Rattle.rules.specs.Implies.{Implies}
 use Rattle.rules.specs.Evidence.{PreEvidence, SetEvidence, FlowEvidence}
 use Rattle.rules.specs.Derivation.{Necessary, rule-20, rule-21, rule-22, rule-23, rule-24, rule-25, rule-26}

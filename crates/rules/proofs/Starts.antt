@@ -2,7 +2,8 @@
 -- nothing of a store, so `Inside` holds of each; a later condition on stores or commands has its place here.
 -- Assumes nothing.
 --     Fits, Inside, Start       of a command; of a store; of two stores
---     fits-first .. fits-means  the parts of a command
+--     fits-first .. fits-body   the parts of a command
+--     fits-meaning              what a `for` means
 --     inside-kept, start-kept   after a run
 use Prim.Native.Nat.{ℕ}
 use Rattle.language.specs.Syntax.{Boolean, Expr, Command, sequence, ifElse, while, for}

@@ -1,5 +1,5 @@
 -- What running the command at a place asks for, and what it promises.
--- Working. Assumes nothing.
+-- Working: `can-run` and `reported` of runner/proofs/Programs tie it to the definition's `runFile`. Assumes nothing.
 --     CanRun, CanRunAt    a command stands at a place, and the store has its size; its first word is known
 --     RunsAs              the answer and the store then are those of the definition, of the command that stands there
 use mathlib.Core.Path.{_≡_}

@@ -1,5 +1,6 @@
 -- What one step does, in the code's terms.
--- Working: proofs/Steps.antt ties it to the definition's `step`. Assumes nothing.
+-- Working: `passed-is`, `asserted-is`, `step-then`, `step-else` and `step-stopped` of proofs/Steps tie it to the
+-- definition's `step`. Assumes nothing.
 --     endAt                        an answer and the store then, as an end of the definition
 --     passed, asserted, chosen     skip, assert and a test
 --     StoresScalar, StoresArray    an identifier is given what was worked out

@@ -1,11 +1,11 @@
 -- A while, and a `for` from its test on: turns, one after the other.
--- Working: proofs/Turns.antt ties one turn to the definition's `turns`. Assumes nothing.
+-- Working: `turns-again` and `turns-over` of proofs/Turns tie one turn to the definition's `turns`. Assumes nothing.
 --     loopWord, loopTest, loopBody     the word, the test and the body of a loop
 --     bodyPlace, CountsIn              the body's place; the scalars of a `for` exist
 --     Turned, turnedAt, goOn, turnBy   what comes of a turn
 --     turnOf                           a turn, by the definition's outcome of the test
 --     TestsLoop, Increments, EndsPass  what the parts of a turn promise
--- TurnsAs, TurnAs, PassAs          what all turns, one turn and its body promise, of the loop that stands at a place
+--     TurnsAs, TurnAs, PassAs          what all turns, one turn and its body promise, of the loop that stands at a place
 use mathlib.Core.Path.{_≡_}
 use mathlib.Core.Bool.{false}
 use mathlib.Core.List.{List}

@@ -6,16 +6,16 @@
 --     bad-bytes, loaded-bytes          1; the words of bytes that it lets pass
 --     run-of                           the definition's answer on bytes, with demand 2
 use mathlib.Core.Path.{_≡_, refl, sym, ap, _∙_}
-use mathlib.Core.Bool.{Bool, true, false, not, _||_}
+use mathlib.Core.Bool.{Bool, true, false}
 use mathlib.Core.List.{List}
 use mathlib.Core.Option.{Option, none, some}
-use Prim.Native.Nat.{ℕ, _%_, _≤_}
+use Prim.Native.Nat.{ℕ, _≤_}
 use native.Mathlib.Omega.{arith}
 use borrow.Author.Tests.{eqb-true, ltb-false}
-use lib.Dec.{eqb, ltb}
-use lib.ListN.{length, take, length-take}
+use lib.Dec.{ltb}
+use lib.ListN.{take}
 use Rattle.rules.specs.Context as context
-use Rattle.layout.specs.Bytes.{wordsOf, wordCount}
+use Rattle.layout.specs.Bytes.{wordCount}
 use Rattle.layout.specs.Reading.{Reading, read, fault, onRead}
 use Rattle.layout.specs.For.{firstUnsteady}
 use Rattle.layout.specs.File.{File, parts, steadyFile, badLength, wordsRead, fileOf}

@@ -1,7 +1,7 @@
 -- Refusals 10 and 11, and the run of a file's command.
 -- Assumes nothing.
---     over-budget, ill-sized    10 and 11
---     can-report, reported      the steps left are within the budget; the run
+--     over-budget, ill-scalars, ill-values    10 and 11
+--     can-run, can-report, reported           the command can be run; the steps left are within the budget; the run
 use mathlib.Core.Path.{_≡_, refl, sym, ap, subst, _∙_}
 use mathlib.Core.Bool.{Bool, true, false}
 use mathlib.Core.List.{List}

@@ -1,9 +1,9 @@
 -- The answer's steps and place are small, so that one number holds them.
 -- Assumes nothing.
---     run-placed           a run stops at a word of its command
---     file-fault           a refusal 1 to 7 is at a place inside the file or at its end
---     small-ran            the answer
---     can-pack, packed-run the code's answer; the number for C
+--     run-placed              a run stops at a word of its command
+--     file-fault              a refusal 1 to 7 is at a place inside the file or at its end
+--     small-ran               the answer
+--     can-pack, packed-run    the code's answer; the number for C
 use mathlib.Core.Path.{_≡_, refl, sym, ap, ap₂, subst, _∙_}
 use mathlib.Core.Bool.{Bool, true, false, cond}
 use mathlib.Core.List.{List, [], _∷_, _++_}

@@ -1,10 +1,11 @@
 -- The runner over words, from refusal 1 to the run.
--- Working: proofs/Files.antt, `run-of`, ties it to the definition. Assumes nothing.
---     ranAt, refusedAt         the code's answer and the store then, as the definition's; a refusal before the run
---     ranBy, RanBy             by what reading gives; what the functions promise
---     CanReport, Reports       what a run came to
---     Small, Found, CanRunFile words that are few enough; that refusals 2 to 6, and 2 to 7, let pass
---     SmallRan, CanPack        an answer that can be packed
+-- Working: `run-of` of proofs/Files and `packed-run` of proofs/Small tie it to the definition's `runOf`. Assumes
+-- nothing.
+--     ranAt, refusedAt            the code's answer and the store then, as the definition's; a refusal before the run
+--     ranBy, RanBy                by what reading gives; what the functions promise
+--     CanReport, Reports          what a run came to
+--     Small, Found, CanRunFile    words that are few enough; that refusals 2 to 6, and 2 to 7, let pass
+--     SmallRan, CanPack           an answer that can be packed
 use mathlib.Core.Path.{_≡_}
 use mathlib.Core.List.{List}
 use Prim.Native.Nat.{ℕ, _≤_}

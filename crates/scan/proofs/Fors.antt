@@ -3,20 +3,19 @@
 --     ForAt, Fors    a `for` stands at a place; at each word of kind 31 between two places one does
 --     file-fors      the law
 use mathlib.Core.Path.{_≡_, refl, sym, ap, subst, _∙_}
-use mathlib.Core.Bool.{Bool, true, false, _||_}
+use mathlib.Core.Bool.{Bool, false}
 use mathlib.Core.List.{List, [], _∷_, _++_}
-use mathlib.Core.Logic.{_⊎_, inl, inr}
+use mathlib.Core.Logic.{inl, inr}
 use Prim.Native.Nat.{ℕ, zero, suc, _+_, _*_, _/_, _<_, _≤_}
 use native.Mathlib.Omega.{arith}
 use native.Mathlib.Nat.{eq-or-lt-of-le}
 use borrow.Author.Tests.{eq-eqb}
 use lib.Dec.{eqb}
-use lib.IntN.{pos}
 use Rattle.laws.proofs.Bools.{or-left, or-right, clash}
 use Rattle.language.specs.Syntax.{Sort, Expr, toScalar, toArray}
 use Rattle.language.specs.Syntax.{Command, skip, sequence, assert, assign, ifElse, while, for}
-use Rattle.rules.specs.Words.{Word, word, words, commandWords}
-use Rattle.rules.specs.Assertion.{Member, Members}
+use Rattle.rules.specs.Words.{Word, words, commandWords}
+use Rattle.rules.specs.Assertion.{Members}
 use Rattle.rules.specs.Context.{Limits}
 use Rattle.rules.specs.Evidence.{PreEvidence, pre20, pre21, pre22, pre23, pre24, pre25, pre26, pre27, pre28, pre29}
 use Rattle.rules.specs.Evidence.{pre30}
@@ -24,18 +23,17 @@ use Rattle.rules.specs.Evidence.{SetEvidence, set13, set14, set15, set16, set17
 use Rattle.rules.specs.Evidence.{FlowEvidence, flow1, flow2, flow3, flow4, flow5, flow6, flow7, flow8, flow9}
 use Rattle.rules.specs.Evidence.{flow10, flow11, flow12, flow13, flow14}
 use Rattle.layout.specs.Bytes.{wordCount, numberAt, kindAt}
-use Rattle.layout.specs.Spelling.{FitsCommand, memberWords, membersWords, setWords, FitsSet}
-use Rattle.layout.specs.EvidenceWords.{Part, expressionPart, commandPart, setPart, Node, nodePart, joined, EachFits}
+use Rattle.layout.specs.Spelling.{FitsCommand, memberWords, membersWords, setWords}
+use Rattle.layout.specs.EvidenceWords.{Part, expressionPart, commandPart, setPart, Node, nodePart}
 use Rattle.layout.specs.EvidenceWords.{preNode, setNode, flowNode, prePart, setEvidencePart, flowPart}
 use Rattle.layout.specs.Standing.{StandsTo, Stands, PartStands, Chain}
-use Rattle.layout.specs.File.{File}
 use Rattle.layout.proofs.Stands.{parted, stands-chain}
 use Rattle.ends.proofs.Sizes.{lt-or-le}
 use Rattle.layout.proofs.Small.{Small, AllSmall, kindOf, kind-at, expression-small, command-small, set-small}
 use Rattle.ends.proofs.Ends.{rest, less-fit}
 use Rattle.scan.specs.Steady.{WholeFile}
 use Rattle.scan.proofs.Trees.{anyOf, appended, Quiet, expression-quiet}
-use Rattle.scan.proofs.Files.{FileStands, file-stands}
+use Rattle.scan.proofs.Files.{file-stands}
 
 abbrev isFor : ℕ → ℕ → Bool
 isFor k p = eqb k 31

@@ -5,10 +5,10 @@
 --     Passed, passed-none, passed-more       no place before has such a `for`: at the first place, and after a turn
 --     found-here, found-none                 the answers of the scan
 use mathlib.Core.Path.{_≡_, refl, sym, ap, subst, _∙_}
-use mathlib.Core.Bool.{Bool, true, false, not, _&&_, _||_, Bool·not-not}
+use mathlib.Core.Bool.{Bool, true, false, not, Bool·not-not}
 use mathlib.Core.List.{List}
 use mathlib.Core.Option.{none, some}
-use Prim.Native.Nat.{ℕ, zero, suc, _+_, _*_, _-_, _/_, _%_, _<_, _≤_}
+use Prim.Native.Nat.{ℕ, suc, _+_, _*_, _-_, _/_, _%_, _<_, _≤_}
 use native.Mathlib.Omega.{arith}
 use native.Mathlib.Numerals.{add-one}
 use borrow.Author.Tests.{eq-eqb, ne-eqb}
@@ -33,7 +33,6 @@ use Rattle.ends.proofs.Ends.{rest, less-fit}
 use Rattle.ends.specs.Mask.{bit, ModifiedBy}
 use Rattle.scan.specs.Scan.{Modified}
 use Rattle.scan.specs.Steady.{WholeFile, steadinessOf, Tested, FirstFound}
-use Rattle.scan.specs.declared.steady.Steadiness.{Steadiness}
 use Rattle.scan.specs.declared.steady.Steadiness.the-variants.{Steady, At}
 use Rattle.scan.proofs.Places.{command-starts}
 use Rattle.scan.proofs.Deeper.{command-deeper}

@@ -9,13 +9,12 @@ use mathlib.Core.Bool.{Bool, true, false, not, _&&_, _||_, or-assoc, or-false}
 use mathlib.Core.List.{List, [], _∷_, _++_, append-assoc}
 use Prim.Native.Nat.{ℕ, zero, suc, _+_, _*_, _-_, _%_, _<_, _≤_}
 use native.Mathlib.Omega.{arith}
-use lib.ListN.{length}
 use Rattle.language.specs.Syntax.{Sort, Expr, constant, scalar, operation, select, compare, truth, and, or, neg}
 use Rattle.language.specs.Syntax.{array, zeros, update, toScalar, toArray}
 use Rattle.language.specs.Syntax.{Command, skip, sequence, assert, assign, ifElse, while, for}
 use Rattle.language.specs.Modifies.{Identifier, scalarOf, arrayOf, sameIdentifier, modifies, identifiers}
 use Rattle.rules.specs.Words.{Word, words, commandWords}
-use Rattle.rules.specs.Assertion.{Member, Members}
+use Rattle.rules.specs.Assertion.{Members}
 use Rattle.rules.specs.Context.{Limits}
 use Rattle.rules.specs.Sets.{setIdentifiers}
 use Rattle.rules.specs.Tests.{unmodified, isEmpty}
@@ -25,7 +24,7 @@ use Rattle.layout.specs.Standing.{StandsTo}
 use Rattle.layout.proofs.Stands.{stands-end}
 use Rattle.layout.proofs.Small.{AllSmall, kindOf, contentOf, kind-at, content-at}
 use Rattle.layout.proofs.Small.{expression-small, command-small, set-small}
-use Rattle.ends.specs.Mask.{bit, Low, slot, ModifiedBy}
+use Rattle.ends.specs.Mask.{bit, Low, slot}
 use Rattle.ends.specs.Blocks.{written, ifAny, anyIn, assigns, Marks}
 use Rattle.scan.specs.Scan.{mentioned, marked, Modified, Unmarked, Closed}
 use Rattle.ends.proofs.Bits.{bit-ones}

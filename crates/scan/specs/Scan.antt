@@ -1,5 +1,6 @@
 -- Scans of a range of words, one word after the other.
--- Working: laws in proofs/Trees say what they find where an expression, a command or a set stands. Assumes nothing.
+-- Working: `modified-tree`, `unmarked-tree` and `closed-tree` of proofs/Trees say what they find where an expression, a
+-- command or a set stands. Assumes nothing.
 --     mentioned                     the identifier that a word is
 --     marked                        a test of identifiers as a test of kind and payload
 --     Modified, Unmarked, Closed    what the scans say of trees

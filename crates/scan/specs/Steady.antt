@@ -1,5 +1,6 @@
 -- Refusal 7 (document 01, "Judging order") on words: each word of kind 31 is a `for`, and its body is a range of words.
--- Working: the laws are in proofs/Fors and proofs/Tests. Assumes nothing.
+-- Working: `whole-file` of proofs/Files, `file-fors` of proofs/Fors, `found-here` and `found-none` of proofs/Tests tie
+-- it to the layout's `firstUnsteady`. Assumes nothing.
 --     WholeFile        the words were read as a file up to the last, as refusals 2 to 6 have it
 --     steadinessOf     the answer of the scan for the first `for` that refusal 7 refuses
 --     CanTest, Tested, FirstFound

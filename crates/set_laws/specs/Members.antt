@@ -1,5 +1,5 @@
 -- The members of a written set at their places.
--- Working. Assumes nothing.
+-- Working: `set-written` and `is-one` of proofs/Sets say that the members of a written set stand so. Assumes nothing.
 --     MemberWritten, MembersWritten    a member; members one after the other
 --     OneWritten                       a set is one written member
 use mathlib.Core.Path.{_≡_}

@@ -1,5 +1,5 @@
 -- A written set is the same as two others together (document 01, rules 9 and 16).
--- Working. Assumes nothing.
+-- Working: `union-at` of proofs/Unions ties it to what the comparison of sets promises. Assumes nothing.
 --     UnionAt    what a test of it promises
 use mathlib.Core.Path.{_≡_}
 use mathlib.Core.Bool.{Bool}

@@ -2,7 +2,7 @@
 -- Assumes nothing.
 --     two-known, two-unknown                    the kinds with two operands
 --     TwoAt, OneAt, Split, split                an expression's operands at their places
---     can-one-same, can-two-same, second-known  what the code asks for
+--     can-one-same, can-two-same, first-known   what the code asks for
 --     one-split, two-split, none-split          the written set compared with φ ⇒ each operand
 use mathlib.Core.Path.{_≡_, refl, sym, ap, subst, _∙_}
 use mathlib.Core.Bool.{Bool, true, false}

@@ -1,6 +1,7 @@
 -- The rules' conditions on written sets: what each asks for, and what it promises (document 01, rules 13, 14, 17 and 19
 -- of sets).
--- Working. Assumes nothing.
+-- Working: `within-at`, `remains-stop`, `remains-end` and `rest-at` of proofs/Conditions, `one-split`, `two-split` and
+-- `none-split` of proofs/Operands say that the code's answers are those of the rules on trees. Assumes nothing.
 --     CanInclude, WithinAt      rule 13: each of a written set stands in another
 --     CanTryEach, EachAt        rule 14: each antecedent implies false
 --     CanRest, RestAt           rule 17: a written set is the same as (T without S') ∪ S

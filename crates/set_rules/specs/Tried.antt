@@ -1,5 +1,6 @@
 -- A rule tried at its evidence word (document 01, rules 13 to 19 of sets).
--- Working. Assumes nothing.
+-- Working: `can-try`, `tried-step` and `leaf-step` of proofs/Goal tie it to the contract of a rule's word in goals.
+-- Assumes nothing.
 --     CanTry           the goal stands, and its evidence is of the rule
 --     Tried            what the word comes to, whatever the limits
 --     conditionStep    what the word of a rule with no children comes to, by its condition

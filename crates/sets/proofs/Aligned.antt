@@ -1,19 +1,19 @@
 -- Members in the same order.
 -- Assumes nothing.
 --     aligns-not                                       where the test fails nothing is said
---     Aligning, aligning-start, -on, -end              the members of a seen set, one by one
---     one-aligned, of-pile-empty .. of-pile-without    one member; by pile
+--     Aligning, aligning-start, aligning-on, aligning-end
+--                                                      the members of a seen set, one by one
+--     one-aligned, of-pile-empty .. of-pile-set        one member; by pile
 --     aligned-not, aligned-is                          three piles, one after the other
 --     sameAll-self, same-found, same-not, same-last    two lists with the same elements
 use mathlib.Core.Path.{_≡_, refl, sym, ap, ap₂, subst, _∙_}
-use mathlib.Core.Bool.{Bool, true, false, _&&_, _||_, false≢true}
+use mathlib.Core.Bool.{Bool, true, false, _||_, false≢true}
 use mathlib.Core.List.{List, [], _∷_, _++_, append-assoc, append-nil}
 use Prim.Native.Nat.{ℕ, _+_, _-_, _<_, _≤_}
 use native.Mathlib.Omega.{arith}
 use lib.Dec.{eqb}
 use borrow.Author.Tests.{eqb-true}
 use Rattle.laws.proofs.Bools.{clash, and-both}
-use Rattle.laws.proofs.Decides.{Decides}
 use Rattle.compare.specs.Matching.{between}
 use Rattle.sets.specs.Items.{pastMember, seenAs, itemNumbers, sameNumbers}
 use Rattle.sets.specs.Lists.{seenAll, written, standsIn, withinAll, sameAll}
@@ -25,12 +25,11 @@ use Rattle.sets.specs.declared.item.View.the-variants.{Plain}
 use Rattle.sets.specs.declared.item.Item.{Item}
 use Rattle.sets.specs.declared.item.Item.the-variants.{Seen, Pair}
 use Rattle.sets.specs.declared.pile.Pile.{Pile}
-use Rattle.sets.specs.declared.pile.Pile.the-variants.{Empty, One, Set, Without}
+use Rattle.sets.specs.declared.pile.Pile.the-variants.{Empty, One, Set}
 use Rattle.sets.specs.declared.pile.Piles.{Piles}
 use Rattle.sets.specs.declared.align.Rest.{Rest}
 use Rattle.sets.proofs.Equal.{sameNumbers-decides}
 use Rattle.sets.proofs.Loops.{members-first, members-rest, seenAll-none, seenAll-first}
-use Rattle.sets.proofs.Piles.{stands-append}
 
 positive : {n : ℕ} → (n ≡ 0 → ⊥) → 0 < n
 positive f = omega arith

@@ -2,13 +2,12 @@
 -- Assumes nothing.
 --     sameNumbers-decides             equality of numbers
 --     item-lost, item-end             a cursor that passes the item from the member's first place to its end finds it there
-use mathlib.Core.Path.{_≡_, refl, sym, ap, ap₂, subst, _∙_}
+use mathlib.Core.Path.{_≡_, refl, sym, ap, ap₂, _∙_}
 use mathlib.Core.Bool.{Bool, true, false}
 use mathlib.Core.List.{List, [], _∷_, head-eq-of-cons-eq, tail-eq-of-cons-eq, cons≢nil, nil≢cons}
-use Prim.Native.Nat.{ℕ, _+_, _<_, _≤_}
+use Prim.Native.Nat.{ℕ}
 use native.Mathlib.Omega.{arith}
 use lib.Dec.{eqb}
-use lib.ListN.{length}
 use Rattle.laws.proofs.Bools.{clash}
 use Rattle.laws.proofs.Decides.{Decides, decides-same, decides-map, decides-and, decides-yes, decides-no, eqb-decides}
 use Rattle.compare.specs.Matching.{between, matched}

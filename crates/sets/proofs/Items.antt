@@ -4,7 +4,7 @@
 --     pair-matched, certain-matched                      by two places; true ⇒ E
 --     see-under .. seen-replaced                         by view
 --     item-seen .. of-seen                               by item
-use mathlib.Core.Path.{_≡_, refl, sym, ap, subst, _∙_}
+use mathlib.Core.Path.{_≡_, sym, ap, subst, _∙_}
 use mathlib.Core.List.{List, [], _∷_, _++_}
 use Prim.Native.Nat.{ℕ}
 use Rattle.compare.specs.Matching.{between, matchedWord, matched, exchanged}

@@ -9,9 +9,8 @@
 use mathlib.Core.Path.{_≡_, refl, sym, ap, subst, _∙_}
 use mathlib.Core.Bool.{Bool, true, false, _&&_, _||_, cond}
 use mathlib.Core.List.{List, [], _∷_}
-use Prim.Native.Nat.{ℕ, zero, suc, _+_, _-_, _<_, _≤_}
+use Prim.Native.Nat.{ℕ, zero, suc, _-_, _<_, _≤_}
 use native.Mathlib.Omega.{arith}
-use Rattle.laws.proofs.Bools.{clash}
 use Rattle.laws.proofs.Decides.{decides-map}
 use Rattle.compare.specs.Matching.{between}
 use Rattle.compare.specs.Places.{AnyAt}

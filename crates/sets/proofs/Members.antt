@@ -1,10 +1,11 @@
 -- The places of a member that stands in a file.
 -- Assumes nothing.
---     expression-listed, member-pass      places are in the list of ends
---     expression-within, member-within    ends are in the file
+--     antecedent-any, consequent-any    its two expressions
+--     any-within, member-inside         ends are in the file
+--     member-pass                       its places are in the list of ends
 use mathlib.Core.Path.{_≡_, sym, subst}
 use mathlib.Core.List.{List}
-use Prim.Native.Nat.{ℕ, _+_, _<_, _≤_}
+use Prim.Native.Nat.{ℕ, _≤_}
 use native.Mathlib.Omega.{arith}
 use lib.ListN.{length}
 use Rattle.language.specs.Syntax.{Boolean}

@@ -6,17 +6,16 @@
 --     of-empty, of-one, of-set, of-without            a test of a pile's numbers
 --     any-first, any-second, any-third                an element of three piles
 --     all-first, all-second, all-third                each element of three piles
-use mathlib.Core.Path.{_≡_, refl, sym, ap, ap₂, subst, _∙_}
+use mathlib.Core.Path.{_≡_, refl, sym, ap, subst, _∙_}
 use mathlib.Core.Bool.{Bool, true, false, not, _&&_, _||_, cond}
 use mathlib.Core.List.{List, [], _∷_, _++_}
 use Prim.Native.Nat.{ℕ, _+_}
-use Rattle.laws.proofs.Decides.{Decides}
 use Rattle.compare.specs.Matching.{between}
 use Rattle.compare.specs.Places.{AnyAt}
 use Rattle.sets.specs.Items.{pastMember, seenAs, itemNumbers, sameNumbers}
 use Rattle.sets.specs.Lists.{seenAll, written, standsIn, withinAll, withoutAll}
 use Rattle.sets.specs.Standing.{MembersAt, ViewAt}
-use Rattle.sets.specs.Piles.{countAt, writtenSet, pileNumbers, pilesNumbers, SetAt, PileAt}
+use Rattle.sets.specs.Piles.{countAt, pileNumbers, pilesNumbers, SetAt, PileAt}
 use Rattle.sets.specs.declared.item.View.{View}
 use Rattle.sets.specs.declared.item.View.the-variants.{Plain}
 use Rattle.sets.specs.declared.item.Item.the-variants.{Seen, Pair}

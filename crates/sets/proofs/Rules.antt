@@ -1,29 +1,27 @@
 -- The conditions of the rules on sets: each is a written set compared with piles.
 -- Assumes nothing.
---     can-same, set-does                    a written set and three piles, by trees
---     can-written, rule-written .. -union    the rules that compare sets
---     find-test, rule-test                  rule 13
-use mathlib.Core.Path.{_≡_, refl, sym, ap, ap₂, subst, _∙_}
+--     can-same, set-does                     a written set and three piles, by trees
+--     can-written .. rule-union              the rules that compare sets
+--     find-test, rule-test                   rule 13
+use mathlib.Core.Path.{_≡_, sym, ap, ap₂, _∙_}
 use mathlib.Core.Bool.{Bool, true}
 use mathlib.Core.List.{List, [], _∷_, _++_, append-nil}
-use Prim.Native.Nat.{ℕ, _+_, _<_}
+use Prim.Native.Nat.{ℕ, _+_}
 use native.Mathlib.Omega.{arith}
-use lib.IntN.{pos}
-use lib.ListN.{length}
-use Rattle.language.specs.Syntax.{Sort, Boolean, Expr, truth, neg, Assignment}
-use Rattle.rules.specs.Words.{word, words}
-use Rattle.rules.specs.Assertion.{Members, member, one}
+use Rattle.language.specs.Syntax.{truth, neg}
+use Rattle.rules.specs.Words.{words}
+use Rattle.rules.specs.Assertion.{member, one}
 use Rattle.rules.specs.Replace.{replacement, replaceMembers}
 use Rattle.rules.specs.Sets.{under}
 use Rattle.rules.specs.Tests.{stands, same}
 use Rattle.ends.specs.Ends.{EndsOf}
 use Rattle.compare.specs.Matching.{numbers}
 use Rattle.compare.specs.declared.cursor.Put.{Put}
-use Rattle.sets.specs.Items.{part, itemNumbers}
+use Rattle.sets.specs.Items.{itemNumbers}
 use Rattle.sets.specs.Lists.{written, standsIn, sameAll}
-use Rattle.sets.specs.Standing.{MembersAt, ViewAt, ItemAt, CanFind}
-use Rattle.sets.specs.Piles.{countAt, writtenSet, pilesNumbers, SetAt, CanSame}
-use Rattle.sets.specs.Trees.{ExpressionStands, SetStands, PutStands, PileStands, HasSet, HasPile, CanSameSet, SameSet}
+use Rattle.sets.specs.Standing.{MembersAt, ItemAt, CanFind}
+use Rattle.sets.specs.Piles.{countAt, writtenSet, pilesNumbers, CanSame}
+use Rattle.sets.specs.Trees.{HasSet, HasPile, CanSameSet, SameSet}
 use Rattle.sets.specs.Trees.{stands-empty, stands-one, stands-plain, stands-under, stands-unless, stands-replaced}
 use Rattle.sets.specs.Rules.{CanTwo, SameWritten, CanReplaced, SameReplaced, CanUnder, SameUnder}
 use Rattle.sets.specs.Rules.{CanBranches, SameBranches, CanThree, SameUnion}

@@ -2,12 +2,12 @@
 -- Assumes nothing.
 --     numbersOf, membersNumbers, FitsAll     the numbers of a member, of a set; their words are in range
 --     stands-numbers, within-numbers, same-numbers, without-numbers
-use mathlib.Core.Path.{_≡_, refl, sym, ap, ap₂, _∙_}
+use mathlib.Core.Path.{_≡_, refl, ap, ap₂, _∙_}
 use mathlib.Core.Bool.{Bool, true, false, _&&_, _||_, cond}
 use mathlib.Core.List.{List, [], _∷_, _++_}
 use Prim.Native.Nat.{ℕ}
-use Rattle.laws.proofs.Decides.{Decides, decides-map}
-use Rattle.rules.specs.Words.{Word, words, sameWords}
+use Rattle.laws.proofs.Decides.{decides-map}
+use Rattle.rules.specs.Words.{words}
 use Rattle.rules.specs.Assertion.{Member, Members}
 use Rattle.rules.specs.Sets.{SameMember, listed, without}
 use Rattle.rules.specs.Tests.{sameMember, stands, within, same}

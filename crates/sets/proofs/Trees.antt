@@ -6,35 +6,33 @@
 --     PileIs, pile-is                        a pile is a set that a rule makes
 --     same-trees                             a written set is the same as three piles
 use mathlib.Core.Path.{_≡_, refl, sym, ap, ap₂, subst, _∙_}
-use mathlib.Core.Bool.{Bool}
 use mathlib.Core.List.{List, [], _∷_, _++_, append-assoc, map}
-use Prim.Native.Nat.{ℕ, zero, suc, _+_, _*_, _<_, _≤_}
+use Prim.Native.Nat.{ℕ, zero, suc, _+_, _<_, _≤_}
 use native.Mathlib.Omega.{arith}
 use lib.IntN.{pos}
 use lib.ListN.{length}
-use Rattle.language.specs.Syntax.{Sort, Boolean, Expr, and, neg, Assignment, toScalar, toArray}
-use Rattle.rules.specs.Words.{Word, word, words}
-use Rattle.rules.specs.Assertion.{Member, Members, member, one}
+use Rattle.language.specs.Syntax.{Sort, Boolean, Expr, and, neg, Assignment}
+use Rattle.rules.specs.Words.{word, words}
+use Rattle.rules.specs.Assertion.{Member, Members, member}
 use Rattle.rules.specs.Context.{Limits}
 use Rattle.rules.specs.Replace.{Replacement, replacement, replace, replaceMembers}
-use Rattle.rules.specs.Sets.{under, without}
+use Rattle.rules.specs.Sets.{under}
 use Rattle.rules.specs.Tests.{same}
-use Rattle.layout.specs.Bytes.{payloadAt}
-use Rattle.layout.specs.Spelling.{encode, FitsExpression, memberWords, membersWords, FitsMembers, FitsSet}
+use Rattle.layout.specs.Spelling.{FitsExpression, memberWords, membersWords, FitsMembers, FitsSet}
 use Rattle.layout.specs.EvidenceWords.{expressionPart, setPart}
-use Rattle.layout.specs.Standing.{StandsTo, Stands, PartStands}
+use Rattle.layout.specs.Standing.{Stands, PartStands}
 use Rattle.layout.proofs.Stands.{parted}
 use Rattle.layout.proofs.Words.{payload-of-word}
 use Rattle.ends.specs.Ends.{EndsOf}
 use Rattle.compare.specs.Matching.{between, numbers, exchanged}
-use Rattle.compare.specs.Places.{endAt, ExpressionTo, ExpressionAt, AnyAt}
+use Rattle.compare.specs.Places.{endAt, ExpressionAt, AnyAt}
 use Rattle.compare.specs.declared.cursor.Put.{Put}
 use Rattle.compare.proofs.Ranges.{between-join}
-use Rattle.compare.proofs.Operands.{to-end, Inside, expression-inside}
+use Rattle.compare.proofs.Operands.{to-end, expression-inside}
 use Rattle.compare.proofs.Numbers.{stands-between, numbers-append, FitsWords, fits-append, fits-words}
-use Rattle.compare.proofs.Replaced.{Replaces, replaces, both, scalar-replaces, array-replaces}
+use Rattle.compare.proofs.Replaced.{Replaces, replaces, scalar-replaces, array-replaces}
 use Rattle.sets.specs.Items.{pastMember, part, underNumbers, unlessNumbers, exchangedMember, seenAs, itemNumbers}
-use Rattle.sets.specs.Lists.{seenAll, written, sameAll, withoutAll}
+use Rattle.sets.specs.Lists.{seenAll, sameAll, withoutAll}
 use Rattle.sets.specs.Standing.{MemberAt, MembersAt, ViewAt}
 use Rattle.sets.specs.Piles.{countAt, writtenSet, pileNumbers, pilesNumbers, SetAt, PileAt}
 use Rattle.sets.specs.Trees.{ExpressionStands, SetStands, RightSide, PutStands, put-scalar, put-array, PileStands}

@@ -1,5 +1,6 @@
 -- A written set matched with piles member by member, in order: the quick way to know that they are the same.
--- Working: `same_set` looks everywhere where this fails. Assumes nothing.
+-- Working: `same-found` of proofs/Aligned says that sets matched so are the same; `same_set` looks everywhere where
+-- this fails. Assumes nothing.
 --     Parted, Aligns             the first members are those of a list, and the others are left; where the test says so
 --     Aligned                    all of a written set's members are those of three piles in order, where the test says so
 --     CanAlign .. CanAlignPile   what the functions ask for

@@ -1,5 +1,7 @@
 -- The numbers of members as the rules make them (document 01, "Rules"), and their comparison.
--- Working: laws in proofs/Trees say that they are those of the members that the rules name. Assumes nothing.
+-- Working: `plain-shows`, `under-shows`, `unless-shows` and `replaced-shows` of proofs/Trees say that they are those of
+-- the members that the rules name, `sameNumbers-decides` of proofs/Equal that the test decides equality. Assumes
+-- nothing.
 --     pastMember                                    the place past the member that starts at a place
 --     underNumbers, unlessNumbers, exchangedMember  a member under B, under ¬B, with words put for a word
 --     seenAs, itemNumbers                           by view, by item

@@ -1,11 +1,9 @@
 -- Piles: the sets that the rules make of written ones, as lists of the numbers of their members.
--- Working: laws in proofs/Trees say that these are the sets that the rules name. Assumes nothing.
+-- Working: `pile-is` and `same-trees` of proofs/Trees say that these are the sets that the rules name. Assumes nothing.
 --     countAt, writtenSet            how many members a written set has; the numbers of its members
 --     pileNumbers, pilesNumbers      by pile; of three piles together
 --     SetAt, PileAt, PilesAt         what a pile names stands in the file
 --     CanSearch .. CanSame           what the functions on piles ask for
-use mathlib.Core.Path.{_≡_}
-use mathlib.Core.Bool.{Bool, true}
 use mathlib.Core.List.{List, [], _∷_, _++_}
 use Prim.Native.Nat.{ℕ, _+_, _<_}
 use lib.ListN.{length}
@@ -15,7 +13,6 @@ use Rattle.compare.specs.Places.{AnyAt}
 use Rattle.sets.specs.Items.{itemNumbers}
 use Rattle.sets.specs.Lists.{seenAll, written, withoutAll}
 use Rattle.sets.specs.Standing.{MemberAt, MembersAt, ViewAt}
-use Rattle.sets.specs.declared.item.View.{View}
 use Rattle.sets.specs.declared.item.Item.the-variants.{Pair}
 use Rattle.sets.specs.declared.pile.Pile.{Pile}
 use Rattle.sets.specs.declared.pile.Pile.the-variants.{Empty, One, Set, Without}

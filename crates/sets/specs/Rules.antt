@@ -1,5 +1,6 @@
 -- What the rules ask of sets (document 01, "Rules"), in the terms of the trees that stand at the places.
--- Working. Assumes nothing.
+-- Working: `rule-written`, `rule-replaced`, `rule-under`, `rule-branches`, `rule-union` and `rule-test` of proofs/Rules
+-- tie it to the sets that are compared. Assumes nothing.
 --     CanTwo, SameWritten          rules 1, 10, 13: P same as Q
 --     CanReplaced, SameReplaced    rules 3, 4: with the right side for the identifier
 --     CanUnder, SameUnder          rules 5, 12: under B
@@ -13,8 +14,8 @@ use Prim.Native.Nat.{ℕ}
 use Rattle.language.specs.Syntax.{Boolean, Expr, truth, neg, Assignment}
 use Rattle.rules.specs.Assertion.{Members, member, one}
 use Rattle.rules.specs.Replace.{replacement, replaceMembers}
-use Rattle.rules.specs.Sets.{under, without}
-use Rattle.rules.specs.Tests.{stands, within, same}
+use Rattle.rules.specs.Sets.{under}
+use Rattle.rules.specs.Tests.{stands, same}
 use Rattle.ends.specs.Ends.{EndsOf}
 use Rattle.compare.specs.declared.cursor.Put.{Put}
 use Rattle.sets.specs.Trees.{ExpressionStands, SetStands, PutStands, HasExpression, HasSet, HasPut}

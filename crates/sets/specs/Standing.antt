@@ -1,5 +1,6 @@
 -- Members, views and items stand in a file: what the functions that compare them ask for.
--- Working. Assumes nothing.
+-- Working: `member-place`, `members-place`, `any-place` and `set-place` of proofs/Trees say that trees that stand in
+-- the file stand so. Assumes nothing.
 --     CanPass                         a member's two places are in the list of ends
 --     MemberAt                        a boolean and an expression of any sort stand there
 --     CanGuard, CanReplace            a member under a test; with words put for a word

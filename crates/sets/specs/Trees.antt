@@ -1,5 +1,6 @@
 -- The trees that stand where sets are compared, and what the comparisons promise of them.
--- Working. Assumes nothing.
+-- Working: `can-same` and `set-does` of proofs/Rules tie it to the numbers that are compared, `set-stands` and
+-- `has-set` of set_laws/proofs/Sets to the sets of a goal. Assumes nothing.
 --     ExpressionStands, SetStands      an expression, a written set stands at a place
 --     PutStands                        the word of an identifier, and its right side between two places
 --     PileStands                       a pile is a set that a rule makes of written ones

@@ -65,7 +65,8 @@ fn align_seen(
 // The first of them is the member by its two places.
 fn align_one(w: &[u32], ends: &[u32], n: usize, at: usize, f: usize, b: usize) -> Rest
     requires { ⌜ CanAlignOne (now w) (now ends) n «at» f b ⌝ }
-    ensures { λ r. ⌜ Aligns (now (w .entry)) (now (ends .entry)) n «at» (itemNumbers (now (w .entry)) (now (ends .entry)) (Item.Pair f b) ∷ []) r ⌝ }
+    ensures { λ r. ⌜ Aligns (now (w .entry)) (now (ends .entry)) n «at»
+        (itemNumbers (now (w .entry)) (now (ends .entry)) (Item.Pair f b) ∷ []) r ⌝ }
 {
     if n == 0 {
         return Rest { same: false, n, at };

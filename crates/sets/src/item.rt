@@ -112,7 +112,8 @@ fn match_item(w: &[u32], ends: &[u32], m: Match, item: Item) -> Match
 // Whether the written member at `at` is the item, by words.
 pub fn same_item(w: &[u32], ends: &[u32], at: usize, item: Item) -> bool
     requires { ⌜ CanCompare (now w) (now ends) «at» item ⌝ }
-    ensures { λ r. ⌜ r ≡ sameNumbers (between (now (w .entry)) «at» (pastMember (now (ends .entry)) «at»)) (itemNumbers (now (w .entry)) (now (ends .entry)) item) ⌝ }
+    ensures { λ r. ⌜ r ≡ sameNumbers (between (now (w .entry)) «at» (pastMember (now (ends .entry)) «at»))
+        (itemNumbers (now (w .entry)) (now (ends .entry)) item) ⌝ }
 {
     let to = past_member(ends, at);
     let m = match_item(w, ends, Match { same: true, at }, item);

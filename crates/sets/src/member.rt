@@ -12,7 +12,8 @@ ghost use Rattle.sets.specs.Standing.{CanFind, CanLook, CanHold, CanEith
 // Whether the item is one of the k written members at `at`.
 pub fn has_item(w: &[u32], ends: &[u32], k: usize, at: usize, item: Item) -> bool
     requires { ⌜ CanFind (now w) (now ends) k «at» item ⌝ }
-    ensures { λ r. ⌜ r ≡ standsIn (itemNumbers (now (w .entry)) (now (ends .entry)) item) (written (now (w .entry)) (now (ends .entry)) k «at») ⌝ }
+    ensures { λ r. ⌜ r ≡ standsIn (itemNumbers (now (w .entry)) (now (ends .entry)) item)
+        (written (now (w .entry)) (now (ends .entry)) k «at») ⌝ }
 {
     let mut n = k;
     let mut i = at;
@@ -29,7 +30,8 @@ pub fn has_item(w: &[u32], ends: &[u32], k: usize, at: usize, item: Item) -> boo
 // Whether the written member at x is one of the k members at `at` seen as the view says.
 pub fn in_seen(w: &[u32], ends: &[u32], x: usize, k: usize, at: usize, view: View) -> bool
     requires { ⌜ CanLook (now w) (now ends) x k «at» view ⌝ }
-    ensures { λ r. ⌜ r ≡ standsIn (between (now (w .entry)) x (pastMember (now (ends .entry)) x)) (seenAll (now (w .entry)) (now (ends .entry)) view k «at») ⌝ }
+    ensures { λ r. ⌜ r ≡ standsIn (between (now (w .entry)) x (pastMember (now (ends .entry)) x))
+        (seenAll (now (w .entry)) (now (ends .entry)) view k «at») ⌝ }
 {
     let mut n = k;
     let mut i = at;
@@ -54,7 +56,8 @@ pub fn seen_in(
     at: usize,
 ) -> bool
     requires { ⌜ CanHold (now w) (now ends) j from view k «at» ⌝ }
-    ensures { λ r. ⌜ r ≡ withinAll (seenAll (now (w .entry)) (now (ends .entry)) view j from) (written (now (w .entry)) (now (ends .entry)) k «at») ⌝ }
+    ensures { λ r. ⌜ r ≡ withinAll (seenAll (now (w .entry)) (now (ends .entry)) view j from)
+        (written (now (w .entry)) (now (ends .entry)) k «at») ⌝ }
 {
     let mut n = j;
     let mut i = from;
@@ -79,8 +82,10 @@ fn has_either(
     at: usize,
 ) -> bool
     requires { ⌜ CanEither (now w) (now ends) x l leave k «at» ⌝ }
-    ensures { λ r. ⌜ r ≡ (standsIn (between (now (w .entry)) x (pastMember (now (ends .entry)) x)) (written (now (w .entry)) (now (ends .entry)) k «at»)
-        || standsIn (between (now (w .entry)) x (pastMember (now (ends .entry)) x)) (written (now (w .entry)) (now (ends .entry)) l leave)) ⌝ }
+    ensures { λ r. ⌜ r ≡ (standsIn (between (now (w .entry)) x (pastMember (now (ends .entry)) x))
+        (written (now (w .entry)) (now (ends .entry)) k «at»)
+        || standsIn (between (now (w .entry)) x (pastMember (now (ends .entry)) x))
+        (written (now (w .entry)) (now (ends .entry)) l leave)) ⌝ }
 {
     if has_item(w, ends, k, at, Item::Seen(x, View::Plain)) {
         return true;
@@ -100,7 +105,8 @@ pub fn rest_in(
     at: usize,
 ) -> bool
     requires { ⌜ CanRest (now w) (now ends) j from l leave k «at» ⌝ }
-    ensures { λ r. ⌜ r ≡ withinAll (withoutAll (written (now (w .entry)) (now (ends .entry)) j from) (written (now (w .entry)) (now (ends .entry)) l leave))
+    ensures { λ r. ⌜ r ≡ withinAll
+        (withoutAll (written (now (w .entry)) (now (ends .entry)) j from) (written (now (w .entry)) (now (ends .entry)) l leave))
         (written (now (w .entry)) (now (ends .entry)) k «at») ⌝ }
 {
     let mut n = j;

@@ -44,7 +44,8 @@ pub fn count(w: &[u32], q: usize) -> usize
 // Whether the written member at x stands in the pile.
 fn in_pile(w: &[u32], ends: &[u32], x: usize, pile: Pile) -> bool
     requires { ⌜ CanSearch (now w) (now ends) x pile ⌝ }
-    ensures { λ r. ⌜ r ≡ standsIn (between (now (w .entry)) x (pastMember (now (ends .entry)) x)) (pileNumbers (now (w .entry)) (now (ends .entry)) pile) ⌝ }
+    ensures { λ r. ⌜ r ≡ standsIn (between (now (w .entry)) x (pastMember (now (ends .entry)) x))
+        (pileNumbers (now (w .entry)) (now (ends .entry)) pile) ⌝ }
 {
     match pile {
         Pile::Empty => false,
@@ -64,7 +65,8 @@ fn in_pile(w: &[u32], ends: &[u32], x: usize, pile: Pile) -> bool
 // Whether each member of the pile is one of the k written members at `at`.
 fn pile_in(w: &[u32], ends: &[u32], pile: Pile, k: usize, at: usize) -> bool
     requires { ⌜ CanKeep (now w) (now ends) pile k «at» ⌝ }
-    ensures { λ r. ⌜ r ≡ withinAll (pileNumbers (now (w .entry)) (now (ends .entry)) pile) (written (now (w .entry)) (now (ends .entry)) k «at») ⌝ }
+    ensures { λ r. ⌜ r ≡ withinAll (pileNumbers (now (w .entry)) (now (ends .entry)) pile)
+        (written (now (w .entry)) (now (ends .entry)) k «at») ⌝ }
 {
     match pile {
         Pile::Empty => true,
@@ -84,7 +86,8 @@ fn pile_in(w: &[u32], ends: &[u32], pile: Pile, k: usize, at: usize) -> bool
 // Whether the written member at x stands in one of the piles.
 fn in_piles(w: &[u32], ends: &[u32], x: usize, piles: Piles) -> bool
     requires { ⌜ CanSearchAll (now w) (now ends) x piles ⌝ }
-    ensures { λ r. ⌜ r ≡ standsIn (between (now (w .entry)) x (pastMember (now (ends .entry)) x)) (pilesNumbers (now (w .entry)) (now (ends .entry)) piles) ⌝ }
+    ensures { λ r. ⌜ r ≡ standsIn (between (now (w .entry)) x (pastMember (now (ends .entry)) x))
+        (pilesNumbers (now (w .entry)) (now (ends .entry)) piles) ⌝ }
 {
     let first = piles.first;
     if in_pile(w, ends, x, first) {
@@ -101,7 +104,8 @@ fn in_piles(w: &[u32], ends: &[u32], x: usize, piles: Piles) -> bool
 // Whether each member of the piles is one of the k written members at `at`.
 pub fn piles_in(w: &[u32], ends: &[u32], piles: Piles, k: usize, at: usize) -> bool
     requires { ⌜ CanKeepAll (now w) (now ends) piles k «at» ⌝ }
-    ensures { λ r. ⌜ r ≡ withinAll (pilesNumbers (now (w .entry)) (now (ends .entry)) piles) (written (now (w .entry)) (now (ends .entry)) k «at») ⌝ }
+    ensures { λ r. ⌜ r ≡ withinAll (pilesNumbers (now (w .entry)) (now (ends .entry)) piles)
+        (written (now (w .entry)) (now (ends .entry)) k «at») ⌝ }
 {
     let first = piles.first;
     if !pile_in(w, ends, first, k, at) {
@@ -118,7 +122,8 @@ pub fn piles_in(w: &[u32], ends: &[u32], piles: Piles, k: usize, at: usize) -> b
 // Whether each of the k written members at `at` stands in one of the piles.
 pub fn set_in(w: &[u32], ends: &[u32], k: usize, at: usize, piles: Piles) -> bool
     requires { ⌜ CanKeepAll (now w) (now ends) piles k «at» ⌝ }
-    ensures { λ r. ⌜ r ≡ withinAll (written (now (w .entry)) (now (ends .entry)) k «at») (pilesNumbers (now (w .entry)) (now (ends .entry)) piles) ⌝ }
+    ensures { λ r. ⌜ r ≡ withinAll (written (now (w .entry)) (now (ends .entry)) k «at»)
+        (pilesNumbers (now (w .entry)) (now (ends .entry)) piles) ⌝ }
 {
     let mut n = k;
     let mut i = at;

@@ -11,7 +11,8 @@ ghost use Rattle.sets.specs.Trees.{CanSameSet, SameSet};
 // Whether the members of the written set at p are those of the piles, by their words. Members in the same order are found at once.
 fn same_members(w: &[u32], ends: &[u32], p: usize, piles: Piles) -> bool
     requires { ⌜ CanSame (now w) (now ends) p piles ⌝ }
-    ensures { λ r. ⌜ r ≡ sameAll (writtenSet (now (w .entry)) (now (ends .entry)) p) (pilesNumbers (now (w .entry)) (now (ends .entry)) piles) ⌝ }
+    ensures { λ r. ⌜ r ≡ sameAll (writtenSet (now (w .entry)) (now (ends .entry)) p)
+        (pilesNumbers (now (w .entry)) (now (ends .entry)) piles) ⌝ }
 {
     let k = count(w, p);
     let at = p + 1;

@@ -1,5 +1,6 @@
 -- Formulas over numbered leaves, their spelling as bytes, and their value under an assignment of bits.
--- Working: a law of the crate `implication` ties the table to document 01's "Implies". Assumes nothing.
+-- Working: `table-settled` of implication/proofs/Meaning ties what the table settles to document 01's "Implies".
+-- Assumes nothing.
 --     Formula, value                a formula; its value where each leaf has one
 --     bit, numbered                 the bits of a number; the assignment that a number is
 --     spell, depth, Small           the bytes of a formula; its depth; each leaf has one of 16 numbers

@@ -1,5 +1,6 @@
 -- What a word stands for, by kind and payload (document 01, "Layout"). A word that the lists do not allow is `Other`.
--- Working: proofs/Tables.antt ties it to the layout's tables.
+-- Working: `expression-word`, `command-word`, `set-word`, `pre-word`, `implication-word` and `flow-word` of
+-- proofs/Tables tie it to the layout's tables. Assumes nothing.
 --     arithmeticOf, booleanOf, arrayOf, commandOf    by group: kinds up to 4, 12, 18 and 31
 --     flowOf, setOf, preOf, evidenceOf               kinds 33, 34 and 35; kinds from 32 on
 --     kindOf, decodeOf                               by kind and payload; of a number

@@ -1,5 +1,5 @@
 -- Words loaded from bytes (document 01, "Layout": 32 bits, low byte first).
--- Working: proofs/Loading.antt, `loaded-words`.
+-- Working: `loaded-words` of proofs/Loading ties it to the layout's `wordsOf`. Assumes nothing.
 --     wordAt    the number that the four bytes of a place make
 --     lesser    the lesser of two numbers
 --     Loaded    the words of the bytes, as many as there is room for, stand in front; all else is as it was

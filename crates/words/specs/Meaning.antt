@@ -1,6 +1,7 @@
 -- What the layout's tables give at a decoded word: how the parts that follow it are read, or nothing where the word is
 -- not allowed.
--- Working: proofs/Tables.antt, a law for each table.
+-- Working: `arithmetic-of`, `boolean-of`, `array-of`, `command-of`, `set-of`, `pre-of`, `implication-of` and `flow-of`
+-- of proofs/Tables tie each to the layout's table. Assumes nothing.
 --     operatorMeant, comparisonMeant                                          of the enums
 --     arithmeticMeaning, booleanMeaning, arrayMeaning, expressionMeaning      of expressions
 --     commandMeaning, setMeaning                                              of commands and sets

@@ -6,10 +6,6 @@ use borrow.Author.Needs.{needs}
 use Rattle.ends.proofs.Fill.{Partly, partly-none, partly-length, partly-more, partly-all, end-at}
 use Rattle.ends.proofs.fill_ends.Statement.{statement}
 use Rattle.ends.proofs.fill_ends.Tie as tie
-use Rattle.ends.proofs.fill_ends.Reads as reads
-use Rattle.ends.proofs.fill_ends.Lts as lts
-use Rattle.ends.proofs.parts.Reads as parts-reads
-use Rattle.ends.proofs.past.Reads as past-reads
 
 abbrev Inv-loop : tie.InvT-loop
 Inv-loop w ends₀ i₀ ends i = Partly w ends₀ ends i

@@ -1,16 +1,12 @@
 -- `ends::past` meets its contract: what is left to follow from the place at hand gives what is asked from the first.
 -- The measure is the parts left. Assumes nothing.
 use mathlib.Core.Path.{_≡_, refl, sym, _∙_}
-use Prim.Native.Nat.{_≤_}
 use native.Mathlib.Omega.{arith}
 use borrow.Author.Needs.{needs}
-use lib.ListN.{length}
 use Rattle.ends.specs.Sizes.{follow}
 use Rattle.ends.proofs.Sizes.{follow-none, follow-stop, follow-on}
 use Rattle.ends.proofs.past.Statement.{statement}
 use Rattle.ends.proofs.past.Tie as tie
-use Rattle.ends.proofs.past.Reads as reads
-use Rattle.ends.proofs.past.Lts as lts
 
 abbrev Inv-loop : tie.InvT-loop
 Inv-loop ends words from count at₀ left₀ at left = follow ends words left at ≡ follow ends words count from

@@ -113,13 +113,33 @@ pub +match-arithmetic+match-array+match-boolean+match-expression-spec : {M : Typ
     (λ c. let s = c .before .before in let p = s .pre .1 in let i = can-inside p in omega arith)
     (λ c. let s = c .before .before .before in let p = s .pre .1 in can-inside p)
     (λ c κs. let s = c .before .before .before in let p = s .pre .1 in p .inside)
-    (λ c. let s = c .before .before .before .before .before in let p = s .pre .1 in none-matched (can-inside p) (c .before .match-head .ensures) (arithmetic-none (p .ends-of) (p .expression) (c .if1 .taken)))
+    (λ c.
+    let s = c .before .before .before .before .before in
+    let p = s .pre .1 in
+    none-matched (can-inside p) (c .before .match-head .ensures)
+    (arithmetic-none (p .ends-of) (p .expression) (c .if1 .taken)))
     (λ c. let s = c .before .before .before .before .before in let p = s .pre .1 in let i = can-inside p in omega arith)
-    (λ c κs. let s = c .before .before .before .before .before in let p = s .pre .1 in can-first (p .ends-of) (p .inside) (s .args .b) (s .pre .0) (arithmetic-two (p .ends-of) (p .expression) (c .if1 .left) .0))
+    (λ c κs.
+    let s = c .before .before .before .before .before in
+    let p = s .pre .1 in
+    can-first (p .ends-of) (p .inside) (s .args .b) (s .pre .0)
+    (arithmetic-two (p .ends-of) (p .expression) (c .if1 .left) .0))
     (λ c. let s = c .before .before .before .before .before .before in let p = s .pre .1 in let i = can-inside p in omega arith)
-    (λ c κs. let s = c .before .before .before .before .before .before in let p = s .pre .1 in any-listed (p .ends-of) (arithmetic-two (p .ends-of) (p .expression) (c .before .if1 .left) .0))
-    (λ c κs. let s = c .before .before .before .before .before .before .before in let p = s .pre .1 in can-second (p .ends-of) (p .inside) (s .args .b) (s .pre .0) (arithmetic-two (p .ends-of) (p .expression) (c .before .before .if1 .left)) (c .end-at .ensures))
-    (λ c. let s = c .before .before .before .before .before .before .before .before in let p = s .pre .1 in two-matched (can-inside p) (c .before .before .before .before .match-head .ensures) (arithmetic-two (p .ends-of) (p .expression) (c .before .before .before .if1 .left)) (c .before .before .match-expression .ensures) (c .before .end-at .ensures) (c .match-expression2 .ensures)))
+    (λ c κs.
+    let s = c .before .before .before .before .before .before in
+    let p = s .pre .1 in
+    any-listed (p .ends-of) (arithmetic-two (p .ends-of) (p .expression) (c .before .if1 .left) .0))
+    (λ c κs.
+    let s = c .before .before .before .before .before .before .before in
+    let p = s .pre .1 in
+    can-second (p .ends-of) (p .inside) (s .args .b) (s .pre .0)
+    (arithmetic-two (p .ends-of) (p .expression) (c .before .before .if1 .left)) (c .end-at .ensures))
+    (λ c.
+    let s = c .before .before .before .before .before .before .before .before in
+    let p = s .pre .1 in
+    two-matched (can-inside p) (c .before .before .before .before .match-head .ensures)
+    (arithmetic-two (p .ends-of) (p .expression) (c .before .before .before .if1 .left))
+    (c .before .before .match-expression .ensures) (c .before .end-at .ensures) (c .match-expression2 .ensures)))
     (λ t. match-array-lts.spec (
       match-head-reads.Asked,
       match-head-reads.Learnt,
@@ -133,15 +153,46 @@ pub +match-arithmetic+match-array+match-boolean+match-expression-spec : {M : Typ
     (λ c. let s = c .before .before in let p = s .pre .1 in let i = can-inside p in omega arith)
     (λ c. let s = c .before .before .before in let p = s .pre .1 in can-inside p)
     (λ c κs. let s = c .before .before .before in let p = s .pre .1 in p .inside)
-    (λ c. let s = c .before .before .before .before .before in let p = s .pre .1 in none-matched (can-inside p) (c .before .match-head .ensures) (array-none (p .ends-of) (p .expression) (c .if1 .taken)))
+    (λ c.
+    let s = c .before .before .before .before .before in
+    let p = s .pre .1 in
+    none-matched (can-inside p) (c .before .match-head .ensures)
+    (array-none (p .ends-of) (p .expression) (c .if1 .taken)))
     (λ c. let s = c .before .before .before .before .before in let p = s .pre .1 in let i = can-inside p in omega arith)
-    (λ c κs. let s = c .before .before .before .before .before in let p = s .pre .1 in can-first (p .ends-of) (p .inside) (s .args .b) (s .pre .0) (array-three (p .ends-of) (p .expression) (c .if1 .left) .0))
+    (λ c κs.
+    let s = c .before .before .before .before .before in
+    let p = s .pre .1 in
+    can-first (p .ends-of) (p .inside) (s .args .b) (s .pre .0)
+    (array-three (p .ends-of) (p .expression) (c .if1 .left) .0))
     (λ c. let s = c .before .before .before .before .before .before in let p = s .pre .1 in let i = can-inside p in omega arith)
-    (λ c κs. let s = c .before .before .before .before .before .before in let p = s .pre .1 in any-listed (p .ends-of) (array-three (p .ends-of) (p .expression) (c .before .if1 .left) .0))
-    (λ c κs. let s = c .before .before .before .before .before .before .before in let p = s .pre .1 in let x = array-three (p .ends-of) (p .expression) (c .before .before .if1 .left) in can-second (p .ends-of) (p .inside) (s .args .b) (s .pre .0) (x .0, (x .1 .0, refl)) (c .end-at .ensures))
-    (λ c κs. let s = c .before .before .before .before .before .before .before .before in let p = s .pre .1 in let x = array-three (p .ends-of) (p .expression) (c .before .before .before .if1 .left) in any-listed (p .ends-of) (subst (AnyAt (s .args .w .now) (s .args .ends .now)) (sym (c .before .end-at .ensures)) (x .1 .0)))
-    (λ c κs. let s = c .before .before .before .before .before .before .before .before .before in let p = s .pre .1 in can-third (p .ends-of) (p .inside) (s .args .b) (s .pre .0) (array-three (p .ends-of) (p .expression) (c .before .before .before .before .if1 .left)) (c .before .before .end-at .ensures) (c .end-at2 .ensures))
-    (λ c. let s = c .before .before .before .before .before .before .before .before .before .before in let p = s .pre .1 in three-matched (can-inside p) (c .before .before .before .before .before .before .match-head .ensures) (array-three (p .ends-of) (p .expression) (c .before .before .before .before .before .if1 .left)) (c .before .before .before .before .match-expression .ensures) (c .before .before .before .end-at .ensures) (c .before .before .match-expression2 .ensures) (c .before .end-at2 .ensures) (c .match-expression3 .ensures)))
+    (λ c κs.
+    let s = c .before .before .before .before .before .before in
+    let p = s .pre .1 in
+    any-listed (p .ends-of) (array-three (p .ends-of) (p .expression) (c .before .if1 .left) .0))
+    (λ c κs.
+    let s = c .before .before .before .before .before .before .before in
+    let p = s .pre .1 in
+    let x = array-three (p .ends-of) (p .expression) (c .before .before .if1 .left) in
+    can-second (p .ends-of) (p .inside) (s .args .b) (s .pre .0) (x .0, (x .1 .0, refl)) (c .end-at .ensures))
+    (λ c κs.
+    let s = c .before .before .before .before .before .before .before .before in
+    let p = s .pre .1 in
+    let x = array-three (p .ends-of) (p .expression) (c .before .before .before .if1 .left) in
+    any-listed (p .ends-of)
+    (subst (AnyAt (s .args .w .now) (s .args .ends .now)) (sym (c .before .end-at .ensures)) (x .1 .0)))
+    (λ c κs.
+    let s = c .before .before .before .before .before .before .before .before .before in
+    let p = s .pre .1 in
+    can-third (p .ends-of) (p .inside) (s .args .b) (s .pre .0)
+    (array-three (p .ends-of) (p .expression) (c .before .before .before .before .if1 .left))
+    (c .before .before .end-at .ensures) (c .end-at2 .ensures))
+    (λ c.
+    let s = c .before .before .before .before .before .before .before .before .before .before in
+    let p = s .pre .1 in
+    three-matched (can-inside p) (c .before .before .before .before .before .before .match-head .ensures)
+    (array-three (p .ends-of) (p .expression) (c .before .before .before .before .before .if1 .left))
+    (c .before .before .before .before .match-expression .ensures) (c .before .before .before .end-at .ensures)
+    (c .before .before .match-expression2 .ensures) (c .before .end-at2 .ensures) (c .match-expression3 .ensures)))
     (λ t. match-boolean-lts.spec (
       match-head-reads.Asked,
       match-head-reads.Learnt,
@@ -155,16 +206,47 @@ pub +match-arithmetic+match-array+match-boolean+match-expression-spec : {M : Typ
     (λ c. let s = c .before .before in let p = s .pre .1 in let i = can-inside p in omega arith)
     (λ c. let s = c .before .before .before in let p = s .pre .1 in can-inside p)
     (λ c κs. let s = c .before .before .before in let p = s .pre .1 in p .inside)
-    (λ c. let s = c .before .before .before .before .before in let p = s .pre .1 in none-matched (can-inside p) (c .before .match-head .ensures) (boolean-none (p .ends-of) (p .expression) (c .if1 .taken)))
+    (λ c.
+    let s = c .before .before .before .before .before in
+    let p = s .pre .1 in
+    none-matched (can-inside p) (c .before .match-head .ensures)
+    (boolean-none (p .ends-of) (p .expression) (c .if1 .taken)))
     (λ c. let s = c .before .before .before .before .before .before in let p = s .pre .1 in let i = can-inside p in omega arith)
-    (λ c κs. let s = c .before .before .before .before .before .before in let p = s .pre .1 in can-first (p .ends-of) (p .inside) (s .args .b) (s .pre .0) (boolean-one (p .ends-of) (p .expression) (c .if2 .taken) .0))
-    (λ c. let s = c .before .before .before .before .before .before .before in let p = s .pre .1 in one-matched (can-inside p) (c .before .before .before .match-head .ensures) (boolean-one (p .ends-of) (p .expression) (c .before .if2 .taken)) (c .match-expression .ensures))
+    (λ c κs.
+    let s = c .before .before .before .before .before .before in
+    let p = s .pre .1 in
+    can-first (p .ends-of) (p .inside) (s .args .b) (s .pre .0)
+    (boolean-one (p .ends-of) (p .expression) (c .if2 .taken) .0))
+    (λ c.
+    let s = c .before .before .before .before .before .before .before in
+    let p = s .pre .1 in
+    one-matched (can-inside p) (c .before .before .before .match-head .ensures)
+    (boolean-one (p .ends-of) (p .expression) (c .before .if2 .taken)) (c .match-expression .ensures))
     (λ c. let s = c .before .before .before .before .before .before in let p = s .pre .1 in let i = can-inside p in omega arith)
-    (λ c κs. let s = c .before .before .before .before .before .before in let p = s .pre .1 in can-first (p .ends-of) (p .inside) (s .args .b) (s .pre .0) (boolean-two (p .ends-of) (p .expression) (c .before .if1 .left) (c .if2 .left) .0))
+    (λ c κs.
+    let s = c .before .before .before .before .before .before in
+    let p = s .pre .1 in
+    can-first (p .ends-of) (p .inside) (s .args .b) (s .pre .0)
+    (boolean-two (p .ends-of) (p .expression) (c .before .if1 .left) (c .if2 .left) .0))
     (λ c. let s = c .before .before .before .before .before .before .before in let p = s .pre .1 in let i = can-inside p in omega arith)
-    (λ c κs. let s = c .before .before .before .before .before .before .before in let p = s .pre .1 in any-listed (p .ends-of) (boolean-two (p .ends-of) (p .expression) (c .before .before .if1 .left) (c .before .if2 .left) .0))
-    (λ c κs. let s = c .before .before .before .before .before .before .before .before in let p = s .pre .1 in can-second (p .ends-of) (p .inside) (s .args .b) (s .pre .0) (boolean-two (p .ends-of) (p .expression) (c .before .before .before .if1 .left) (c .before .before .if2 .left)) (c .end-at .ensures))
-    (λ c. let s = c .before .before .before .before .before .before .before .before .before in let p = s .pre .1 in two-matched (can-inside p) (c .before .before .before .before .before .match-head .ensures) (boolean-two (p .ends-of) (p .expression) (c .before .before .before .before .if1 .left) (c .before .before .before .if2 .left)) (c .before .before .match-expression2 .ensures) (c .before .end-at .ensures) (c .match-expression3 .ensures)))
+    (λ c κs.
+    let s = c .before .before .before .before .before .before .before in
+    let p = s .pre .1 in
+    any-listed (p .ends-of)
+    (boolean-two (p .ends-of) (p .expression) (c .before .before .if1 .left) (c .before .if2 .left) .0))
+    (λ c κs.
+    let s = c .before .before .before .before .before .before .before .before in
+    let p = s .pre .1 in
+    can-second (p .ends-of) (p .inside) (s .args .b) (s .pre .0)
+    (boolean-two (p .ends-of) (p .expression) (c .before .before .before .if1 .left) (c .before .before .if2 .left))
+    (c .end-at .ensures))
+    (λ c.
+    let s = c .before .before .before .before .before .before .before .before .before in
+    let p = s .pre .1 in
+    two-matched (can-inside p) (c .before .before .before .before .before .match-head .ensures)
+    (boolean-two (p .ends-of) (p .expression) (c .before .before .before .before .if1 .left)
+    (c .before .before .before .if2 .left)) (c .before .before .match-expression2 .ensures)
+    (c .before .end-at .ensures) (c .match-expression3 .ensures)))
     λ t. match-expression-lts.spec (
       match-arithmetic-below t,
       match-arithmetic.Post,
@@ -177,9 +259,19 @@ pub +match-arithmetic+match-array+match-boolean+match-expression-spec : {M : Typ
     match-expression.Post
     (λ c. let s = c .before .before in let p = s .pre .1 in let i = any-inside (p .any) in omega arith)
     (λ c. let s = c .before .before .before in let p = s .pre .1 in any-inside (p .any))
-    (λ c κs. let s = c .before .before .before .before in let p = s .pre .1 in can-sort (s .pre .0) p (is-arithmetic (p .ends-of) (p .any .sort) (p .any .expression) (c .if1 .taken)))
+    (λ c κs.
+    let s = c .before .before .before .before in
+    let p = s .pre .1 in
+    can-sort (s .pre .0) p (is-arithmetic (p .ends-of) (p .any .sort) (p .any .expression) (c .if1 .taken)))
     (λ c. c .match-arithmetic .ensures)
-    (λ c κs. let s = c .before .before .before .before .before in let p = s .pre .1 in can-sort (s .pre .0) p (is-boolean (p .ends-of) (p .any .sort) (p .any .expression) (c .before .if1 .left) (c .if2 .taken)))
+    (λ c κs.
+    let s = c .before .before .before .before .before in
+    let p = s .pre .1 in
+    can-sort (s .pre .0) p
+    (is-boolean (p .ends-of) (p .any .sort) (p .any .expression) (c .before .if1 .left) (c .if2 .taken)))
     (λ c. c .match-boolean .ensures)
-    (λ c κs. let s = c .before .before .before .before .before in let p = s .pre .1 in can-sort (s .pre .0) p (is-array (p .ends-of) (p .any .sort) (p .any .expression) (c .if2 .left)))
+    (λ c κs.
+    let s = c .before .before .before .before .before in
+    let p = s .pre .1 in
+    can-sort (s .pre .0) p (is-array (p .ends-of) (p .any .sort) (p .any .expression) (c .if2 .left)))
     (λ c. c .match-array .ensures)

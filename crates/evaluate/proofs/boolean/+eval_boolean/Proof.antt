@@ -1,9 +1,8 @@
 -- `evaluate::boolean::eval_boolean` meets its contract: what comes of a boolean is what comes of its operands. The
 -- measure is the words left from it on.
 -- Assumes nothing.
-use mathlib.Core.Path.{sym, ap, _∙_}
+use mathlib.Core.Path.{ap, _∙_}
 use native.Mathlib.Omega.{arith}
-use Prim.Native.Nat.{_+_}
 use Rattle.words.specs.declared.Word.the-variants.{Boolean}
 use Rattle.heads.proofs.Heads.{expression-starts}
 use Rattle.heads.proofs.Parts.{boolean-parts}

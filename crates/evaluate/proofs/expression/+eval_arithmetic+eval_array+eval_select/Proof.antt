@@ -2,7 +2,7 @@
 -- expression is what comes of its operands. The measure is the words left from the expression on, twice; one less for
 -- a select's own function.
 -- Assumes nothing.
-use mathlib.Core.Path.{sym, ap, _∙_}
+use mathlib.Core.Path.{ap, _∙_}
 use native.Mathlib.Omega.{arith}
 use Prim.Native.Nat.{_+_}
 use Rattle.words.specs.declared.Word.the-variants.{Arithmetic, Array}

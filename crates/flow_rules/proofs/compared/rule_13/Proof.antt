@@ -24,11 +24,19 @@ rule-13-spec =
     (λ c. command-head (c .before .before .before .pre))
     (λ c. let p = c .before .before .before .before .pre in while-stops (p .ends-of) (p .rule-is) (c .if1 .taken))
     (λ c κs. two-sets (c .before .before .before .before .pre))
-    (λ c. let p = c .before .before .before .before .before .before .pre in same-stops (p .ends-of) (p .rule-is) (c .before .before .if1 .left) (c .before .same-written .ensures) (not-true _ (c .if2 .taken)))
+    (λ c.
+    let p = c .before .before .before .before .before .before .pre in
+    same-stops (p .ends-of) (p .rule-is) (c .before .before .if1 .left) (c .before .same-written .ensures)
+    (not-true _ (c .if2 .taken)))
     (λ c. let i = command-head (c .before .before .before .before .before .before .pre) in omega arith)
     (λ c κs. while-test (c .before .before .before .before .before .before .pre) (c .before .before .if1 .left))
-    (λ c. let p = c .before .before .before .before .before .before .before .before .pre in test-stops (p .ends-of) (p .rule-is) (c .before .before .before .before .if1 .left) (c .before .test-stands .ensures) (not-true _ (c .if3 .taken)))
+    (λ c.
+    let p = c .before .before .before .before .before .before .before .before .pre in
+    test-stops (p .ends-of) (p .rule-is) (c .before .before .before .before .if1 .left)
+    (c .before .test-stands .ensures) (not-true _ (c .if3 .taken)))
     (λ c. let i = command-head (c .before .before .before .before .before .before .before .before .pre) in omega arith)
-    (λ c κs. while-known (c .before .before .before .before .before .before .before .before .pre) (c .before .before .before .before .if1 .left) .listed)
+    (λ c κs.
+    while-known (c .before .before .before .before .before .before .before .before .pre)
+    (c .before .before .before .before .if1 .left) .listed)
     (λ c. let i = low-head (c .before .before .before .before .before .before .before .before .before .pre) in omega arith)
     goes)

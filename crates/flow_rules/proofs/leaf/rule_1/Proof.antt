@@ -15,4 +15,7 @@ rule-1-spec =
     (λ c. let p = c .before .before .before .before .pre in skip-stops (p .ends-of) (p .rule-is) (c .if1 .taken))
     (λ c κs. two-sets (c .before .before .before .before .pre))
     (λ c κs. low-head (c .before .before .before .before .before .pre))
-    (λ c. let p = c .before .before .before .before .before .before .pre in skip-tried (p .ends-of) (p .rule-is) (c .before .before .if1 .left) (c .before .same-written .ensures) (c .leaf .ensures)))
+    (λ c.
+    let p = c .before .before .before .before .before .before .pre in
+    skip-tried (p .ends-of) (p .rule-is) (c .before .before .if1 .left) (c .before .same-written .ensures)
+    (c .leaf .ensures)))

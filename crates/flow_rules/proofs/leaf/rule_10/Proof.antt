@@ -11,7 +11,12 @@ rule-10-spec =
     tie.close
     (tie.spec
     (λ c κs. two-sets (c .before .before .pre))
-    (λ c. let p = c .before .before .before .before .pre in same-stops (p .ends-of) (p .rule-is) (c .before .same-written .ensures) (not-true _ (c .if1 .taken)))
+    (λ c.
+    let p = c .before .before .before .before .pre in
+    same-stops (p .ends-of) (p .rule-is) (c .before .same-written .ensures) (not-true _ (c .if1 .taken)))
     (λ c κs. kept-known (c .before .before .before .before .pre))
     (λ c κs. low-head (c .before .before .before .before .before .pre))
-    (λ c. let p = c .before .before .before .before .before .before .pre in kept-tried (p .ends-of) (p .rule-is) (c .before .before .before .same-written .ensures) (not-false _ (c .before .before .if1 .left)) (c .before .is-kept .ensures) (c .leaf .ensures)))
+    (λ c.
+    let p = c .before .before .before .before .before .before .pre in
+    kept-tried (p .ends-of) (p .rule-is) (c .before .before .before .same-written .ensures)
+    (not-false _ (c .before .before .if1 .left)) (c .before .is-kept .ensures) (c .leaf .ensures)))

@@ -20,4 +20,7 @@ rule-4-spec =
     (λ c. let i = command-head (c .before .before .before .before .before .pre) in omega arith)
     (λ c κs. with-array (c .before .before .before .before .before .pre) (c .before .if1 .left) (c .end-at .ensures))
     (λ c κs. low-head (c .before .before .before .before .before .before .pre))
-    (λ c. let p = c .before .before .before .before .before .before .before .pre in array-tried (p .ends-of) (p .rule-is) (c .before .before .before .if1 .left) (c .before .before .end-at .ensures) (c .before .same-replaced .ensures) (c .leaf .ensures)))
+    (λ c.
+    let p = c .before .before .before .before .before .before .before .pre in
+    array-tried (p .ends-of) (p .rule-is) (c .before .before .before .if1 .left)
+    (c .before .before .end-at .ensures) (c .before .same-replaced .ensures) (c .leaf .ensures)))

@@ -16,4 +16,7 @@ rule-5-spec =
     (λ c. let i = command-head (c .before .before .before .before .pre) in omega arith)
     (λ c κs. with-test (c .before .before .before .before .pre) (c .if1 .left))
     (λ c κs. low-head (c .before .before .before .before .before .pre))
-    (λ c. let p = c .before .before .before .before .before .before .pre in assert-tried (p .ends-of) (p .rule-is) (c .before .before .if1 .left) (c .before .same-under .ensures) (c .leaf .ensures)))
+    (λ c.
+    let p = c .before .before .before .before .before .before .pre in
+    assert-tried (p .ends-of) (p .rule-is) (c .before .before .if1 .left) (c .before .same-under .ensures)
+    (c .leaf .ensures)))

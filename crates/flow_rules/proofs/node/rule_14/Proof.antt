@@ -16,8 +16,14 @@ rule-14-spec =
     (λ c. let p = c .before .before .before .before .pre in for-stops (p .ends-of) (p .rule-is) (c .if1 .taken))
     (λ c. let i = low-head (c .before .before .before .before .pre) in omega arith)
     (λ c κs. for-known (c .before .before .before .before .pre) (c .if1 .left))
-    (λ c. let p = c .before .before .before .before .before .before .pre in meaning-stops (p .ends-of) (p .rule-is) (c .before .before .if1 .left) (c .before .is-meaning .ensures) (not-true _ (c .if2 .taken)))
+    (λ c.
+    let p = c .before .before .before .before .before .before .pre in
+    meaning-stops (p .ends-of) (p .rule-is) (c .before .before .if1 .left) (c .before .is-meaning .ensures)
+    (not-true _ (c .if2 .taken)))
     (λ c. let i = low-head (c .before .before .before .before .before .before .pre) in omega arith)
     (λ c κs. meaning-known (c .before .before .before .before .before .before .pre) .listed)
     (λ c. let i = low-head (c .before .before .before .before .before .before .before .pre) in omega arith)
-    (λ c. let p = c .before .before .before .before .before .before .before .pre in for-goes (p .ends-of) (p .rule-is) (c .before .before .before .if1 .left) (c .before .before .is-meaning .ensures) (not-false _ (c .before .if2 .left)) (c .end-at .ensures)))
+    (λ c.
+    let p = c .before .before .before .before .before .before .before .pre in
+    for-goes (p .ends-of) (p .rule-is) (c .before .before .before .if1 .left)
+    (c .before .before .is-meaning .ensures) (not-false _ (c .before .if2 .left)) (c .end-at .ensures)))

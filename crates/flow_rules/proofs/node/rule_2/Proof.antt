@@ -20,4 +20,7 @@ rule-2-spec =
     (λ c. let i = command-head (c .before .before .before .before .before .before .pre) in omega arith)
     (λ c. let i = low-head (c .before .before .before .before .before .before .pre) in omega arith)
     (λ c. let i = low-head (c .before .before .before .before .before .before .pre) in omega arith)
-    (λ c. let p = c .before .before .before .before .before .before .pre in sequence-goes (p .ends-of) (p .rule-is) (c .before .before .if1 .left) (c .before .end-at .ensures) (c .end-at2 .ensures)))
+    (λ c.
+    let p = c .before .before .before .before .before .before .pre in
+    sequence-goes (p .ends-of) (p .rule-is) (c .before .before .if1 .left) (c .before .end-at .ensures)
+    (c .end-at2 .ensures)))

@@ -2,7 +2,6 @@
 -- Assumes nothing.
 use mathlib.Core.Path.{sym, ap, _∙_}
 use borrow.Author.Needs.{needs}
-use Rattle.ends.specs.Mask.{bit, slot}
 use Rattle.ends.specs.Blocks.{ifAny}
 use Rattle.scan.specs.Scan.{mentioned}
 use Rattle.scan.proofs.Ranges.{mentioned-as, unmentioned}

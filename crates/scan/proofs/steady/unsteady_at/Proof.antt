@@ -1,6 +1,6 @@
 -- `scan::steady::unsteady_at` meets its contract: the word's payload has q and m, and the mask what the body modifies.
 -- Assumes nothing.
-use mathlib.Core.Path.{_≡_, sym, subst, _∙_}
+use mathlib.Core.Path.{sym, subst, _∙_}
 use native.Mathlib.Omega.{arith}
 use borrow.Author.Needs.{needs}
 use Rattle.scan.specs.Steady.{Tested}

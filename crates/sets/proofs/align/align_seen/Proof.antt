@@ -3,7 +3,7 @@
 use mathlib.Core.Path.{refl}
 use borrow.Author.Needs.{needs}
 use native.Mathlib.Omega.{arith}
-use borrow.Author.Tests.{not-true, not-false}
+use borrow.Author.Tests.{not-false}
 use Rattle.sets.proofs.Members.{member-pass}
 use Rattle.sets.proofs.Loops.{seen-at}
 use Rattle.sets.proofs.Aligned.{Aligning, aligning-start, aligning-on, aligning-end, aligns-not, first-member, part-first}
@@ -24,12 +24,32 @@ align-seen-spec =
     μ-loop
     (λ c. let s = c .before .before in let p = s .pre in aligning-start (p .members) (p .part))
     (λ c. aligns-not refl)
-    (λ c κs. let l = c .before .before .loop in let s = c .before .before .before .before .before in let p = s .pre in record { ends-of = p .ends-of; member = first-member (l .inv .members) (c .if1 .left); item-at = seen-at _ (part-first (l .inv) (c .before .loop-test .taken)) (p .view-at) })
+    (λ c κs.
+    let l = c .before .before .loop in
+    let s = c .before .before .before .before .before in
+    let p = s .pre in
+    record {
+      ends-of = p .ends-of;
+      member = first-member (l .inv .members) (c .if1 .left);
+      item-at = seen-at _ (part-first (l .inv) (c .before .loop-test .taken)) (p .view-at);
+    })
     (λ c. aligns-not refl)
-    (λ c κs. let l = c .before .before .before .before .loop in let s = c .before .before .before .before .before .before .before in let p = s .pre in member-pass (p .ends-of) (first-member (l .inv .members) (c .before .before .if1 .left)))
-    (λ c κs. let l = c .before .before .before .before .before .loop in let s = c .before .before .before .before .before .before .before .before in let p = s .pre in member-pass (p .ends-of) (part-first (l .inv) (c .before .before .before .before .loop-test .taken)))
+    (λ c κs.
+    let l = c .before .before .before .before .loop in
+    let s = c .before .before .before .before .before .before .before in
+    let p = s .pre in
+    member-pass (p .ends-of) (first-member (l .inv .members) (c .before .before .if1 .left)))
+    (λ c κs.
+    let l = c .before .before .before .before .before .loop in
+    let s = c .before .before .before .before .before .before .before .before in
+    let p = s .pre in
+    member-pass (p .ends-of) (part-first (l .inv) (c .before .before .before .before .loop-test .taken)))
     (λ c. let h = c .before .before .before .before .if1 .left in omega arith)
     (λ c. search needs)
     (λ c. search needs)
-    (λ c. let l = c .before .before .before .before .before .before .loop in aligning-on (l .inv) (c .before .before .before .before .before .loop-test .taken) (c .before .before .before .before .if1 .left) (c .before .before .before .same-item .ensures) (not-false _ (c .before .before .if2 .left)) (c .before .past-member .ensures) (c .past-member2 .ensures))
+    (λ c.
+    let l = c .before .before .before .before .before .before .loop in
+    aligning-on (l .inv) (c .before .before .before .before .before .loop-test .taken)
+    (c .before .before .before .before .if1 .left) (c .before .before .before .same-item .ensures)
+    (not-false _ (c .before .before .if2 .left)) (c .before .past-member .ensures) (c .past-member2 .ensures))
     (λ c. let l = c .before .loop in aligning-end (l .inv) (c .loop-test .left) refl refl))

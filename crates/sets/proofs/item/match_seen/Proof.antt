@@ -2,7 +2,7 @@
 -- Assumes nothing.
 use borrow.Author.Needs.{needs}
 use native.Mathlib.Omega.{arith}
-use Rattle.sets.proofs.Members.{antecedent-any, consequent-any, any-within, member-inside, member-pass}
+use Rattle.sets.proofs.Members.{member-inside, member-pass}
 use Rattle.sets.proofs.Items.{see-under, see-unless, see-replaced, seen-plain, seen-under, seen-unless, seen-replaced}
 use Rattle.sets.proofs.item.match_seen.Statement.{statement}
 use Rattle.sets.proofs.item.match_seen.Tie as tie
@@ -13,7 +13,12 @@ match-seen-spec =
     (tie.spec
     (λ c. search needs)
     (λ c κs. let s = c .before .before .before .before in let p = s .pre in member-pass (p .ends-of) (p .member))
-    (λ c κs. let s = c .before .before .before .before .before in let p = s .pre in let e = c .past-member .ensures in let i = member-inside (p .member) .within in omega arith)
+    (λ c κs.
+    let s = c .before .before .before .before .before in
+    let p = s .pre in
+    let e = c .past-member .ensures in
+    let i = member-inside (p .member) .within in
+    omega arith)
     (λ c. search needs)
     (λ c κs. let s = c .before .before .before .before .before in let p = s .pre in see-under p (c .before .view .given .1))
     (λ c. search needs)

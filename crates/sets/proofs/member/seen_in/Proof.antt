@@ -1,12 +1,11 @@
 -- `sets::member::seen_in` meets its contract. The invariant: each of all is there exactly if each of those that are left is.
 -- Assumes nothing.
-use mathlib.Core.Path.{_≡_, refl, sym, _∙_}
 use borrow.Author.Needs.{needs}
-use Rattle.sets.specs.Items.{pastMember, seenAs, itemNumbers, sameNumbers}
-use Rattle.sets.specs.Lists.{seenAll, written, standsIn, withinAll, withoutAll}
+use Rattle.sets.specs.Lists.{written, withinAll}
 use Rattle.sets.proofs.Members.{member-pass}
 use borrow.Author.Tests.{not-true, not-false}
-use Rattle.sets.proofs.Loops.{Left, left-start, left-first, left-stop, left-on, left-end, within-stop, within-skip, seen-at, has-seen, end-within}
+use Rattle.sets.proofs.Loops.{Left, left-start, left-first, left-stop, left-on, left-end, within-stop}
+use Rattle.sets.proofs.Loops.{within-skip, seen-at, has-seen, end-within}
 use Rattle.sets.proofs.member.seen_in.Statement.{statement}
 use Rattle.sets.proofs.member.seen_in.Tie as tie
 
@@ -23,10 +22,30 @@ seen-in-spec =
     Inv-loop
     μ-loop
     (λ c. let s = c .before .before in let p = s .pre in left-start (p .part))
-    (λ c κs. let l = c .before .loop in let s = c .before .before .before .before in let p = s .pre in record { ends-of = p .ends-of; members = p .members; item-at = seen-at _ (left-first (l .inv) (c .loop-test .taken)) (p .view-at) })
-    (λ c. let l = c .before .before .before .loop in left-stop (l .inv) (c .before .before .loop-test .taken) (within-stop _ _ (c .before .has-item .result) (has-seen _ _ _ _ _ (c .before .has-item .ensures)) (not-true _ (c .if1 .taken))))
-    (λ c κs. let l = c .before .before .before .loop in let s = c .before .before .before .before .before .before in let p = s .pre in member-pass (p .ends-of) (left-first (l .inv) (c .before .before .loop-test .taken)))
+    (λ c κs.
+    let l = c .before .loop in
+    let s = c .before .before .before .before in
+    let p = s .pre in
+    record {
+      ends-of = p .ends-of;
+      members = p .members;
+      item-at = seen-at _ (left-first (l .inv) (c .loop-test .taken)) (p .view-at);
+    })
+    (λ c.
+    let l = c .before .before .before .loop in
+    left-stop (l .inv) (c .before .before .loop-test .taken)
+    (within-stop _ _ (c .before .has-item .result) (has-seen _ _ _ _ _ (c .before .has-item .ensures))
+    (not-true _ (c .if1 .taken))))
+    (λ c κs.
+    let l = c .before .before .before .loop in
+    let s = c .before .before .before .before .before .before in
+    let p = s .pre in
+    member-pass (p .ends-of) (left-first (l .inv) (c .before .before .loop-test .taken)))
     (λ c. search needs)
     (λ c. search needs)
-    (λ c. let l = c .before .before .before .before .loop in left-on (l .inv) (c .before .before .before .loop-test .taken) (c .past-member .ensures) (within-skip _ _ (c .before .before .has-item .result) (has-seen _ _ _ _ _ (c .before .before .has-item .ensures)) (not-false _ (c .before .if1 .left))))
+    (λ c.
+    let l = c .before .before .before .before .loop in
+    left-on (l .inv) (c .before .before .before .loop-test .taken) (c .past-member .ensures)
+    (within-skip _ _ (c .before .before .has-item .result)
+    (has-seen _ _ _ _ _ (c .before .before .has-item .ensures)) (not-false _ (c .before .if1 .left))))
     (λ c. let l = c .before .loop in left-end (l .inv) (c .loop-test .left) (end-within _)))

@@ -2,7 +2,6 @@
 -- Assumes nothing.
 use borrow.Author.Needs.{needs}
 use native.Mathlib.Omega.{arith}
-use Rattle.sets.specs.Lists.{standsIn, withinAll}
 use Rattle.sets.proofs.Loops.{pair-at}
 use Rattle.sets.proofs.Piles.{pile-one, pile-set, pile-without, set-members}
 use Rattle.sets.proofs.Piles.{of-empty, of-one, of-set, of-without, within-one, within-none, heldBy}
@@ -15,18 +14,69 @@ pile-in-spec =
     (tie.spec
     (λ c. search needs)
     (λ c. search needs)
-    (λ c κs. let s = c .before .before .before .before .before in let p = s .pre in let d = pile-one _ (p .pile-at) (c .before .pile .given .1) in record { ends-of = p .ends-of; members = p .members; item-at = pair-at (d .0) (d .1) })
+    (λ c κs.
+    let s = c .before .before .before .before .before in
+    let p = s .pre in
+    let d = pile-one _ (p .pile-at) (c .before .pile .given .1) in
+    record { ends-of = p .ends-of; members = p .members; item-at = pair-at (d .0) (d .1) })
     (λ c. search needs)
-    (λ c κs. let s = c .before .before .before .before .before in let p = s .pre in let d = pile-set _ (p .pile-at) (c .before .pile2 .given .1) in d .0 .inside)
-    (λ c. let s = c .before .before .before .before .before .before in let p = s .pre in let d = pile-set _ (p .pile-at) (c .before .before .pile2 .given .1) in let i = d .0 .inside in omega arith)
-    (λ c κs. let s = c .before .before .before .before .before .before in let p = s .pre in let d = pile-set _ (p .pile-at) (c .before .before .pile2 .given .1) in record { ends-of = p .ends-of; part = set-members (d .0) (c .count .ensures); view-at = d .1; members = p .members })
+    (λ c κs.
+    let s = c .before .before .before .before .before in
+    let p = s .pre in
+    let d = pile-set _ (p .pile-at) (c .before .pile2 .given .1) in
+    d .0 .inside)
+    (λ c.
+    let s = c .before .before .before .before .before .before in
+    let p = s .pre in
+    let d = pile-set _ (p .pile-at) (c .before .before .pile2 .given .1) in
+    let i = d .0 .inside in
+    omega arith)
+    (λ c κs.
+    let s = c .before .before .before .before .before .before in
+    let p = s .pre in
+    let d = pile-set _ (p .pile-at) (c .before .before .pile2 .given .1) in
+    record {
+      ends-of = p .ends-of;
+      part = set-members (d .0) (c .count .ensures);
+      view-at = d .1;
+      members = p .members;
+    })
     (λ c. search needs)
-    (λ c κs. let s = c .before .before .before .before .before in let p = s .pre in let d = pile-without _ (p .pile-at) (c .before .pile3 .given .1) in d .0 .inside)
-    (λ c κs. let s = c .before .before .before .before .before .before in let p = s .pre in let d = pile-without _ (p .pile-at) (c .before .before .pile3 .given .1) in d .1 .inside)
-    (λ c. let s = c .before .before .before .before .before .before .before in let p = s .pre in let d = pile-without _ (p .pile-at) (c .before .before .before .pile3 .given .1) in let i = d .0 .inside in omega arith)
-    (λ c. let s = c .before .before .before .before .before .before .before in let p = s .pre in let d = pile-without _ (p .pile-at) (c .before .before .before .pile3 .given .1) in let i = d .1 .inside in omega arith)
-    (λ c κs. let s = c .before .before .before .before .before .before .before in let p = s .pre in let d = pile-without _ (p .pile-at) (c .before .before .before .pile3 .given .1) in record { ends-of = p .ends-of; part = set-members (d .0) (c .before .count2 .ensures); listed = set-members (d .1) (c .count3 .ensures); members = p .members })
+    (λ c κs.
+    let s = c .before .before .before .before .before in
+    let p = s .pre in
+    let d = pile-without _ (p .pile-at) (c .before .pile3 .given .1) in
+    d .0 .inside)
+    (λ c κs.
+    let s = c .before .before .before .before .before .before in
+    let p = s .pre in
+    let d = pile-without _ (p .pile-at) (c .before .before .pile3 .given .1) in
+    d .1 .inside)
+    (λ c.
+    let s = c .before .before .before .before .before .before .before in
+    let p = s .pre in
+    let d = pile-without _ (p .pile-at) (c .before .before .before .pile3 .given .1) in
+    let i = d .0 .inside in
+    omega arith)
+    (λ c.
+    let s = c .before .before .before .before .before .before .before in
+    let p = s .pre in
+    let d = pile-without _ (p .pile-at) (c .before .before .before .pile3 .given .1) in
+    let i = d .1 .inside in
+    omega arith)
+    (λ c κs.
+    let s = c .before .before .before .before .before .before .before in
+    let p = s .pre in
+    let d = pile-without _ (p .pile-at) (c .before .before .before .pile3 .given .1) in
+    record {
+      ends-of = p .ends-of;
+      part = set-members (d .0) (c .before .count2 .ensures);
+      listed = set-members (d .1) (c .count3 .ensures);
+      members = p .members;
+    })
     (λ c. of-empty _ _ (heldBy _) _ (c .enum-told .given .1) (within-none _))
     (λ c. of-one _ _ (heldBy _) _ _ _ (c .before .before .pile .given .1) (within-one _ _ (c .has-item .ensures)))
     (λ c. of-set _ _ (heldBy _) _ _ _ _ (c .before .before .before .pile2 .given .1) (c .before .count .ensures) (c .seen-in .ensures))
-    (λ c. of-without _ _ (heldBy _) _ _ _ _ _ (c .before .before .before .before .pile3 .given .1) (c .before .before .count2 .ensures) (c .before .count3 .ensures) (c .rest-in .ensures)))
+    (λ c.
+    of-without _ _ (heldBy _) _ _ _ _ _ (c .before .before .before .before .pile3 .given .1)
+    (c .before .before .count2 .ensures) (c .before .count3 .ensures) (c .rest-in .ensures)))

@@ -12,4 +12,7 @@ test-stands-spec =
     (λ c κs. search needs)
     (λ c. search needs)
     (λ c κs. let s = c .before .before .before in let p = s .pre in find-test p (c .count .ensures))
-    (λ c. let s = c .before .before .before .before in let p = s .pre in rule-test (p .ends-of) (c .before .count .ensures) (c .has-item .ensures)))
+    (λ c.
+    let s = c .before .before .before .before in
+    let p = s .pre in
+    rule-test (p .ends-of) (c .before .count .ensures) (c .has-item .ensures)))
