@@ -1,5 +1,5 @@
 -- The places of a file's parts, and refusals 2 to 6 (document 01, "Judging order").
--- Working: proofs/Whole.antt, `words-read`: the layout's `wordsRead` is `readOf`, then refusal 7.
+-- Working: `words-read` of proofs/Whole says that the layout's `wordsRead` is `readOf`, then refusal 7.
 --     placesOf                           the places of a file that was read
 --     fromPre, fromPost, fromEvidence    the parts from there on
 --     ended, endOf                       6, of a file and of its places

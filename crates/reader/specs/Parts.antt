@@ -1,5 +1,5 @@
 -- The parts of evidence, by rule: what it carries, then its children (document 01, "Rules").
--- Working: proofs/RuleParts.antt ties the tables to the layout's.
+-- Working: `pre-parts-walk`, `implication-parts-walk` and `flow-parts-walk` of proofs/RuleParts tie the tables to the layout's.
 --     preTable, implicationTable, flowTable    by rule
 --     partWalk, partsWalk                      the walk of a part, of all parts one after the other
 use mathlib.Core.List.{List}
