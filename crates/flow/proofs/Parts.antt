@@ -3,9 +3,10 @@
 --     FileOf, read-bytes                      a file that was read from bytes: its words, and its places in order
 --     AcceptedAt, accepted-at, refused-at     the verdict, by the outcome
 --     PlacesIn, places-in                     the places of an accepted file are in order and inside its bytes
---     pre-accepted, post-accepted, pre-refused, post-refused
---                                             its parts
-use mathlib.Core.Path.{_≡_, refl, sym, _∙_, ap, subst}
+--     part-refused                            what there is of a refused file
+--     precondition-bytes, .., program-places, ..
+--                                             the parts of an accepted file, and their places
+use mathlib.Core.Path.{_≡_, refl, sym, _∙_, ap, ap₂, subst}
 use mathlib.Core.Bool.{Bool, true, false}
 use mathlib.Core.List.{List, [], _∷_, _++_}
 use Prim.Native.Nat.{ℕ, _*_, _≤_}
@@ -21,6 +22,7 @@ use Rattle.layout.specs.EvidenceWords.{joined, flowPart}
 use Rattle.layout.specs.File.{File, badLength, fileOf}
 use Rattle.layout.specs.FileWords.{FileSpelled}
 use Rattle.layout.specs.Verdict.{judged, verdictOf, bytesBetween, partOf, precondition, postcondition}
+use Rattle.layout.specs.Verdict.{packedPlaces, programPlaces, preconditionPlaces, postconditionPlaces}
 use Rattle.layout.proofs.WholeFile.{FileRead, file-spelled}
 use Rattle.words.proofs.Loading.{words-length}
 use Rattle.reader.specs.File.{places}
@@ -109,6 +111,7 @@ module _ (limits : Limits) (bytes : List ℕ) where
 
   -- the places of an accepted file, in order and inside the bytes
   pub record PlacesIn (s : Places) : Type 0 where
+    pub few : length bytes ≤ 32768
     pub pre-post : s .pre ≤ s .post
     pub post-evidence : s .post ≤ s .evidence
     pub inside : 4 * s .evidence ≤ length bytes
@@ -120,39 +123,51 @@ module _ (limits : Limits) (bytes : List ℕ) where
       let f = read-bytes (x .file) (x .end) (x .reads) in
       let l = words-length bytes in
       subst (λ (z : Places). PlacesIn z) (sym (x .at))
-      (record { pre-post = f .pre-post; post-evidence = f .post-evidence; inside = omega (arith, f .inside) })
+      (record {
+        few = f .few;
+        pre-post = f .pre-post;
+        post-evidence = f .post-evidence;
+        inside = omega (arith, f .inside);
+      })
 
-  -- a part of an accepted file
-  part-accepted : (part : File → List ℕ) (n : ℕ) (s : Places) (x : AcceptedAt n s) →
-      partOf (verdictOf limits bytes) (fileOf limits bytes) part ≡ part (x .file)
-  part-accepted part n s x = rw (x .verdict, x .reads) refl
-
-  part-refused : (part : File → List ℕ) (k i : ℕ) → verdictOf limits bytes ≡ judge.refused k i →
-      [] ≡ partOf (verdictOf limits bytes) (fileOf limits bytes) part
-  part-refused part k i e = rw e refl
-
-  pub pre-accepted : (l : List ℕ) (r : Outcome) (n : ℕ) (s : Places) → r ≡ outcomeOf limits (fileOf limits bytes) →
-      r ≡ Accepted n s → l ≡ bytesBetween bytes (s .pre) (s .post) → l ≡ precondition limits bytes
-  unfolding precondition
-  pre-accepted l r n s e h k =
+  -- what the code makes of the places is what the definition makes of the file
+  part-accepted : {A : Type 0} (none : A) (part : File → A) (of : Places → A) →
+      ((f : File) (p : ℕ) → of (places (f .preAt) (f .postAt) (f .evidenceAt) p) ≡ part f) →
+      (l : A) (r : Outcome) (n : ℕ) (s : Places) → r ≡ outcomeOf limits (fileOf limits bytes) → r ≡ Accepted n s →
+      l ≡ of s → l ≡ partOf none (verdictOf limits bytes) (fileOf limits bytes) part
+  part-accepted none part of same l r n s e h k =
       let x = accepted-at n s (sym h ∙ e) in
-      k ∙ ap (λ (z : Places). bytesBetween bytes (z .pre) (z .post)) (x .at)
-      ∙ sym (part-accepted (λ f. bytesBetween bytes (f .preAt) (f .postAt)) n s x)
+      k ∙ ap of (x .at) ∙ same (x .file) (x .end)
+      ∙ ap₂ (λ v z. partOf none v z part) (sym (x .verdict)) (sym (x .reads))
 
-  pub post-accepted : (l : List ℕ) (r : Outcome) (n : ℕ) (s : Places) → r ≡ outcomeOf limits (fileOf limits bytes) →
-      r ≡ Accepted n s → l ≡ bytesBetween bytes (s .post) (s .evidence) → l ≡ postcondition limits bytes
-  unfolding postcondition
-  post-accepted l r n s e h k =
-      let x = accepted-at n s (sym h ∙ e) in
-      k ∙ ap (λ (z : Places). bytesBetween bytes (z .post) (z .evidence)) (x .at)
-      ∙ sym (part-accepted (λ f. bytesBetween bytes (f .postAt) (f .evidenceAt)) n s x)
+  pub part-refused : {A : Type 0} (none : A) (part : File → A) (r : Outcome) (k i : ℕ) →
+      r ≡ outcomeOf limits (fileOf limits bytes) → r ≡ Refused k i →
+      none ≡ partOf none (verdictOf limits bytes) (fileOf limits bytes) part
+  part-refused none part r k i e h =
+      ap (λ v. partOf none v (fileOf limits bytes) part) (sym (refused-at k i (sym h ∙ e)))
 
-  pub pre-refused : (r : Outcome) (k i : ℕ) → r ≡ outcomeOf limits (fileOf limits bytes) → r ≡ Refused k i →
-      [] ≡ precondition limits bytes
+  -- each part: its bytes, or its places as one number
+  abbrev IsPart : {A : Type 0} → (Places → A) → A → Type 0
+  IsPart {A} of due =
+      (l : A) (r : Outcome) (n : ℕ) (s : Places) → r ≡ outcomeOf limits (fileOf limits bytes) → r ≡ Accepted n s →
+      l ≡ of s → l ≡ due
+
+  pub precondition-bytes : IsPart (λ s. bytesBetween bytes (s .pre) (s .post)) (precondition limits bytes)
   unfolding precondition
-  pre-refused r k i e h = part-refused _ k i (refused-at k i (sym h ∙ e))
+  precondition-bytes = part-accepted [] _ _ (λ f p. refl)
 
-  pub post-refused : (r : Outcome) (k i : ℕ) → r ≡ outcomeOf limits (fileOf limits bytes) → r ≡ Refused k i →
-      [] ≡ postcondition limits bytes
+  pub postcondition-bytes : IsPart (λ s. bytesBetween bytes (s .post) (s .evidence)) (postcondition limits bytes)
   unfolding postcondition
-  post-refused r k i e h = part-refused _ k i (refused-at k i (sym h ∙ e))
+  postcondition-bytes = part-accepted [] _ _ (λ f p. refl)
+
+  pub program-places : IsPart (λ s. packedPlaces 1 (s .pre)) (programPlaces limits bytes)
+  unfolding programPlaces
+  program-places = part-accepted 0 _ _ (λ f p. refl)
+
+  pub precondition-places : IsPart (λ s. packedPlaces (s .pre) (s .post)) (preconditionPlaces limits bytes)
+  unfolding preconditionPlaces
+  precondition-places = part-accepted 0 _ _ (λ f p. refl)
+
+  pub postcondition-places : IsPart (λ s. packedPlaces (s .post) (s .evidence)) (postconditionPlaces limits bytes)
+  unfolding postconditionPlaces
+  postcondition-places = part-accepted 0 _ _ (λ f p. refl)

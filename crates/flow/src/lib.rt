@@ -11,6 +11,7 @@ ghost use Rattle.rules.specs.Context.{standard};
 ghost use Rattle.layout.specs.File.{fileOf};
 ghost use Rattle.layout.specs.Verdict.{verdictOf, bytesBetween, packed};
 ghost use Rattle.layout.specs.Verdict.{precondition as preconditionOf, postcondition as postconditionOf};
+ghost use Rattle.layout.specs.Verdict.{packedPlaces, programPlaces, preconditionPlaces, postconditionPlaces};
 ghost use Rattle.reader.specs.Walk.{limitsOf};
 ghost use Rattle.flow.specs.Checked.{Checked};
 ghost use Rattle.flow.specs.Outcome.{outcomeOf};
@@ -98,5 +99,50 @@ pub fn postcondition(file: &[u8]) -> &[u8]
     match done {
         Outcome::Accepted(_, places) => between(file, places.post, places.evidence),
         Outcome::Refused(_, _) => &file[..0],
+    }
+}
+
+// The places of a part as one number.
+fn packed_places(first: usize, past: usize) -> u32
+    requires { ⌜ (first ≤ 8192) × (past ≤ 8192) ⌝ }
+    ensures { λ r. ⌜ r ≡ packedPlaces first past ⌝ }
+{
+    first as u32 * 65536 + past as u32
+}
+
+// The program's part for callers in C, `uint32_t flow_program(const uint8_t *file, size_t count)`: the place of its first word
+// × 65,536 + the place past its last, or 0 if the file is refused.
+#[no_mangle]
+pub extern "C" fn flow_program(file: &[u8]) -> u32
+    ensures { λ r. ⌜ r ≡ programPlaces standard (now (file .entry)) ⌝ }
+{
+    let done = standard_outcome(file);
+    match done {
+        Outcome::Accepted(_, places) => packed_places(1, places.pre),
+        Outcome::Refused(_, _) => 0,
+    }
+}
+
+// The precondition, alike.
+#[no_mangle]
+pub extern "C" fn flow_precondition(file: &[u8]) -> u32
+    ensures { λ r. ⌜ r ≡ preconditionPlaces standard (now (file .entry)) ⌝ }
+{
+    let done = standard_outcome(file);
+    match done {
+        Outcome::Accepted(_, places) => packed_places(places.pre, places.post),
+        Outcome::Refused(_, _) => 0,
+    }
+}
+
+// The postcondition, alike.
+#[no_mangle]
+pub extern "C" fn flow_postcondition(file: &[u8]) -> u32
+    ensures { λ r. ⌜ r ≡ postconditionPlaces standard (now (file .entry)) ⌝ }
+{
+    let done = standard_outcome(file);
+    match done {
+        Outcome::Accepted(_, places) => packed_places(places.post, places.evidence),
+        Outcome::Refused(_, _) => 0,
     }
 }

@@ -3,6 +3,8 @@
 --     judged, verdictOf                      refusals 8 and 9 of a file that was read; 1 to 9 of bytes
 --     bytesBetween, partOf                   the bytes of the words between two places; a part of an accepted file
 --     precondition, postcondition            that part of the caller's bytes; empty if the file is refused
+--     programPlaces, preconditionPlaces, postconditionPlaces
+--                                            the places of a part, as one number
 --     packed                                 the number that the C call answers
 use mathlib.Core.List.{List, []}
 use Prim.Native.Nat.{ℕ, _+_, _*_, _-_}
@@ -23,18 +25,35 @@ verdictOf limits bytes = judged (record { limits = limits }) (fileOf limits byte
 abbrev pub bytesBetween : List ℕ → ℕ → ℕ → List ℕ
 bytesBetween bytes a b = take (4 * b - 4 * a) (drop (4 * a) bytes)
 
-abbrev pub partOf : Verdict → Reading File → (File → List ℕ) → List ℕ
-partOf (accepted n) (read f p) part = part f
-partOf (accepted n) (fault k p) part = []
-partOf (refused k i) r part = []
+-- what `part` gives of an accepted file, or `none` of a refused one
+abbrev pub partOf : {A : Type 0} → A → Verdict → Reading File → (File → A) → A
+partOf none (accepted n) (read f p) part = part f
+partOf none (accepted n) (fault k p) part = none
+partOf none (refused k i) r part = none
 
 unfoldable pub precondition : Limits → List ℕ → List ℕ
 precondition limits bytes =
-    partOf (verdictOf limits bytes) (fileOf limits bytes) λ f. bytesBetween bytes (f .preAt) (f .postAt)
+    partOf [] (verdictOf limits bytes) (fileOf limits bytes) λ f. bytesBetween bytes (f .preAt) (f .postAt)
 
 unfoldable pub postcondition : Limits → List ℕ → List ℕ
 postcondition limits bytes =
-    partOf (verdictOf limits bytes) (fileOf limits bytes) λ f. bytesBetween bytes (f .postAt) (f .evidenceAt)
+    partOf [] (verdictOf limits bytes) (fileOf limits bytes) λ f. bytesBetween bytes (f .postAt) (f .evidenceAt)
+
+-- the places of a part as one number, first × 65,536 + the place past its last word; 0 if the file is refused
+abbrev pub packedPlaces : ℕ → ℕ → ℕ
+packedPlaces first past = first * 65536 + past
+
+unfoldable pub programPlaces : Limits → List ℕ → ℕ
+programPlaces limits bytes =
+    partOf 0 (verdictOf limits bytes) (fileOf limits bytes) λ f. packedPlaces 1 (f .preAt)
+
+unfoldable pub preconditionPlaces : Limits → List ℕ → ℕ
+preconditionPlaces limits bytes =
+    partOf 0 (verdictOf limits bytes) (fileOf limits bytes) λ f. packedPlaces (f .preAt) (f .postAt)
+
+unfoldable pub postconditionPlaces : Limits → List ℕ → ℕ
+postconditionPlaces limits bytes =
+    partOf 0 (verdictOf limits bytes) (fileOf limits bytes) λ f. packedPlaces (f .postAt) (f .evidenceAt)
 
 -- number × 65,536 + place, or the count
 abbrev pub packed : Verdict → ℕ

@@ -3,11 +3,13 @@
 use borrow.Author.Needs.{needs}
 use native.Mathlib.Omega.{arith}
 use Rattle.rules.specs.Context.{standard}
-use Rattle.flow.proofs.Parts.{places-in, post-accepted, post-refused}
+use Rattle.layout.specs.Verdict.{postcondition}
+use Rattle.flow.proofs.Parts.{places-in, postcondition-bytes, part-refused}
 use Rattle.flow.proofs.postcondition.Statement.{statement}
 use Rattle.flow.proofs.postcondition.Tie as tie
 
 pub postcondition-spec : {M : Type 1} → statement M
+unfolding postcondition
 postcondition-spec =
     tie.close
     (tie.spec
@@ -21,8 +23,8 @@ postcondition-spec =
     (λ c. search needs)
     (λ c.
     let outcome = c .before .before .before .before in
-    post-accepted standard _ _ _ _ _ (outcome .standard-outcome .ensures) (c .before .before .done .given .1)
+    postcondition-bytes standard _ _ _ _ _ (outcome .standard-outcome .ensures) (c .before .before .done .given .1)
     (c .between .ensures))
     (λ c.
     let outcome = c .before .before .before in
-    post-refused standard _ _ _ _ (outcome .standard-outcome .ensures) (c .before .enum-told .given .1)))
+    part-refused standard _ _ _ _ _ _ (outcome .standard-outcome .ensures) (c .before .enum-told .given .1)))

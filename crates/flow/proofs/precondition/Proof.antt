@@ -3,11 +3,13 @@
 use borrow.Author.Needs.{needs}
 use native.Mathlib.Omega.{arith}
 use Rattle.rules.specs.Context.{standard}
-use Rattle.flow.proofs.Parts.{places-in, pre-accepted, pre-refused}
+use Rattle.layout.specs.Verdict.{precondition}
+use Rattle.flow.proofs.Parts.{places-in, precondition-bytes, part-refused}
 use Rattle.flow.proofs.precondition.Statement.{statement}
 use Rattle.flow.proofs.precondition.Tie as tie
 
 pub precondition-spec : {M : Type 1} → statement M
+unfolding precondition
 precondition-spec =
     tie.close
     (tie.spec
@@ -21,8 +23,8 @@ precondition-spec =
     (λ c. search needs)
     (λ c.
     let outcome = c .before .before .before .before in
-    pre-accepted standard _ _ _ _ _ (outcome .standard-outcome .ensures) (c .before .before .done .given .1)
+    precondition-bytes standard _ _ _ _ _ (outcome .standard-outcome .ensures) (c .before .before .done .given .1)
     (c .between .ensures))
     (λ c.
     let outcome = c .before .before .before in
-    pre-refused standard _ _ _ _ (outcome .standard-outcome .ensures) (c .before .enum-told .given .1)))
+    part-refused standard _ _ _ _ _ _ (outcome .standard-outcome .ensures) (c .before .enum-told .given .1)))
