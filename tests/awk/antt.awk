@@ -1,12 +1,24 @@
 # Functions on lines of antt, for the other programs here. `faults` names the file to which a fault is written, a line for each.
 
+# what stands in a line after the bracketed parameters at its start
+function past_parameters(line,    i, c, depth) {
+    for (i = 1; i <= length(line); i++) {
+        c = substr(line, i, 1)
+        if (c == "(" || c == "{") depth++
+        else if (c == ")" || c == "}") depth--
+        else if (c != " " && !depth) break
+    }
+    return substr(line, i)
+}
+
 # the name that a line declares, or the empty text
 function declared(line,    form) {
     sub(/^ +/, "", line)
     while (match(line, /^(abbrev|unfoldable|pub|ruleset) /)) line = substr(line, RLENGTH + 1)
     form = sub(/^(record|data) /, "", line)
-    if (line ~ /^(--|use |mod |module |infix|open |unfolding )/ || !match(line, /^[^ ]+/)) return ""
-    if (form || substr(line, RLENGTH + 1) ~ /^( \{[^}]*\}| \([^)]*\))* :( |$)/) return substr(line, 1, RLENGTH)
+    if (!form && line !~ / :( |$)/ || line ~ /^(--|use |mod |module |infix|open |unfolding )/) return ""
+    match(line, /^[^ ]+/)
+    if (form || past_parameters(substr(line, RLENGTH + 1)) ~ /^:( |$)/) return substr(line, 1, RLENGTH)
     return ""
 }
 
