@@ -7,6 +7,11 @@
 #include <stddef.h>
 #include <stdint.h>
 
+/* The stack that a call takes below its caller's frame, at most, in bytes: a thread that makes the call must have so much left.
+ * Measured on files that nest as deep as the layout allows, and rounded up (flowgate/stack.c); not proved. */
+#define FLOW_CHECK_STACK 212992
+#define FLOW_RUN_STACK 204800
+
 /* Checks the file of `count` bytes. Accepted: the count of its evidence words, below 65,536. Refused: number * 65,536 + place. The
  * numbers, tried in this order:
  *   1  the byte count is 0, over 32,768 or no multiple of 4 (place 0)

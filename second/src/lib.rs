@@ -1,5 +1,6 @@
-//! A second, independent and naive implementation of document 01
-//! ("Flow certificates: language, layout and judging").
+//! Document 01 ("Flow certificates: language, layout and judging") with nothing proved, to compare the proved code with:
+//! a second, independent and naive implementation, over trees; a plain fast one over words (`fast`); and what makes, shows
+//! and times files.
 
 // Bytes to words to trees, and back.
 pub mod read;

@@ -1,0 +1,566 @@
+/* How much stack the library's two calls take: `stack ROWS RUNS FOLDER/...`, with the rows and runs that have known answers, and folders of
+ * files with theirs in `expected`. To these it adds files in which evidence, expressions or commands nest as deep as may be.
+ *
+ * Each call is made in a thread whose stack lies above a page that can't be touched. First the stack is more than enough and filled
+ * with a pattern, and the lowest byte that was written says how much the call took. Then it is just what flowcheck.h states. Writes the
+ * most that each call took; exit status 1 if an answer is wrong or the stack stated does not suffice. */
+#define _DEFAULT_SOURCE
+#include <pthread.h>
+#include <stdint.h>
+#include <stdio.h>
+#include <stdlib.h>
+#include <string.h>
+#include <sys/mman.h>
+#include <sys/wait.h>
+#include <unistd.h>
+
+#include "flowcheck.h"
+
+enum { SCALARS = 32, VALUES = 2048, MOST_BYTES = 32768, MOST_STACK = 256 * 1024 };
+enum { PAGE = 4096, ROOM = 2 * MOST_STACK, PATTERN = 0xa5, BUDGET = 10000 };
+
+/* What is to be called, and the answer. */
+enum call { CHECK, RUN, CALLS };
+static const char *const names[CALLS] = {"flow_check", "flow_run"};
+static const size_t stated[CALLS] = {FLOW_CHECK_STACK, FLOW_RUN_STACK};
+static enum call call;
+static uint8_t file[MOST_BYTES + 4];
+static size_t bytes;
+static size_t budget;
+static int64_t scalars[SCALARS];
+static int64_t values[VALUES];
+static uint64_t answer;
+
+/* Where the thread's stack is, and where in it the call was made; `above` is what the thread takes above that. */
+static uint8_t *stack;
+static uint8_t *frame;
+static size_t above;
+
+/* Whether the stack is just what is stated. What is known of it then is shared with the process that waits. */
+static int just;
+static char *trying;
+
+static struct {
+    size_t calls;
+    size_t stack;
+    char name[80];
+} most[CALLS];
+static int wrong;
+
+static void fail(const char *what)
+{
+    perror(what);
+    exit(1);
+}
+
+/* The call itself: what lies below this frame is the call's. */
+static void *make_call(void *unused)
+{
+    frame = __builtin_frame_address(0);
+    if (call == CHECK) {
+        answer = flow_check(file, bytes);
+    } else {
+        answer = flow_run(file, bytes, scalars, SCALARS, values, VALUES, budget);
+    }
+    return unused;
+}
+
+static void call_in_thread(size_t size)
+{
+    pthread_t thread;
+    pthread_attr_t attributes;
+
+    if (pthread_attr_init(&attributes) || pthread_attr_setstack(&attributes, stack, size)
+        || pthread_create(&thread, &attributes, make_call, NULL) || pthread_join(thread, NULL)
+        || pthread_attr_destroy(&attributes)) {
+        fail("stack: a thread");
+    }
+}
+
+/* Makes the call in a thread, with as much stack as is asked for, and notes how much it took. */
+static void measure(const char *name)
+{
+    size_t lowest = 0;
+
+    memset(stack, PATTERN, ROOM);
+    call_in_thread(ROOM);
+    above = (size_t)(stack + ROOM - frame);
+    while (stack[lowest] == PATTERN) {
+        lowest++;
+    }
+    most[call].calls++;
+    if (most[call].stack < ROOM - above - lowest) {
+        most[call].stack = ROOM - above - lowest;
+        snprintf(most[call].name, sizeof most[call].name, "%s", name);
+    }
+}
+
+/* The same with just the stack that is stated: below it is the page that can't be touched. Threads align by 64 bytes. */
+static void call_with_stated(const char *name)
+{
+    snprintf(trying, PAGE, "%s on %s", names[call], name);
+    call_in_thread(stated[call] + above / 64 * 64);
+    if ((size_t)(frame - stack) > stated[call] || (size_t)(frame - stack) + 64 <= stated[call]) {
+        printf("stack: the thread's stack is not as it should be\n");
+        wrong = 1;
+    }
+}
+
+/* Makes the call on the file at hand; `due` is the answer, or NULL if it is not known. */
+static void try(enum call which, const char *name, const uint64_t *due)
+{
+    call = which;
+    if (just) {
+        call_with_stated(name);
+    } else {
+        measure(name);
+    }
+    if (due && answer != *due) {
+        printf("stack: %s on %s: %llu, not %llu\n", names[call], name, (unsigned long long)answer, (unsigned long long)*due);
+        wrong = 1;
+    }
+}
+
+/* Runs the file from a store that is 0 but for the bounds of `for` loops. */
+static void try_run(const char *name)
+{
+    memset(scalars, 0, sizeof scalars);
+    memset(values, 0, sizeof values);
+    scalars[SCALARS - 1] = 1;
+    budget = BUDGET;
+    try(RUN, name, NULL);
+}
+
+/* ---- files with known answers */
+
+/* The field that starts at a place, which is ended there; the place of the next. */
+static char *field(char **at)
+{
+    char *start = *at;
+    size_t length = strcspn(start, "\t\n");
+
+    *at = start + length + (start[length] != '\0');
+    start[length] = '\0';
+    return start;
+}
+
+static void read_hexadecimal(const char *digits)
+{
+    char pair[3] = "";
+
+    for (bytes = 0; digits[2 * bytes] && bytes < sizeof file; bytes++) {
+        pair[0] = digits[2 * bytes];
+        pair[1] = digits[2 * bytes + 1];
+        file[bytes] = (uint8_t)strtoul(pair, NULL, 16);
+    }
+}
+
+/* `accepted N`, `ended` or `refused NUMBER PLACE` as one number. */
+static uint64_t number_of(const char *line)
+{
+    char *end;
+    uint64_t number;
+
+    if (strncmp(line, "refused ", 8) != 0) {
+        return strncmp(line, "accepted ", 9) == 0 ? strtoul(line + 9, NULL, 10) : 0;
+    }
+    number = strtoul(line + 8, &end, 10);
+    return number << 16 | strtoul(end, NULL, 10);
+}
+
+static void try_row(char *at)
+{
+    const char *name = field(&at);
+    uint64_t due = number_of(field(&at));
+
+    read_hexadecimal(field(&at));
+    try(CHECK, name, &due);
+}
+
+/* A lent store: INDEX=VALUE,.., the scalars and then the values. */
+static void lend(char *text)
+{
+    memset(scalars, 0, sizeof scalars);
+    memset(values, 0, sizeof values);
+    while (*text) {
+        unsigned long index = strtoul(text, &text, 10);
+        int64_t value = strtoll(text + 1, &text, 10);
+
+        *(index < SCALARS ? scalars + index : values + (index - SCALARS)) = value;
+        text += *text == ',';
+    }
+}
+
+static void try_run_row(char *at)
+{
+    const char *name = field(&at);
+    uint64_t due;
+
+    budget = strtoull(field(&at), NULL, 10);
+    due = number_of(field(&at));
+    due |= (uint64_t)strtoull(field(&at), NULL, 10) << 32;
+    read_hexadecimal(field(&at));
+    lend(field(&at));
+    try(RUN, name, &due);
+}
+
+static FILE *open_file(const char *folder_or_path, const char *name)
+{
+    char path[4096];
+    FILE *stream = NULL;
+
+    if (snprintf(path, sizeof path, "%s%s", folder_or_path, name) < (int)sizeof path) {
+        stream = fopen(path, "rb");
+    }
+    if (!stream) {
+        fail(path);
+    }
+    return stream;
+}
+
+static void try_table(const char *folder_or_path, const char *name, void (*try_line)(char *))
+{
+    static char line[1 << 18];
+    FILE *table = open_file(folder_or_path, name);
+
+    while (fgets(line, sizeof line, table)) {
+        if (line[0] != '#') {
+            try_line(line);
+        }
+    }
+    fclose(table);
+}
+
+/* A file of a folder, by its line of `expected`. */
+static const char *folder;
+static void try_file(char *at)
+{
+    const char *name = field(&at);
+    uint64_t due = number_of(field(&at));
+    FILE *stream = open_file(folder, name);
+
+    bytes = fread(file, 1, sizeof file, stream);
+    fclose(stream);
+    try(CHECK, name, &due);
+    try_run(name);
+}
+
+/* ---- files as deep as may be, word by word */
+
+enum { CONSTANT = 1, SCALAR = 2, OPERATOR = 3, SELECT = 4, LESS = 8, TRUTH = 9, AND = 10, OR = 11, NOT = 12, ARRAY = 16, UPDATE = 18 };
+enum { SKIP = 24, SEQUENCE = 25, ASSERT = 26, TO_SCALAR = 27, TO_ARRAY = 28, IF = 29, WHILE = 30, FOR = 31 };
+enum { SET = 32, FLOW = 33, IMPLICATION = 34, BEFORE = 35, FIRST_WORD = 63, DEEPEST = 128 };
+
+static void put(uint32_t kind, uint32_t payload)
+{
+    uint32_t word = kind << 26 | payload;
+
+    file[bytes++] = (uint8_t)word;
+    file[bytes++] = (uint8_t)(word >> 8);
+    file[bytes++] = (uint8_t)(word >> 16);
+    file[bytes++] = (uint8_t)(word >> 24);
+}
+
+static void begin(void)
+{
+    bytes = 0;
+    put(FIRST_WORD, 0);
+}
+
+/* The number of words goes to word 0. */
+static void end(void)
+{
+    size_t words = bytes / 4;
+
+    bytes = 0;
+    put(FIRST_WORD, (uint32_t)words);
+    bytes = 4 * words;
+}
+
+/* So many times: the word, and after it, if there is one, an operand of one word with payload 1. */
+static void nest(int times, uint32_t kind, uint32_t payload, uint32_t leaf)
+{
+    while (times-- > 0) {
+        put(kind, payload);
+        if (leaf) {
+            put(leaf, 1);
+        }
+    }
+}
+
+/* Never true: ors of c and not c, over ten comparisons c. */
+static void never(int from, int to)
+{
+    int middle = (from + to) / 2;
+    int i;
+
+    if (to - from > 1) {
+        put(OR, 0);
+        never(from, middle);
+        never(middle, to);
+        return;
+    }
+    put(AND, 0);
+    for (i = 0; i < 2; i++) {
+        nest(i, NOT, 0, 0);
+        put(LESS, 1);
+        put(SCALAR, 0);
+        put(CONSTANT, (uint32_t)from % 10);
+    }
+}
+
+/* Antecedents that are never true. */
+enum antecedent { SMALL, LARGE, UNDER_NOTS, UNDER_ANDS, ANTECEDENTS };
+static const char *const antecedents[ANTECEDENTS] = {"small", "large", "large under nots", "large under ands"};
+static void put_antecedent(enum antecedent which)
+{
+    if (which == UNDER_NOTS) {
+        nest(112, NOT, 0, 0);
+    } else if (which == UNDER_ANDS) {
+        nest(112, AND, 0, TRUTH);
+    }
+    never(0, which == SMALL ? 1 : 450);
+}
+
+/* Rule 8, then set rule 17 down to the last level, and there rule 14: the antecedent implies false. */
+static void try_implied_set(enum antecedent which)
+{
+    char name[80];
+    uint64_t due = 2 * DEEPEST - 1;
+    int i;
+
+    begin();
+    put(SKIP, 0);
+    put(SET, 0);
+    put(SET, 1);
+    put_antecedent(which);
+    put(SCALAR, 0);
+    put(FLOW, 8);
+    put(SET, 0);
+    put(FLOW, 1);
+    for (i = 2; i < DEEPEST; i++) {
+        put(IMPLICATION, 17);
+        nest(3, SET, 0, 0);
+        put(IMPLICATION, 13);
+    }
+    put(IMPLICATION, 14);
+    end();
+    snprintf(name, sizeof name, "set rule 14 at depth 128, %s", antecedents[which]);
+    try(CHECK, name, &due);
+    try_run(name);
+}
+
+/* Rule 11, then rule 28 down to the last level but one, and there rule 21: the antecedent and not B implies true. */
+static void try_implied_before(enum antecedent which)
+{
+    char name[80];
+    uint64_t due = DEEPEST;
+
+    begin();
+    put(WHILE, 0);
+    put(TRUTH, 0);
+    put(SKIP, 0);
+    nest(1, SET, 1, TRUTH);
+    put(CONSTANT, 5);
+    put(SET, 1);
+    put_antecedent(which);
+    put(CONSTANT, 5);
+    put(FLOW, 11);
+    nest(DEEPEST - 3, BEFORE, 28, TRUTH);
+    nest(1, BEFORE, 21, TRUTH);
+    put(BEFORE, 22);
+    end();
+    snprintf(name, sizeof name, "rule 21 at depth 127, %s", antecedents[which]);
+    try(CHECK, name, &due);
+}
+
+/* Expressions that nest: a word at each level, with an operand of one word before the next level if `leaf` is one; the last word;
+ * and what each level has after it. */
+static const struct deep {
+    const char *name;
+    uint32_t kind;
+    uint32_t leaf;
+    uint32_t last;
+    uint32_t after;
+    int times;
+    uint32_t command;
+} deep[] = {
+    {"nots", NOT, 0, TRUTH, 0, 0, ASSERT},
+    {"ors", OR, TRUTH, TRUTH, 0, 0, ASSERT},
+    {"ands on the left", AND, 0, TRUTH, TRUTH, 1, ASSERT},
+    {"sums", OPERATOR, SCALAR, SCALAR, 0, 0, TO_SCALAR},
+    {"sums on the left", OPERATOR, 0, SCALAR, SCALAR, 1, TO_SCALAR},
+    {"selects", SELECT, ARRAY, SCALAR, 0, 0, TO_SCALAR},
+    {"updates", UPDATE, 0, ARRAY, SCALAR, 2, TO_ARRAY},
+};
+enum { DEEP = sizeof deep / sizeof deep[0] };
+static void put_deep(const struct deep *which, int levels)
+{
+    nest(levels - 1, which->kind, 0, which->leaf);
+    put(which->last, 1);
+    nest((levels - 1) * which->times, which->after, 1, 0);
+}
+
+/* Rule 13 at each while of a nest, and below it rule 3 or 4, which puts an identifier for itself into expressions as deep as may be. */
+static void try_replaced(const struct deep *which, uint32_t assignment, uint32_t identifier)
+{
+    char name[80];
+    uint64_t due = DEEPEST - 1;
+    int i;
+
+    begin();
+    nest(DEEPEST - 2, WHILE, 0, TRUTH);
+    nest(1, assignment, 1, identifier);
+    for (i = 0; i < 40; i++) {
+        if (i % 20 == 0) {
+            put(SET, 20);
+        }
+        put(TRUTH, 1);
+        put_deep(i % 20 == 1 ? which : deep, i % 20 == 0 ? 1 : DEEPEST - 1);
+    }
+    nest(DEEPEST - 2, FLOW, 13, 0);
+    put(FLOW, assignment == TO_SCALAR ? 3 : 4);
+    end();
+    snprintf(name, sizeof name, "rule %d at depth 127, %s", assignment == TO_SCALAR ? 3 : 4, which->name);
+    try(CHECK, name, &due);
+}
+
+/* The start of a file: loops, so many of them `for` loops over scalars of their own. */
+static void begin_loops(int fors, int whiles)
+{
+    int i;
+
+    begin();
+    for (i = 0; i < fors; i++) {
+        put(FOR, (uint32_t)(2 + i + 32 * (SCALARS - 1)));
+    }
+    nest(whiles, WHILE, 0, TRUTH);
+}
+
+/* The end of a file, whose contract asks nothing. */
+static void try_command(const char *name, int fors, int whiles)
+{
+    char whole[80];
+    uint64_t due = 1;
+
+    nest(2, SET, 0, 0);
+    put(FLOW, 10);
+    end();
+    snprintf(whole, sizeof whole, "%s under %d fors and %d whiles", name, fors, whiles);
+    try(CHECK, whole, &due);
+    try_run(whole);
+}
+
+/* Under so many loops skip, or commands with an expression that has all the levels left. */
+static void try_loops(int fors, int whiles)
+{
+    int left = DEEPEST - fors - whiles;
+    size_t i;
+
+    begin_loops(fors, whiles);
+    put(SKIP, 0);
+    try_command("skip", fors, whiles);
+    for (i = 0; left >= 2 && i < DEEP; i++) {
+        begin_loops(fors, whiles);
+        put(deep[i].command, deep[i].command != ASSERT);
+        put_deep(&deep[i], left - 1);
+        try_command(deep[i].name, fors, whiles);
+    }
+}
+
+static void try_branches(void)
+{
+    begin();
+    nest(DEEPEST - 1, IF, 0, TRUTH);
+    nest(DEEPEST, SKIP, 0, 0);
+    try_command("skip under 127 ifs", 0, 0);
+    begin();
+    nest(DEEPEST - 1, SEQUENCE, 0, 0);
+    nest(DEEPEST, SKIP, 0, 0);
+    try_command("skip under 127 sequences", 0, 0);
+}
+
+static void try_deepest(void)
+{
+    static const int fors[] = {0, 28};
+    int i;
+    int whiles;
+
+    for (i = 0; i < ANTECEDENTS; i++) {
+        try_implied_set((enum antecedent)i);
+        try_implied_before((enum antecedent)i);
+    }
+    for (i = 0; i < (int)DEEP; i++) {
+        try_replaced(&deep[i], TO_SCALAR, SCALAR);
+        try_replaced(&deep[i], TO_ARRAY, ARRAY);
+    }
+    for (i = 0; i < 2; i++) {
+        for (whiles = DEEPEST - 1 - fors[i]; whiles >= 0; whiles -= whiles > DEEPEST - 8 - fors[i] ? 1 : 30) {
+            try_loops(fors[i], whiles);
+        }
+    }
+    try_branches();
+}
+
+static void try_all(int count, char **paths)
+{
+    int i;
+
+    try_deepest();
+    try_table(paths[0], "", try_row);
+    try_table(paths[1], "", try_run_row);
+    for (i = 2; i < count; i++) {
+        folder = paths[i];
+        try_table(folder, "expected", try_file);
+    }
+}
+
+/* All again with just the stack that is stated, in a process of its own, which dies if that does not suffice. */
+static void try_with_stated(int count, char **paths)
+{
+    int status;
+    pid_t child;
+
+    fflush(stdout);
+    child = fork();
+    if (child < 0) {
+        fail("stack: a process");
+    }
+    if (child == 0) {
+        just = 1;
+        try_all(count, paths);
+        fflush(stdout);
+        _exit(wrong);
+    }
+    if (waitpid(child, &status, 0) != child) {
+        fail("stack: a process");
+    }
+    if (WIFSIGNALED(status)) {
+        printf("stack: %s: signal %d with just the stack that is stated\n", trying, WTERMSIG(status));
+    }
+    wrong |= status != 0;
+}
+
+int main(int count, char **arguments)
+{
+    int i;
+    uint8_t *mapped = mmap(NULL, PAGE + ROOM, PROT_READ | PROT_WRITE, MAP_PRIVATE | MAP_ANONYMOUS, -1, 0);
+
+    trying = mmap(NULL, PAGE, PROT_READ | PROT_WRITE, MAP_SHARED | MAP_ANONYMOUS, -1, 0);
+    if (mapped == MAP_FAILED || trying == MAP_FAILED || mprotect(mapped, PAGE, PROT_NONE)) {
+        fail("stack: memory");
+    }
+    stack = mapped + PAGE;
+    if (count < 3) {
+        fprintf(stderr, "usage: stack ROWS RUNS FOLDER/...\n");
+        return 2;
+    }
+    try_all(count - 1, arguments + 1);
+    for (i = 0; i < CALLS; i++) {
+        printf("%s: at most %zu bytes of stack in %zu calls (%s); %zu are stated\n", names[i], most[i].stack, most[i].calls,
+            most[i].name, stated[i]);
+        wrong |= most[i].stack > stated[i] || stated[i] > MOST_STACK;
+    }
+    try_with_stated(count - 1, arguments + 1);
+    return wrong;
+}
