@@ -1,15 +1,28 @@
-# What a check of a crate said, cut to what a reader needs: each law that failed by itself (three at most), with the line of its proof and
-# the fact; the first function that is not proved, with its contract; and how many others rest on these. `folder` is the copy of the
+# What a check of a crate said, cut to what a reader needs: each fact that failed by itself (three at most), with its law and the line of
+# its proof; the first function that is not proved, with its contract; and how many others rest on these. `folder` is the copy of the
 # repository that was checked.
 
-# names without their modules (`Rattle.flow.specs.Checked.answerOf` is `answerOf`), paths to earlier places of the code as `..`; not
-# over a length, which is shorter for the terms that the prover makes of code
-function plain(text,    most) {
+# a text with a short name for each term in brackets that starts with a word
+function fold(text, word, name,    at, i, c, depth) {
+    while ((at = index(text, "(" word " ")) > 0) {
+        depth = 0
+        for (i = at; i <= length(text); i++) {
+            c = substr(text, i, 1)
+            if (c == "(") depth++
+            else if (c == ")" && --depth == 0) break
+        }
+        text = substr(text, 1, at - 1) name substr(text, i + 1)
+    }
+    return text
+}
+# names without their modules (`Rattle.flow.specs.Checked.answerOf` is `answerOf`); short names for the terms that the prover makes of
+# code, and `..` for paths to earlier places of it; 420 bytes at most
+function plain(text) {
     while (match(text, /[^][ (){}`,.;:]+\.[^][ (){}`,.;:]/)) text = substr(text, 1, RSTART - 1) substr(text, RSTART + RLENGTH - 1)
+    text = fold(fold(fold(text, "resV", "result"), "dens", "arguments"), "argsV", "arguments")
     gsub(/( \.before)+/, " ..", text)
-    most = text ~ /argsV|locals|lifetimes|κs/ ? 200 : 420
-    if (length(text) <= most) return text
-    text = substr(text, 1, most)
+    if (length(text) <= 420) return text
+    text = substr(text, 1, 420)
     sub(/[\300-\377][\200-\277]*$/, "", text)
     return text " .."
 }
@@ -50,23 +63,29 @@ function count(n, one, more) { return n == 1 ? "1 " one : n " " more }
     showing = 1
 }
 # what is expected and what was found, and not the advice that follows
-showing && /^  (computed|expected|but this|\(expected|\(found|and the other)/ {
-    if (/^  (expected|but this)/ && /argsV|locals|lifetimes|dens |resV/) next
+showing && /^  (computed|expected|but this|\(expected|\(found|and the other|≟|does not hold|`simp`|is none)/ {
+    sub(/ \(this comparison, made at.*/, "")
     print "    " plain(substr($0, 3))
 }
-/^fn .*: not proved/ {
+
+# of a function that has no proof of its own: the fact in words, and the goal that was left
+/^note: .*: it is not proved that / && ++notes <= 3 { print "  " substr($0, length("note: " folder) + 2) }
+/^note: what antt said of a `search`/ { searching = 1 }
+searching && match($0, /the goal is `[^`]*`/) { print "    " plain(substr($0, RSTART, RLENGTH)); searching = 0 }
+
+/^fn .*: (not proved|no proof)/ {
+    unproved++
     path = substr($2, 1, length($2) - 1)
     name = path
     sub(/.*::/, "", name)
-    unproved++
-    # the one in whose proof the first law stands, else the first
-    if (function_path == "" || !own && first ~ ("[/+]" name "[/+]")) function_path = path
-    if (first ~ ("[/+]" name "[/+]")) own = 1
+    # the one that has no proof or in whose proof the first law stands, else the first
+    if (/: no proof/ || first ~ ("[/+]" name "[/+]")) { if (!own++) shown = path }
+    else if (shown == "") shown = path
 }
 END {
     if (first ~ /\/specs\//) print "  in the definitions themselves: no fact is shown to fail"
     if (errors > 3) print "  and " count(errors - 3, "place", "places") " more"
-    if (unproved) tell(function_path)
+    if (unproved) tell(shown)
     if (unproved > 1) print "  not proved with it: " count(unproved - 1, "function", "functions")
     if (laws) print "  resting on these: " count(laws, "law", "laws")
 }
