@@ -47,12 +47,13 @@ sameAnswer done (stops k i) = false
 sameAnswer (stops k i) done = false
 sameAnswer (stops k i) (stops l j) = eqb k l && eqb i j
 
-abbrev pub lent : ℤ → Lent
-lent m = record { scalars = pos 0 ∷ m ∷ replicate 30 (pos 0); values = replicate 2048 (pos 0) }
+-- 0 everywhere but for scalar 1
+abbrev pub storeWith : ℤ → Lent
+storeWith m = record { scalars = pos 0 ∷ m ∷ replicate 30 (pos 0); values = replicate 2048 (pos 0) }
 
 -- what was read is worth z; in one store, since a constant has one value in all
 abbrev pub constantIs : Reading (Expr Arithmetic) → ℤ → Bool
-constantIs (read e p) z = sameInteger (value e (storeOf (lent (pos 0)))) z
+constantIs (read e p) z = sameInteger (value e (storeOf (storeWith (pos 0)))) z
 constantIs (fault k p) z = false
 
 -- the second file, with word 5 as 2:x
@@ -70,7 +71,7 @@ ranAs r a n q =
 unfoldable pub right : Row → Bool
 right (file l v) = sameVerdict (verdictOf standard (bytesOf l)) v
 right (constant p z) = constantIs (expression (wordsOf (bytesOf ((1, p) ∷ []))) 1 Arithmetic 0) z
-right (forSkip m budget a n q) = ranAs (runOf standard (bytesOf skipped) budget (lent m)) a n q
+right (forSkip m budget a n q) = ranAs (runOf standard (bytesOf skipped) budget (storeWith m)) a n q
 
 unfoldable pub allRight : List Row → Bool
 allRight [] = true
