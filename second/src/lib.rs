@@ -18,6 +18,9 @@ pub mod annotate;
 pub mod guard;
 pub mod show;
 
+// What the programs of `src/bin` share.
+pub mod tool;
+
 // The judge.
 pub mod implies;
 pub mod judge;

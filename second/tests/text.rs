@@ -213,7 +213,7 @@ fn the_programs() {
     let bytes = file(&[(63, 4), (24, 0), (32, 0), (32, 0)]);
     std::fs::write(path("file"), &bytes).expect("a file");
     let viewed = Command::new(env!("CARGO_BIN_EXE_flowview")).arg(path("file")).output().expect("flowview");
-    assert!(viewed.status.success());
+    assert_eq!(viewed.status.code(), Some(1), "a refused file");
     assert_eq!(viewed.stdout, view(&bytes).into_bytes());
     std::fs::write(path("text"), &viewed.stdout).expect("a text");
     let flowasm = |arguments: &[&str]| {
@@ -228,7 +228,7 @@ fn the_programs() {
     for (text, line) in [(&b"63:*\n24"[..], ":2: `24` is no word"), (&b"63:*\n\n\xff"[..], ":3: this is no text")] {
         std::fs::write(path("text"), text).expect("a text");
         let refused = flowasm(&["text", "none"]);
-        assert_eq!(refused.status.code(), Some(1));
+        assert_eq!(refused.status.code(), Some(2));
         assert!(String::from_utf8_lossy(&refused.stderr).contains(line));
         assert!(!path("none").exists());
     }

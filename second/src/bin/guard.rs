@@ -1,15 +1,18 @@
 //! `guard FOLDER`: writes the texts and files of the mailbox guard (see guard.rs).
 
-use std::path::PathBuf;
+use second::guard::examples;
+use second::tool::{self, Fault};
+use std::io::Write;
 
 fn main() {
-    let Some(folder) = std::env::args().nth(1).map(PathBuf::from) else {
-        eprintln!("guard FOLDER");
-        std::process::exit(2);
-    };
-    for example in second::guard::examples() {
-        let path = |end: &str| folder.join(format!("{}.{end}", example.name));
-        std::fs::write(path("txt"), example.text()).expect("the text is written");
-        std::fs::write(path("cert"), example.bytes()).expect("the file is written");
+    tool::run(env!("CARGO_BIN_NAME"), "FOLDER", program)
+}
+
+fn program(arguments: &[String], _: &mut dyn Write) -> Result<u8, Fault> {
+    let [folder] = arguments else { return Err(Fault::Usage) };
+    for example in examples() {
+        tool::write_file(&format!("{folder}/{}.txt", example.name), example.text().as_bytes())?;
+        tool::write_file(&format!("{folder}/{}.cert", example.name), &example.bytes())?;
     }
+    Ok(0)
 }
