@@ -1,7 +1,7 @@
-//! `guard FOLDER`: writes the texts and files of the mailbox guard (see guard.rs).
+//! `make_examples FOLDER`: writes the texts and files of the examples that are made from trees (see guard.rs and loops.rs).
 
-use second::guard::examples;
 use second::tool::{self, Fault};
+use second::{guard, loops};
 use std::io::Write;
 
 fn main() {
@@ -10,7 +10,7 @@ fn main() {
 
 fn program(arguments: &[String], _: &mut dyn Write) -> Result<u8, Fault> {
     let [folder] = arguments else { return Err(Fault::Usage) };
-    for example in examples() {
+    for example in guard::examples().into_iter().chain(loops::examples()) {
         tool::write_file(&format!("{folder}/{}.txt", example.name), example.text().as_bytes())?;
         tool::write_file(&format!("{folder}/{}.cert", example.name), &example.bytes())?;
     }
