@@ -96,7 +96,7 @@ pub fn by_sequence(m: Set, first: Box<Flow>, second: Box<Flow>) -> Box<Flow> {
 pub fn grow(p: &[Member], new: &[Member]) -> Box<Implication> {
     let [first, rest @ ..] = new else { return implication(ImplicationRule::S13) };
     let (s, rule) = source(p, first);
-    let t = [p, &[first.clone()]].concat();
+    let t = [p, std::slice::from_ref(first)].concat();
     let second = grow(&t, rest);
     implication(ImplicationRule::S17 { s, s2: vec![first.clone()], t, first: implication(rule), second })
 }

@@ -53,8 +53,8 @@ fn assignment(c: &Command, p: &Set, new: &Set, q: &Set) -> Box<Flow> {
 
 /// (I, a while, Q), Q some members of I, from evidence of (I, the body, I).
 fn loop_evidence(i: &Set, body: Box<Flow>) -> Box<Flow> {
-    let flow = flow(FlowRule::F13 { body });
-    crate::example::flow(FlowRule::F8 { m: i.clone(), flow, set: implication(ImplicationRule::S13) })
+    let kept = flow(FlowRule::F13 { body });
+    flow(FlowRule::F8 { m: i.clone(), flow: kept, set: implication(ImplicationRule::S13) })
 }
 
 // lookup
@@ -261,12 +261,12 @@ fn retry_flow(s: &Set) -> Box<Flow> {
     flow(FlowRule::F7 { m: i.clone(), set, flow: loop_evidence(&i, body) })
 }
 
-/// φ of rule 12 and the evidence of its precondition.
+/// `phi` is the antecedent before the loop; `before` is evidence that it is a precondition of rdy = 1.
 fn retry_with(name: &'static str, about: &'static str, phi: Bool, before: Box<Before>) -> Example {
     let (s, s2) = (agree![x(TRIES), x(SENT), x(PUT)], agree![x(PUT)]);
     let (pre, post) = (under(&s, &phi), under(&s2, &flag(READY)));
-    let flow_12 = retry_flow(&s);
-    let evidence = flow(FlowRule::F12 { s, s2, phi, phi2: flag(READY), flow: flow_12, before });
+    let under_true = retry_flow(&s);
+    let evidence = flow(FlowRule::F12 { s, s2, phi, phi2: flag(READY), flow: under_true, before });
     let fewer = assign(TRIES, operate(Operator::Minus, x(TRIES), number(1)));
     let body = sequence(assign(PUT, x(SENT)), sequence(assign(READY, number(1)), fewer));
     let program = command(Form::While(left(x(TRIES)), Box::new(body)));
