@@ -75,17 +75,25 @@ impl Text<'_> {
     fn command(&mut self, depth: usize, c: &Command) {
         match &c.form {
             Form::Sequence(a, b) => {
-                self.line(depth, "25:0", "sequence of");
+                self.line(depth, "25:0", &self.names.head(c));
                 self.command(depth + 1, a);
                 self.command(depth + 1, b);
             }
             Form::If(test, then, otherwise) => {
                 let words = spelled(|out| write::boolean(test, out));
-                let comment = format!("if {}", self.names.boolean(test));
-                self.line(depth, &format!("29:0  {words}"), &comment);
+                self.line(depth, &format!("29:0  {words}"), &self.names.head(c));
                 self.command(depth + 1, then);
                 self.note(depth, "else");
                 self.command(depth + 1, otherwise);
+            }
+            Form::While(test, body) => {
+                let words = spelled(|out| write::boolean(test, out));
+                self.line(depth, &format!("30:0  {words}"), &self.names.head(c));
+                self.command(depth + 1, body);
+            }
+            Form::For(q, m, body) => {
+                self.line(depth, &format!("31:{}", q + 32 * m), &self.names.head(c));
+                self.command(depth + 1, body);
             }
             _ => {
                 let words = spelled(|out| write::command(c, out));

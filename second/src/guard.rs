@@ -1,14 +1,11 @@
 //! The mailbox guard of paper 000, figures 2 and 3, as certificates, good and faulty: the trees from which the texts
 //! and files of `examples/` are made.
 
-use crate::annotate::annotate;
-use crate::read::read;
+use crate::example::*;
 use crate::show::Names;
 use crate::syntax::*;
-use crate::words::bytes_of;
-use crate::write::file_words;
 
-/// The figure's variables by scalar number.
+/// The figure's variables by scalar number; a flag is TRUE when its scalar is 1.
 pub const NAMES: Names = Names {
     scalars: &[
         "IN_0_RDY", "IN_0_DAT", "OUT_0_RDY", "OUT_0_DAT", "IN_1_RDY", "IN_1_DAT", "OUT_1_RDY", "OUT_1_DAT", "D_0", "D_1",
@@ -41,30 +38,13 @@ struct Way {
 const TO_1: Way = Way { in_rdy: IN_0_RDY, in_dat: IN_0_DAT, data: D_0, out_rdy: OUT_1_RDY, out_dat: OUT_1_DAT };
 const TO_0: Way = Way { in_rdy: IN_1_RDY, in_dat: IN_1_DAT, data: D_1, out_rdy: OUT_0_RDY, out_dat: OUT_0_DAT };
 
-/// A flag of the figure: an integer that is 1 when the flag is TRUE.
-fn flag(x: u32) -> Bool {
-    compare(Comparison::Equal, Arith::Scalar(x), Arith::Constant(1))
-}
-
-fn always() -> Bool {
-    Bool::Truth(true)
-}
-
-fn member(phi: Bool, e: Expression) -> Member {
-    Member { phi, e }
-}
-
-fn scalar(x: u32) -> Expression {
-    Expression::Arith(Arith::Scalar(x))
+fn scalar(x: u32) -> Arith {
+    Arith::Scalar(x)
 }
 
 /// {true ⇒ x}.
 fn only(x: u32) -> Set {
-    vec![member(always(), scalar(x))]
-}
-
-fn assign(x: u32, a: Arith) -> Command {
-    command(Form::AssignScalar(x, a))
+    agree![scalar(x)]
 }
 
 impl Way {
@@ -79,7 +59,7 @@ impl Way {
         let taken = assign(self.in_rdy, Arith::Constant(0));
         let take = assign(self.data, Arith::Scalar(self.in_dat));
         let then = sequence(take, sequence(taken, sequence(put, ready)));
-        command(Form::If(self.test(), Box::new(then), Box::new(command(Form::Skip))))
+        if_else(self.test(), then, skip())
     }
 
     /// Figure 3: what the output derives from.
@@ -91,7 +71,7 @@ impl Way {
     }
 
     fn flags(self) -> [Member; 2] {
-        [self.in_rdy, self.out_rdy].map(|x| member(always(), Expression::Bool(flag(x))))
+        [self.in_rdy, self.out_rdy].map(|x| member(always(), flag(x)))
     }
 
     /// What rule 6 makes of {true ⇒ in_dat} and {true ⇒ out_dat}: Θ0 of section 3.2.
@@ -99,25 +79,9 @@ impl Way {
         vec![
             member(and(always(), self.test()), scalar(self.in_dat)),
             member(and(always(), not(self.test())), scalar(self.out_dat)),
-            member(always(), Expression::Bool(self.test())),
+            member(always(), self.test()),
         ]
     }
-}
-
-fn flow(rule: FlowRule) -> Box<Flow> {
-    Box::new(Flow { place: 0, rule })
-}
-
-fn implication(rule: ImplicationRule) -> Box<Implication> {
-    Box::new(Implication { place: 0, rule })
-}
-
-fn before(rule: BeforeRule) -> Box<Before> {
-    Box::new(Before { place: 0, rule })
-}
-
-fn by_sequence(m: Set, first: Box<Flow>, second: Box<Flow>) -> Box<Flow> {
-    flow(FlowRule::F2 { m, first, second })
 }
 
 /// ({true ⇒ in_dat}, the four assignments, {true ⇒ out_dat}): figure 3 (b), lines 2 to 5.
@@ -154,7 +118,7 @@ fn antecedents_evidence(p: &[Member], raw: &[Member]) -> Box<Implication> {
 /// The two flags imply the test: rule 19 for ¬, then for ∧.
 fn test_evidence(way: Way) -> Box<Implication> {
     let [ready, free] = way.flags();
-    let denied = member(always(), Expression::Bool(not(flag(way.out_rdy))));
+    let denied = member(always(), not(flag(way.out_rdy)));
     implication(ImplicationRule::S17 {
         s: vec![free],
         s2: vec![denied.clone()],
@@ -192,61 +156,31 @@ fn output_1_evidence() -> Box<Flow> {
     by_sequence(only(OUT_1_DAT), transfer_evidence(TO_1, &TO_1.contract()), flow(FlowRule::F10))
 }
 
-/// One certificate: its text and file are `examples/NAME.txt` and `examples/NAME.cert`.
-pub struct Example {
-    pub name: &'static str,
-    about: &'static str,
-    program: Command,
-    pre: Set,
-    post: Set,
-    evidence: Box<Flow>,
-}
-
-impl Example {
-    pub fn bytes(&self) -> Vec<u8> {
-        bytes_of(&file_words(&self.program, &self.pre, &self.post, &self.evidence))
-    }
-
-    pub fn text(&self) -> String {
-        let file = read(&self.bytes()).expect("the guard reads");
-        let mut head = String::new();
-        for line in self.about.lines() {
-            head.push_str(&format!("# {line}\n"));
-        }
-        head.push_str("#\n# Scalars, and a flag is TRUE when its scalar is 1:\n");
-        for (x, name) in NAMES.scalars.iter().enumerate() {
-            head.push_str(&format!("#   2:{x} {name}\n"));
-        }
-        let body = annotate(&file, &NAMES).expect("each rule fits its command");
-        format!("{head}\n{body}")
-    }
-}
-
 /// MACHINE_STEP of figure 2.
 fn machine_step() -> Command {
     sequence(TO_1.transfer(D_0), TO_0.transfer(D_1))
 }
 
 fn good(name: &'static str, about: &'static str, pre: Set, post: Set, evidence: Box<Flow>) -> Example {
-    Example { name, about, program: machine_step(), pre, post, evidence }
+    Example { name, about, names: NAMES, program: machine_step(), pre, post, evidence }
 }
 
 fn output_0() -> Example {
     let pre = TO_0.contract();
-    let about = "MACHINE_STEP (paper 000, figure 2) and what OUT_0_DAT derives from (figure 3).\nAccepted.";
+    let about = "MACHINE_STEP (paper 000, figure 2; a flag is TRUE when its scalar is 1) and what OUT_0_DAT derives from (figure 3).\nAccepted.";
     let evidence = output_0_evidence(&pre);
     good("guard-output-0", about, pre, only(OUT_0_DAT), evidence)
 }
 
 fn output_1() -> Example {
-    let about = "MACHINE_STEP (paper 000, figure 2) and what OUT_1_DAT derives from (figure 3).\nAccepted.";
+    let about = "MACHINE_STEP (paper 000, figure 2; a flag is TRUE when its scalar is 1) and what OUT_1_DAT derives from (figure 3).\nAccepted.";
     good("guard-output-1", about, TO_1.contract(), only(OUT_1_DAT), output_1_evidence())
 }
 
 fn both() -> Example {
     let (s, t) = (TO_0.contract(), TO_1.contract());
     let (s2, t2) = (only(OUT_0_DAT), only(OUT_1_DAT));
-    let about = "MACHINE_STEP (paper 000, figure 2) with the whole contract of figure 3 (a), both outputs.\nAccepted.";
+    let about = "MACHINE_STEP (paper 000, figure 2; a flag is TRUE when its scalar is 1) with the whole contract of figure 3 (a), both outputs.\nAccepted.";
     let (pre, post) = ([s.clone(), t.clone()].concat(), [s2.clone(), t2.clone()].concat());
     let first = output_0_evidence(&s);
     let second = output_1_evidence();
@@ -282,7 +216,7 @@ fn crossed() -> Example {
     let about = "FAULTY: guard-output-0 for a program that puts D_0, not D_1, in OUT_0_DAT.\n\
         Refused 8 at [1.2.2.1.2.2.1]: the assignment needs D_0, the evidence has D_1.";
     let program = sequence(TO_1.transfer(D_0), TO_0.transfer(D_0));
-    Example { name: "guard-crossed", about, program, pre, post: only(OUT_0_DAT), evidence }
+    Example { name: "guard-crossed", about, names: NAMES, program, pre, post: only(OUT_0_DAT), evidence }
 }
 
 pub fn examples() -> Vec<Example> {

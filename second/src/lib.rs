@@ -14,10 +14,15 @@ pub mod assemble;
 pub mod meaning;
 pub mod view;
 
-// The mailbox guard of `examples/`.
+// The certificates of `examples/`.
 pub mod annotate;
+pub mod example;
 pub mod guard;
+pub mod loops;
 pub mod show;
+
+// What the programs of `src/bin` share.
+pub mod tool;
 
 // The judge.
 pub mod implies;

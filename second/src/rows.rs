@@ -18,8 +18,8 @@ pub fn bytes_of_hex(text: &str) -> Result<Vec<u8>, String> {
     }
     let mut bytes = Vec::new();
     for i in (0..text.len()).step_by(2) {
-        let byte = u8::from_str_radix(&text[i..i + 2], 16).map_err(|e| e.to_string())?;
-        bytes.push(byte);
+        let two = text.get(i..i + 2).unwrap_or_default();
+        bytes.push(u8::from_str_radix(two, 16).map_err(|_| format!("`{two}` is no byte in hexadecimal"))?);
     }
     Ok(bytes)
 }
@@ -39,10 +39,10 @@ pub fn bytes_of_field(field: &str, rows: &Path) -> Result<Vec<u8>, String> {
 pub fn store_of(text: &str) -> Result<Vec<i64>, String> {
     let mut store = vec![0i64; SCALARS + ARRAY_VALUES];
     for part in text.split(',').filter(|p| !p.trim().is_empty()) {
-        let (index, value) = part.trim().split_once('=').ok_or(format!("no = in {part}"))?;
-        let index: usize = index.parse().map_err(|_| format!("index {index}"))?;
-        let value: i64 = value.parse().map_err(|_| format!("value {value}"))?;
-        *store.get_mut(index).ok_or(format!("index {index}"))? = value;
+        let (index, value) = part.trim().split_once('=').ok_or(format!("no = in `{part}`"))?;
+        let place = index.parse().ok().and_then(|index: usize| store.get_mut(index));
+        let place = place.ok_or(format!("index `{index}` is no number from 0 to {}", SCALARS + ARRAY_VALUES - 1))?;
+        *place = value.parse().map_err(|_| format!("value `{value}` is no signed 64-bit number"))?;
     }
     Ok(store)
 }

@@ -2,11 +2,14 @@
 
 use crate::syntax::*;
 
-/// Names by number; an identifier without one is x7 or h7.
+/// Names by number; an identifier without one is x7 or a7.
 pub struct Names {
     pub scalars: &'static [&'static str],
     pub arrays: &'static [&'static str],
 }
+
+/// x0 to x31 and a0 to a31.
+pub const NUMBERED: Names = Names { scalars: &[], arrays: &[] };
 
 impl Names {
     fn scalar(&self, x: u32) -> String {
@@ -14,7 +17,7 @@ impl Names {
     }
 
     fn array(&self, h: u32) -> String {
-        self.arrays.get(h as usize).map_or(format!("h{h}"), |name| name.to_string())
+        self.arrays.get(h as usize).map_or(format!("a{h}"), |name| name.to_string())
     }
 
     pub fn arith(&self, a: &Arith) -> String {
@@ -75,19 +78,44 @@ impl Names {
     /// A command on one line.
     pub fn command(&self, c: &Command) -> String {
         match &c.form {
-            Form::Skip => "skip".to_string(),
             Form::Sequence(a, b) => format!("{}; {}", self.command(a), self.command(b)),
+            Form::If(_, then, otherwise) => {
+                format!("{} ({}) else ({})", self.head(c), self.command(then), self.command(otherwise))
+            }
+            Form::While(_, body) | Form::For(_, _, body) => format!("{} ({})", self.head(c), self.command(body)),
+            _ => self.head(c),
+        }
+    }
+
+    /// A command up to its parts, if it has some; h[i] := a is short for h := h{i : a}.
+    pub fn head(&self, c: &Command) -> String {
+        match &c.form {
+            Form::Skip => "skip".to_string(),
+            Form::Sequence(..) => "sequence of".to_string(),
             Form::Assert(b) => format!("assert({})", self.boolean(b)),
             Form::AssignScalar(x, a) => format!("{} := {}", self.scalar(*x), self.arith(a)),
-            Form::AssignArray(h, a) => format!("{} := {}", self.array(*h), self.array_of(a)),
-            Form::If(b, then, otherwise) => {
-                let (then, otherwise) = (self.command(then), self.command(otherwise));
-                format!("if {} then ({then}) else ({otherwise})", self.boolean(b))
+            Form::AssignArray(h, a) => match a {
+                Array::Update(old, index, value) if **old == Array::Identifier(*h) => {
+                    format!("{}[{}] := {}", self.array(*h), self.arith(index), self.arith(value))
+                }
+                _ => format!("{} := {}", self.array(*h), self.array_of(a)),
+            },
+            Form::If(b, ..) => format!("if {} then", self.boolean(b)),
+            Form::While(b, _) => format!("while {} do", self.boolean(b)),
+            Form::For(q, m, _) => format!("for {} ← 1 to {} do", self.scalar(*q), self.scalar(*m)),
+        }
+    }
+
+    /// A command on lines, one for each of its commands; the parts of an if or a loop are indented by two.
+    pub fn lines(&self, c: &Command) -> Vec<String> {
+        let part = |c: &Command| self.lines(c).into_iter().map(|line| format!("  {line}")).collect();
+        match &c.form {
+            Form::Sequence(a, b) => [self.lines(a), self.lines(b)].concat(),
+            Form::If(_, then, otherwise) => {
+                [vec![self.head(c)], part(then), vec!["else".to_string()], part(otherwise)].concat()
             }
-            Form::While(b, body) => format!("while {} do ({})", self.boolean(b), self.command(body)),
-            Form::For(q, m, body) => {
-                format!("for {} ← 1 to {} do ({})", self.scalar(*q), self.scalar(*m), self.command(body))
-            }
+            Form::While(_, body) | Form::For(_, _, body) => [vec![self.head(c)], part(body)].concat(),
+            _ => vec![self.head(c)],
         }
     }
 }

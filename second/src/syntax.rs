@@ -47,6 +47,24 @@ pub enum Expression {
     Array(Array),
 }
 
+impl From<Arith> for Expression {
+    fn from(a: Arith) -> Expression {
+        Expression::Arith(a)
+    }
+}
+
+impl From<Bool> for Expression {
+    fn from(b: Bool) -> Expression {
+        Expression::Bool(b)
+    }
+}
+
+impl From<Array> for Expression {
+    fn from(h: Array) -> Expression {
+        Expression::Array(h)
+    }
+}
+
 #[derive(Clone, Debug)]
 pub struct Command {
     pub place: usize,

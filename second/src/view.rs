@@ -1,9 +1,12 @@
 //! A file shown word by word. A line is a place, `|`, the word indented by its depth, and after `#` its role and
-//! meaning. The refused word has `>` before its place. `assemble` takes the text back.
+//! meaning. The refused word has `>` before its place. `assemble` takes the text back. And a file's program and contract
+//! alone, in readable notation.
 
 use crate::judge::{check, Answer};
 use crate::meaning::{meaning, refusal_meaning, Sort};
-use crate::read::MOST_DEPTH;
+use crate::read::{read, MOST_DEPTH};
+use crate::show::Names;
+use crate::syntax::{File, Member};
 use crate::words::{pack, take_apart, Refusal};
 
 /// What is due at a word.
@@ -146,4 +149,37 @@ pub fn view(bytes: &[u8]) -> String {
         Answer::Refused(refusal) => Some(refusal),
     };
     format!("# {} words: {}\n{}", words.len(), answer.line(), view_words(&words, refusal))
+}
+
+fn set_lines(names: &Names, set: &[Member]) -> Vec<String> {
+    if set.is_empty() {
+        return vec!["(empty)".to_string()];
+    }
+    set.iter().map(|member| names.member(member)).collect()
+}
+
+/// The program, a line to a command, then the two sets, a line to a member.
+fn contract(names: &Names, file: &File) -> String {
+    let parts = [
+        ("program", names.lines(&file.command)),
+        ("precondition", set_lines(names, &file.pre)),
+        ("postcondition", set_lines(names, &file.post)),
+    ];
+    let mut out = String::new();
+    for (title, lines) in parts {
+        out.push_str(&format!("{title}\n"));
+        lines.iter().for_each(|line| out.push_str(&format!("  {line}\n")));
+    }
+    out
+}
+
+/// The answer, then the program and the two sets if there are some: refusals 8 and 9 are of the evidence alone.
+pub fn view_parts(bytes: &[u8], names: &Names) -> String {
+    let answer = check(bytes);
+    let said = match answer {
+        Answer::Accepted(_) => String::new(),
+        Answer::Refused(refusal) => format!(": {}", refusal_meaning(refusal.number)),
+    };
+    let shown = read(bytes).map_or(String::new(), |file| contract(names, &file));
+    format!("# {} bytes: {}{said}\n{shown}", bytes.len(), answer.line())
 }

@@ -1,4 +1,4 @@
-//! `examples/`: texts, files and answers agree; the guard does what figure 2 says; the good contracts hold of runs, and
+//! `examples/`: texts, files and answers agree; the programs do what they should; the good contracts hold of runs, and
 //! each faulty one is broken by two runs.
 
 use second::annotate::annotate;
@@ -7,10 +7,11 @@ use second::big::Big;
 use second::generate::{accepted, file_prng};
 use second::guard::*;
 use second::judge::check;
+use second::loops;
 use second::pairs::{try_pair, Found};
 use second::read::read;
-use second::rows::bytes_of_field;
-use second::run::{run, ARRAY_VALUES, SCALARS};
+use second::rows::{bytes_of_field, changes_of, store_of};
+use second::run::{run, ARRAY_VALUES, INDEXES, SCALARS};
 use second::show::Names;
 use second::syntax::{Expression, File};
 use second::unbounded::{self, agree, Map, Store};
@@ -67,10 +68,23 @@ fn every_example_is_expected() {
 }
 
 #[test]
-fn the_guard_is_as_its_trees_say() {
-    for example in examples() {
+fn texts_and_files_are_as_their_trees_say() {
+    for example in examples().into_iter().chain(loops::examples()) {
         assert_eq!(text(example.name), example.text());
         assert_eq!(bytes(example.name), example.bytes());
+    }
+}
+
+fn readme() -> String {
+    std::fs::read_to_string(format!("{FOLDER}/README.md")).expect("README.md")
+}
+
+/// Some line of README.md has each example's name and answer.
+#[test]
+fn the_readme_has_every_answer() {
+    for (name, line, _) in expected() {
+        let has = |text: &str| text.contains(&format!("`{name}`")) && text.contains(&line);
+        assert!(readme().lines().any(has), "{name}: {line}");
     }
 }
 
@@ -162,64 +176,96 @@ fn the_guard_does_what_the_figure_says() {
     }
 }
 
+/// The example, the store that its program is run from, and what comes of it.
+const RUNS: [(&str, &str, &str, &str); 11] = [
+    ("lookup", "0=63,95=9", "ended", "1=9"),
+    ("lookup", "0=64,95=9", "refused 12 2", ""),
+    ("message", "0=1,32=5,33=6,98=7", "ended", "96=5,97=6"),
+    ("message", "32=5,33=6,98=7", "ended", ""),
+    ("scrub", "1=2,32=4,33=5,34=6,35=7", "ended", "0=4,2=3,33=0,34=0"),
+    ("wage", "0=100,1=3,3=2,34=20", "ended", "0=160,2=4"),
+    ("wage", "0=100,1=-3,3=2,34=20", "ended", "2=1"),
+    ("total", "1=2,33=30,34=12", "ended", "0=42,2=3"),
+    ("total", "1=1,33=30,34=12", "ended", "0=30,2=2"),
+    ("retry", "0=2,1=5", "ended", "0=0,2=5,3=1"),
+    ("retry", "1=5,2=6", "ended", ""),
+];
+
+#[test]
+fn programs_do_what_they_should() {
+    for (name, start, end, changes) in RUNS {
+        let old = store_of(start).expect("a store");
+        let mut new = old.clone();
+        let (scalars, arrays) = new.split_at_mut(SCALARS);
+        assert_eq!(run(&bytes(name), 100, scalars, arrays).end_text(), end, "{name} {start}");
+        assert_eq!(changes_of(&old, &new), changes, "{name} {start}");
+    }
+}
+
 /// Demand 3 by search: agreeing starts, agreeing ends.
 #[test]
 fn good_contracts_hold_of_runs() {
-    for name in ["copy", "gate", "guard-output-0", "guard-output-1", "guard-both"] {
-        let file = read(&bytes(name)).expect("readable");
+    for (name, _, bytes) in expected().into_iter().filter(|(_, line, _)| line.starts_with("accepted")) {
+        let file = read(&bytes).expect("readable");
         let mut agreed = 0;
-        for i in 0..3_000 {
+        for i in 0..10_000 {
             let found = try_pair(&mut file_prng(32, i), &file, 100).0;
             assert_ne!(found, Found::Counterexample, "{name}");
             agreed += u64::from(found == Found::Agree);
         }
-        assert!(agreed > 1_000, "{name}: {agreed}");
+        assert!(agreed > 200, "{name}: {agreed}");
     }
 }
 
-fn store(scalars: &[i64]) -> Store {
+/// `index=value,...` as a store over all integers: 0 wherever nothing is given.
+fn store(text: &str) -> Store {
+    let values = store_of(text).expect("a store");
+    let (scalars, elements) = values.split_at(SCALARS);
+    let array = |elements: &[i64]| {
+        let places = elements.iter().enumerate();
+        places.fold(Map::everywhere(Big::from(0)), |map, (i, v)| map.with(Big::from(i as i64), Big::from(*v)))
+    };
     Store {
         scalars: scalars.iter().map(|value| Big::from(*value)).collect(),
-        arrays: vec![Map::everywhere(Big::from(0)); 32],
+        arrays: elements.chunks(INDEXES).map(array).collect(),
     }
 }
 
 /// Two starts: do they agree as P demands, and do their ends agree as Q demands?
-fn judged_by_runs(file: &File, one: &[(u32, i64)], two: &[(u32, i64)]) -> (bool, bool) {
-    let start = |given: &[(u32, i64)]| {
-        let mut scalars = [0; 32];
-        given.iter().for_each(|(x, value)| scalars[*x as usize] = *value);
-        store(&scalars)
-    };
-    let starts = [start(one), start(two)];
+fn judged_by_runs(file: &File, one: &str, two: &str) -> (bool, bool) {
+    let starts = [store(one), store(two)];
     let mut ends = starts.clone();
     for end in &mut ends {
-        unbounded::run(&file.command, end, &mut 100).expect("the guard ends");
+        unbounded::run(&file.command, end, &mut 100).expect("the program ends");
     }
     (agree(&file.pre, &starts[0], &starts[1]), agree(&file.post, &ends[0], &ends[1]))
 }
 
+/// A faulty example, the good one, and two stores that break the contract of the first.
+const LEAKS: [[&str; 4]; 7] = [
+    ["guard-without-test", "guard-output-0", "5=5,3=7,4=1", "5=5,3=7,4=0"],
+    ["guard-rule-18", "guard-output-0", "5=5,3=7", "5=5,3=8"],
+    ["guard-crossed", "guard-output-0", "5=5,3=7,0=1,4=1,1=3", "5=5,3=7,0=1,4=1,1=4"],
+    ["lookup-narrow", "lookup", "0=40,72=1", "0=40,72=2"],
+    ["message-crossed", "message", "0=1,34=7", "0=1,34=8"],
+    ["wage-without-hours", "wage", "1=1,32=5", "1=2,32=5"],
+    ["retry-before", "retry", "0=1,1=5", "0=1,1=6"],
+];
+
 /// The pairs of `examples/README.md`: each faulty contract is broken, and the good one holds of them.
 #[test]
 fn faulty_contracts_are_broken_by_runs() {
-    let rest = [(IN_1_DAT, 5), (OUT_0_DAT, 7)];
-    let leaks = [
-        ("guard-without-test", vec![(IN_1_RDY, 1)], vec![(IN_1_RDY, 0)]),
-        ("guard-rule-18", vec![], vec![(OUT_0_DAT, 8)]),
-        (
-            "guard-crossed",
-            vec![(IN_0_RDY, 1), (IN_1_RDY, 1), (IN_0_DAT, 3)],
-            vec![(IN_0_RDY, 1), (IN_1_RDY, 1), (IN_0_DAT, 4)],
-        ),
-    ];
-    let good = read(&bytes("guard-output-0")).expect("readable");
-    for (name, one, two) in leaks {
-        let file = read(&bytes(name)).expect("readable");
-        let (one, two) = ([&rest[..], &one].concat(), [&rest[..], &two].concat());
-        assert_eq!(judged_by_runs(&file, &one, &two), (true, false), "{name}");
-        let (agreed, ended) = judged_by_runs(&good, &one, &two);
+    let readme = readme().replace('\n', " ");
+    for [name, good, one, two] in LEAKS {
+        assert!(readme.contains(&format!("`{one}` and `{two}`")), "{name}");
+        let file = |name: &str| read(&bytes(name)).expect("readable");
+        assert_eq!(judged_by_runs(&file(name), one, two), (true, false), "{name}");
+        let (agreed, ended) = judged_by_runs(&file(good), one, two);
         assert!(!agreed || ended, "{name}");
     }
+    let refused = expected().into_iter().filter(|(_, line, _)| line.starts_with("refused"));
+    let names: BTreeSet<String> = refused.map(|(name, _, _)| name).collect();
+    assert_eq!(names, LEAKS.iter().map(|leak| leak[0].to_string()).collect());
 }
 
 /// Figure 3 (a), written out: what the two outputs derive from.

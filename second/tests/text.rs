@@ -6,7 +6,8 @@ use second::judge::{check, Answer};
 use second::mutate::mutate;
 use second::read::read;
 use second::rows::bytes_of_hex;
-use second::view::{view, walk};
+use second::show::NUMBERED;
+use second::view::{view, view_parts, walk};
 use second::words::{bytes_of, pack, words_of, Refusal};
 use std::process::Command;
 
@@ -149,6 +150,43 @@ expression (test)
     assert_eq!(view(&bytes), text);
 }
 
+/// Every form of command, and both kinds of array assignment.
+#[test]
+fn the_parts_of_a_file() {
+    let text = "63:* 25:0 25:0 26:0 11:0 8:1 2:0 1:-3 9:0 28:1 18:0 16:1 2:0 4:0 16:2 3:0 2:0 1:1 29:0 12:0 8:0 2:1 1:0
+        30:0 10:0 8:2 2:0 2:1 9:1 25:0 28:2 18:0 17:0 1:0 2:0 31:39 24:0 27:3 3:2 2:0 2:1
+        32:1 9:1 18:0 16:1 2:0 2:1 32:0 33:10";
+    let bytes = assemble(text).expect("a text");
+    let parts = "\
+# 196 bytes: refused 8 48: a condition of this rule fails
+program
+  assert(x0 < -3 ∨ false)
+  a1[x0] := a2[(x0 + 1)]
+  if ¬(x1 = 0) then
+    while x0 ≤ x1 ∧ true do
+      a2 := Z{0 : x0}
+      for x7 ← 1 to x1 do
+        skip
+  else
+    x3 := (x0 × x1)
+precondition
+  true ⇒ a1{x0 : x1}
+postcondition
+  (empty)
+";
+    assert_eq!(view_parts(&bytes, &NUMBERED), parts);
+}
+
+/// The answer comes first, and the parts follow if the file reads.
+#[test]
+fn parts_of_generated_files() {
+    for bytes in generated() {
+        let text = view_parts(&bytes, &NUMBERED);
+        assert!(text.starts_with(&format!("# {} bytes: {}", bytes.len(), check(&bytes).line())));
+        assert_eq!(text.contains("\nprogram\n  "), read(&bytes).is_ok());
+    }
+}
+
 #[test]
 fn text_written_by_hand() {
     let text = "\
@@ -213,7 +251,7 @@ fn the_programs() {
     let bytes = file(&[(63, 4), (24, 0), (32, 0), (32, 0)]);
     std::fs::write(path("file"), &bytes).expect("a file");
     let viewed = Command::new(env!("CARGO_BIN_EXE_flowview")).arg(path("file")).output().expect("flowview");
-    assert!(viewed.status.success());
+    assert_eq!(viewed.status.code(), Some(1), "a refused file");
     assert_eq!(viewed.stdout, view(&bytes).into_bytes());
     std::fs::write(path("text"), &viewed.stdout).expect("a text");
     let flowasm = |arguments: &[&str]| {
@@ -228,7 +266,7 @@ fn the_programs() {
     for (text, line) in [(&b"63:*\n24"[..], ":2: `24` is no word"), (&b"63:*\n\n\xff"[..], ":3: this is no text")] {
         std::fs::write(path("text"), text).expect("a text");
         let refused = flowasm(&["text", "none"]);
-        assert_eq!(refused.status.code(), Some(1));
+        assert_eq!(refused.status.code(), Some(2));
         assert!(String::from_utf8_lossy(&refused.stderr).contains(line));
         assert!(!path("none").exists());
     }

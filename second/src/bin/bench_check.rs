@@ -4,8 +4,8 @@
 use second::fast::{self, Work};
 use second::judge;
 use second::times::best;
-use second::words::MOST_BYTES;
-use std::io::Read;
+use second::tool::{self, Fault};
+use std::io::Write;
 use std::sync::Mutex;
 
 static WORK: Mutex<Work> = Mutex::new(Work::new());
@@ -21,8 +21,7 @@ fn proved(bytes: &[u8]) -> u32 {
 
 #[cfg(not(feature = "first"))]
 fn proved(_: &[u8]) -> u32 {
-    eprintln!("built without the feature `first`");
-    std::process::exit(2)
+    panic!("built without the feature `first`")
 }
 
 fn fast(bytes: &[u8]) -> u32 {
@@ -34,26 +33,27 @@ fn second(bytes: &[u8]) -> u32 {
 }
 
 fn main() {
-    let version = std::env::args().nth(1).unwrap_or_default();
-    // room for the longest file, so that reading takes the same for all
-    let mut bytes = Vec::with_capacity(2 * MOST_BYTES);
-    std::io::stdin().lock().read_to_end(&mut bytes).expect("standard input");
-    let answer = match version.as_str() {
-        "proved" => proved(&bytes),
-        "fast" => fast(&bytes),
-        "second" => second(&bytes),
+    tool::run(env!("CARGO_BIN_NAME"), "proved|fast|second|times < FILE", program)
+}
+
+fn program(arguments: &[String], out: &mut dyn Write) -> Result<u8, Fault> {
+    let [version] = arguments else { return Err(Fault::Usage) };
+    let answer: fn(&[u8]) -> u32 = match version.as_str() {
+        "proved" => proved,
+        "fast" => fast,
+        "second" => second,
         "times" => {
+            let bytes = tool::read_input()?;
             let each: [&mut dyn FnMut() -> u64; 3] = [
                 &mut || u64::from(proved(&bytes)),
                 &mut || u64::from(fast(&bytes)),
                 &mut || u64::from(second(&bytes)),
             ];
-            return println!("{}", best(each));
+            writeln!(out, "{}", best(each))?;
+            return Ok(0);
         }
-        _ => {
-            eprintln!("bench_check proved|fast|second|times < file");
-            std::process::exit(2)
-        }
+        _ => return Err(Fault::Usage),
     };
-    println!("{}", judge::line_of(answer));
+    writeln!(out, "{}", judge::line_of(answer(&tool::read_input()?)))?;
+    Ok(0)
 }

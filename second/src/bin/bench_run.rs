@@ -6,6 +6,8 @@ use second::fast::{self, Work};
 use second::programs;
 use second::run::{self, End, ARRAY_VALUES, MOST_BUDGET, SCALARS};
 use second::times::best;
+use second::tool::{self, Fault};
+use std::io::Write;
 use std::sync::Mutex;
 
 static WORK: Mutex<Work> = Mutex::new(Work::new());
@@ -33,8 +35,7 @@ fn proved(bytes: &[u8], store: &mut Store) -> u64 {
 
 #[cfg(not(feature = "first"))]
 fn proved(_: &[u8], _: &mut Store) -> u64 {
-    eprintln!("built without the feature `first`");
-    std::process::exit(2)
+    panic!("built without the feature `first`")
 }
 
 fn fast(bytes: &[u8], store: &mut Store) -> u64 {
@@ -60,29 +61,32 @@ fn answer(run: fn(&[u8], &mut Store) -> u64, bytes: &[u8]) -> (u64, i64) {
 }
 
 fn main() {
-    let arguments: Vec<String> = std::env::args().skip(1).collect();
-    let name = arguments.get(1).map_or("", |a| a.as_str());
+    tool::run(env!("CARGO_BIN_NAME"), "proved|fast|second|times PROGRAM", program)
+}
+
+fn program(arguments: &[String], out: &mut dyn Write) -> Result<u8, Fault> {
+    let [version, name] = arguments else { return Err(Fault::Usage) };
     let bytes = match programs::PROGRAMS.iter().find(|p| p.name == name) {
         Some(program) => program.file(),
         None if name == "empty" => Vec::new(),
-        None => {
-            eprintln!("bench_run proved|fast|second|times PROGRAM");
-            std::process::exit(2)
-        }
+        None => return Err(Fault::Said(format!("no program `{name}`"))),
     };
-    let version = match arguments[0].as_str() {
+    let version = match version.as_str() {
         "proved" => proved,
         "fast" => fast,
         "second" => second,
-        _ => {
+        "times" => {
             let each: [&mut dyn FnMut() -> u64; 3] = [
                 &mut || answer(proved, &bytes).0,
                 &mut || answer(fast, &bytes).0,
                 &mut || answer(second, &bytes).0,
             ];
-            return println!("{}", best(each));
+            writeln!(out, "{}", best(each))?;
+            return Ok(0);
         }
+        _ => return Err(Fault::Usage),
     };
     let (packed, sum) = answer(version, &bytes);
-    println!("code {}, {} steps, store {sum}", packed & 0xffff_ffff, packed >> 32);
+    writeln!(out, "code {}, {} steps, store {sum}", packed & 0xffff_ffff, packed >> 32)?;
+    Ok(0)
 }

@@ -1,4 +1,4 @@
-//! `compare SEED COUNT [FROM] [stop]`: makes COUNT files (from number FROM)
+//! `compare [SEED [COUNT [FROM]]] [stop]`: makes COUNT files (from number FROM)
 //! and compares the second implementation's answers with those of the fast
 //! version and of the first, if one is linked (feature `first`, see
 //! build.rs). For a difference the file in hexadecimal and both answers; exit
@@ -8,7 +8,9 @@ use second::fast;
 use second::generate::{mixed, Kind};
 use second::judge::{check, line_of, postcondition, precondition, Answer};
 use second::rows::hex_of;
+use second::tool::{self, Fault};
 use std::collections::BTreeMap;
+use std::io::Write;
 use std::time::{Duration, Instant};
 
 #[cfg(feature = "first")]
@@ -41,11 +43,12 @@ fn parts_are_right(bytes: &[u8], answer: Answer) -> bool {
 }
 
 fn main() {
-    let numbers: Vec<u64> = std::env::args().skip(1).filter_map(|a| a.parse().ok()).collect();
-    let seed = numbers.first().copied().unwrap_or(1);
-    let count = numbers.get(1).copied().unwrap_or(10_000);
-    let from = numbers.get(2).copied().unwrap_or(0);
-    let stop = std::env::args().any(|a| a == "stop");
+    tool::run(env!("CARGO_BIN_NAME"), "[SEED [COUNT [FROM]]] [stop]", program)
+}
+
+fn program(arguments: &[String], out: &mut dyn Write) -> Result<u8, Fault> {
+    let (numbers, stop) = tool::numbers_and("stop", arguments);
+    let [seed, count, from] = tool::numbers(numbers, [1, 10_000, 0])?;
     let mut made = 0u64;
     let mut answers: BTreeMap<(String, u32), u64> = BTreeMap::new();
     let mut differences = 0u64;
@@ -54,7 +57,7 @@ fn main() {
     let mut first_time = Duration::ZERO;
     let mut work = fast::Work::new();
     let start = Instant::now();
-    for i in from..from + count {
+    for i in from..from.saturating_add(count) {
         if stop && differences > 0 {
             break;
         }
@@ -69,11 +72,11 @@ fn main() {
         };
         *answers.entry((format!("{kind:?}"), number)).or_default() += 1;
         if kind == Kind::Accepted && number != 0 {
-            println!("file {i} was made to be accepted: {}", answer.line());
+            writeln!(out, "file {i} was made to be accepted: {}", answer.line())?;
             differences += 1;
         }
         if i % 64 == 0 && !parts_are_right(&bytes, answer) {
-            println!("file {i}: the precondition or the postcondition");
+            writeln!(out, "file {i}: the precondition or the postcondition")?;
             differences += 1;
         }
         let before = Instant::now();
@@ -84,30 +87,28 @@ fn main() {
         for (name, packed) in [("first", other), ("fast", fast)] {
             let Some(packed) = packed.filter(|p| *p != answer.packed()) else { continue };
             differences += 1;
-            println!("file {i} of seed {seed} ({kind:?}): {}", hex_of(&bytes));
-            println!("  {name}:  {}", line_of(packed));
-            println!("  second: {}", answer.line());
+            writeln!(out, "file {i} of seed {seed} ({kind:?}): {}", hex_of(&bytes))?;
+            writeln!(out, "  {name}:  {}", line_of(packed))?;
+            writeln!(out, "  second: {}", answer.line())?;
         }
     }
-    println!("seed {seed}, files {from} to {}", from + made);
+    writeln!(out, "seed {seed}, files {from} to {}", from + made)?;
     let mut by_number: BTreeMap<u32, u64> = BTreeMap::new();
     for ((kind, number), times) in &answers {
-        println!("{kind}\t{}\t{times}", name(*number));
+        writeln!(out, "{kind}\t{}\t{times}", name(*number))?;
         *by_number.entry(*number).or_default() += times;
     }
     for (number, times) in &by_number {
-        println!("all\t{}\t{times}", name(*number));
+        writeln!(out, "all\t{}\t{times}", name(*number))?;
     }
     let seconds = start.elapsed().as_secs_f64();
-    println!("{:.0} files a second (with making them)", made as f64 / seconds);
-    println!("{:.0} checks a second (second)", made as f64 / second_time.as_secs_f64());
+    writeln!(out, "{:.0} files a second (with making them)", made as f64 / seconds)?;
+    writeln!(out, "{:.0} checks a second (second)", made as f64 / second_time.as_secs_f64())?;
     if compared > 0 {
-        println!("{:.0} checks a second (first)", compared as f64 / first_time.as_secs_f64());
+        writeln!(out, "{:.0} checks a second (first)", compared as f64 / first_time.as_secs_f64())?;
     }
-    println!("{compared} compared, {differences} differences");
-    if differences > 0 {
-        std::process::exit(1);
-    }
+    writeln!(out, "{compared} compared, {differences} differences")?;
+    Ok(u8::from(differences > 0))
 }
 
 fn name(number: u32) -> String {

@@ -7,6 +7,8 @@ use second::generate::file_prng;
 use second::rows::{bytes_of_hex, changes_of, hex_of, store_of};
 use second::run::{run, SCALARS};
 use second::run_cases::run_case;
+use second::tool::{self, Fault};
+use std::io::Write;
 
 #[cfg(feature = "first")]
 mod first {
@@ -73,55 +75,83 @@ fn outcome(answer: Answer, bytes: &[u8], budget: u64, store: &[i64]) -> Option<O
     Some((end_text(code), steps, changes_of(store, &after)))
 }
 
-fn main() {
-    let arguments: Vec<String> = std::env::args().skip(1).collect();
-    let number = |i: usize| arguments.get(i).and_then(|a| a.parse::<u64>().ok());
-    let (Some(seed), Some(count)) = (number(0), number(1)) else {
-        eprintln!("compare_runs SEED COUNT [ROWS]");
-        std::process::exit(2);
-    };
-    let (mut compared, mut differences) = (0u64, 0u64);
-    let mut check = |name: String, bytes: &[u8], budget: u64, store: &[i64], want: Outcome| {
-        for (which, answer) in [("first", first::answer as Answer), ("fast", fast_answer)] {
+/// Which version, and its answer.
+const VERSIONS: [(&str, Answer); 2] = [("first", first::answer), ("fast", fast_answer)];
+
+struct Comparison<'a> {
+    out: &'a mut dyn Write,
+    compared: u64,
+    differences: u64,
+}
+
+impl Comparison<'_> {
+    fn run(&mut self, name: &str, bytes: &[u8], budget: u64, store: &[i64], want: Outcome) -> Result<(), Fault> {
+        for (which, answer) in VERSIONS {
             let Some(got) = outcome(answer, bytes, budget, store) else { continue };
-            compared += 1;
+            self.compared += 1;
             if got != want {
-                differences += 1;
-                println!("{name}: {}\n  {which} {got:?}\n  wanted {want:?}", hex_of(bytes));
+                self.differences += 1;
+                writeln!(self.out, "{name}: {}\n  {which} {got:?}\n  wanted {want:?}", hex_of(bytes))?;
             }
         }
-    };
-    for i in 0..count {
+        Ok(())
+    }
+
+    fn generated(&mut self, seed: u64, i: u64) -> Result<(), Fault> {
         let case = run_case(&mut file_prng(seed, i));
         let mut store = case.store.clone();
         let (scalars, arrays) = store.split_at_mut(SCALARS);
         let outcome = run(&case.bytes, case.budget, scalars, arrays);
         let want = (outcome.end_text(), outcome.steps, changes_of(&case.store, &store));
-        check(format!("seed {seed}, run {i}"), &case.bytes, case.budget, &case.store, want);
+        self.run(&format!("seed {seed}, run {i}"), &case.bytes, case.budget, &case.store, want)
     }
-    if let Some(rows) = arguments.get(2) {
-        for row in std::fs::read_to_string(rows).expect("the rows").lines().filter(|l| !l.starts_with('#')) {
-            let fields: Vec<&str> = row.split('\t').collect();
-            let budget = fields[1].parse().expect("a budget");
-            let bytes = bytes_of_hex(fields[4]).expect("hexadecimal");
-            let store = store_of(fields[5]).expect("a store");
-            let want = (fields[2].to_string(), fields[3].parse().expect("steps"), fields[6].to_string());
-            check(fields[0].to_string(), &bytes, budget, &store, want);
-        }
+
+    fn row(&mut self, row: &str) -> Result<(), Fault> {
+        let fields: Vec<&str> = row.split('\t').collect();
+        let [name, budget, end, steps, hex, store, changes, ..] = fields.as_slice() else {
+            return Err(Fault::Said(format!("a row has less than seven fields: {row}")));
+        };
+        let want = (end.to_string(), tool::number(steps)?, changes.to_string());
+        self.run(name, &bytes_of_hex(hex)?, tool::number(budget)?, &store_of(store)?, want)
     }
-    // refusal 11: a store of another size, untouched, with no step
-    let file = run_case(&mut file_prng(seed, 0)).bytes;
-    for (n, k) in [(31, 2048), (33, 2048), (32, 2047), (32, 2049), (0, 0)] {
-        for answer in [first::answer as Answer, fast_answer] {
-            let (mut scalars, mut values) = (vec![7i64; n], vec![7i64; k]);
-            let Some(got) = answer(&file, 10, &mut scalars, &mut values) else { continue };
-            compared += 1;
-            if got != (0, 11 * 65_536) || scalars.iter().chain(&values).any(|v| *v != 7) {
-                differences += 1;
-                println!("a store of {n} and {k}: {got:?}");
+
+    /// Refusal 11: a store of another size, untouched, with no step.
+    fn other_sizes(&mut self, file: &[u8]) -> Result<(), Fault> {
+        for (n, k) in [(31, 2048), (33, 2048), (32, 2047), (32, 2049), (0, 0)] {
+            for (which, answer) in VERSIONS {
+                let (mut scalars, mut values) = (vec![7i64; n], vec![7i64; k]);
+                let Some(got) = answer(file, 10, &mut scalars, &mut values) else { continue };
+                self.compared += 1;
+                if got != (0, 11 * 65_536) || scalars.iter().chain(&values).any(|v| *v != 7) {
+                    self.differences += 1;
+                    writeln!(self.out, "{which}, a store of {n} and {k}: {got:?}")?;
+                }
             }
         }
+        Ok(())
     }
-    println!("seed {seed}: {compared} runs compared, {differences} differences");
-    std::process::exit(i32::from(differences > 0));
+}
+
+fn main() {
+    tool::run(env!("CARGO_BIN_NAME"), "SEED COUNT [ROWS]", program)
+}
+
+fn program(arguments: &[String], out: &mut dyn Write) -> Result<u8, Fault> {
+    let (seed, count, rows) = match arguments {
+        [seed, count] => (seed, count, String::new()),
+        [seed, count, rows] => (seed, count, tool::read_text(rows)?),
+        _ => return Err(Fault::Usage),
+    };
+    let (seed, count) = (tool::number(seed)?, tool::number(count)?);
+    let mut all = Comparison { out, compared: 0, differences: 0 };
+    for i in 0..count {
+        all.generated(seed, i)?;
+    }
+    for row in rows.lines().filter(|row| !row.starts_with('#')) {
+        all.row(row)?;
+    }
+    all.other_sizes(&run_case(&mut file_prng(seed, 0)).bytes)?;
+    let Comparison { out, compared, differences } = all;
+    writeln!(out, "seed {seed}: {compared} runs compared, {differences} differences")?;
+    Ok(u8::from(differences > 0))
 }

@@ -1,12 +1,16 @@
-//! `counts SEED COUNT`: makes accepted files and counts the rules in them.
+//! `counts [SEED [COUNT]]`: makes accepted files and counts the rules in them.
 
 use second::generate::{accepted, count_rules};
 use second::prng::Prng;
+use second::tool::{self, Fault};
+use std::io::Write;
 
 fn main() {
-    let numbers: Vec<u64> = std::env::args().skip(1).filter_map(|a| a.parse().ok()).collect();
-    let seed = numbers.first().copied().unwrap_or(1);
-    let count = numbers.get(1).copied().unwrap_or(10_000);
+    tool::run(env!("CARGO_BIN_NAME"), "[SEED [COUNT]]", program)
+}
+
+fn program(arguments: &[String], out: &mut dyn Write) -> Result<u8, Fault> {
+    let [seed, count] = tool::numbers(arguments, [1, 10_000])?;
     let mut rng = Prng::new(seed);
     let mut rules = [[0u64; 31]; 3];
     let mut files = [[0u64; 31]; 3];
@@ -27,10 +31,11 @@ fn main() {
         }
     }
     let seconds = start.elapsed().as_secs_f64();
-    println!("seed {seed}, {count} accepted files, {words} words, longest {most}, {seconds:.1} s");
+    writeln!(out, "seed {seed}, {count} accepted files, {words} words, longest {most}, {seconds:.1} s")?;
     for (k, name, range) in [(0, "flow", 1..=14), (1, "set", 13..=19), (2, "precondition", 20..=30)] {
         for r in range {
-            println!("{name} {r}: {} times in {} files", rules[k][r], files[k][r]);
+            writeln!(out, "{name} {r}: {} times in {} files", rules[k][r], files[k][r])?;
         }
     }
+    Ok(0)
 }

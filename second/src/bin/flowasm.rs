@@ -1,33 +1,25 @@
 //! `flowasm TEXT [FILE]`: the text made into a file (see assemble.rs), on standard output if FILE is not given. A fault
-//! of the text gives its line and what is wrong, exit status 1, and nothing written.
+//! of the text gives its line and what is wrong, and nothing is written.
 
+use second::assemble::assemble_bytes;
+use second::tool::{self, Fault};
 use std::io::Write;
 
-fn fail(status: i32, message: String) -> ! {
-    eprintln!("flowasm: {message}");
-    std::process::exit(status);
+fn main() {
+    tool::run(env!("CARGO_BIN_NAME"), "TEXT [FILE]", program)
 }
 
-fn main() {
-    let arguments: Vec<String> = std::env::args().skip(1).collect();
-    let (text_name, file) = match arguments.as_slice() {
+fn program(arguments: &[String], out: &mut dyn Write) -> Result<u8, Fault> {
+    let (text, file) = match arguments {
         [text] => (text, None),
         [text, file] => (text, Some(file)),
-        _ => fail(2, "flowasm TEXT [FILE]".to_string()),
+        _ => return Err(Fault::Usage),
     };
-    let text = match std::fs::read(text_name) {
-        Ok(bytes) => bytes,
-        Err(error) => fail(2, format!("{text_name}: {error}")),
-    };
-    let bytes = match second::assemble::assemble_bytes(&text) {
-        Ok(bytes) => bytes,
-        Err(fault) => fail(1, format!("{text_name}:{}: {}", fault.line, fault.message)),
-    };
-    let written = match file {
-        Some(file) => std::fs::write(file, &bytes),
-        None => std::io::stdout().write_all(&bytes),
-    };
-    if let Err(error) = written {
-        fail(2, format!("the file could not be written: {error}"));
+    let fault = |fault: second::assemble::Fault| format!("{text}:{}: {}", fault.line, fault.message);
+    let bytes = assemble_bytes(&tool::read_file(text)?).map_err(fault)?;
+    match file {
+        Some(file) => tool::write_file(file, &bytes)?,
+        None => out.write_all(&bytes)?,
     }
+    Ok(0)
 }

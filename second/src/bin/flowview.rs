@@ -1,25 +1,24 @@
-//! `flowview FILE`: any file, word by word (see view.rs). The exit status is 0 also for a refused file.
+//! `flowview FILE`: any file, word by word; `flowview --parts FILE`: its program, precondition and postcondition in
+//! readable notation (see view.rs). The exit status is 0 if the file is accepted, 1 if it is refused.
 
-use std::io::{ErrorKind, Write};
+use second::judge::{check, Answer};
+use second::show::NUMBERED;
+use second::tool::{self, Fault};
+use second::view::{view, view_parts};
+use std::io::Write;
 
 fn main() {
-    let arguments: Vec<String> = std::env::args().skip(1).collect();
-    let [file] = arguments.as_slice() else {
-        eprintln!("flowview FILE");
-        std::process::exit(2);
+    tool::run(env!("CARGO_BIN_NAME"), "[--parts] FILE", program)
+}
+
+fn program(arguments: &[String], out: &mut dyn Write) -> Result<u8, Fault> {
+    let (parts, file) = match arguments {
+        [file] if !file.starts_with("--") => (false, file),
+        [option, file] if option == "--parts" => (true, file),
+        _ => return Err(Fault::Usage),
     };
-    let bytes = std::fs::read(file).unwrap_or_else(|error| {
-        eprintln!("flowview: {file}: {error}");
-        std::process::exit(2);
-    });
-    let text = second::view::view(&bytes);
-    match std::io::stdout().write_all(text.as_bytes()) {
-        Ok(()) => {}
-        // the reader of a pipe may stop early
-        Err(error) if error.kind() == ErrorKind::BrokenPipe => {}
-        Err(error) => {
-            eprintln!("flowview: standard output: {error}");
-            std::process::exit(2);
-        }
-    }
+    let bytes = tool::read_file(file)?;
+    let text = if parts { view_parts(&bytes, &NUMBERED) } else { view(&bytes) };
+    out.write_all(text.as_bytes())?;
+    Ok(u8::from(matches!(check(&bytes), Answer::Refused(_))))
 }

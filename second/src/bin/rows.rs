@@ -6,16 +6,20 @@ use second::judge::check;
 use second::run_cases::run_case;
 use second::rows::{changes_of, hex_of};
 use second::run::{run, SCALARS};
-use std::io::Write;
+use second::tool::{self, Fault};
+use std::io::{BufWriter, Write};
 
 fn main() {
-    let arguments: Vec<String> = std::env::args().skip(1).collect();
-    let number = |i: usize| arguments.get(i).and_then(|a| a.parse::<u64>().ok());
-    let (Some(seed), Some(count), Some(which)) = (number(0), number(1), arguments.get(2)) else {
-        eprintln!("rows SEED COUNT check|runs");
-        std::process::exit(2);
-    };
-    let mut out = std::io::BufWriter::new(std::io::stdout().lock());
+    tool::run(env!("CARGO_BIN_NAME"), "SEED COUNT check|runs", program)
+}
+
+fn program(arguments: &[String], out: &mut dyn Write) -> Result<u8, Fault> {
+    let [seed, count, which] = arguments else { return Err(Fault::Usage) };
+    let (seed, count) = (tool::number(seed)?, tool::number(count)?);
+    if which != "check" && which != "runs" {
+        return Err(Fault::Usage);
+    }
+    let mut out = BufWriter::new(out);
     for i in 0..count {
         let row = if which == "check" {
             let (kind, bytes) = mixed(seed, i);
@@ -35,6 +39,8 @@ fn main() {
                 hex_of(&case.bytes)
             )
         };
-        writeln!(out, "{row}").expect("standard output");
+        writeln!(out, "{row}")?;
     }
+    out.flush()?;
+    Ok(0)
 }

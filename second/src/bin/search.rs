@@ -1,4 +1,4 @@
-//! `search SEED FILES PAIRS [refused]`: a bounded search for a counterexample
+//! `search [SEED [FILES [PAIRS]]] [refused]`: a bounded search for a counterexample
 //! to demand 3. Accepted generated files (made backwards, or nearly readable,
 //! mutated or near misses and accepted all the same) are run from PAIRS pairs
 //! of stores each. With `refused`, the files are instead those refused with 8
@@ -12,16 +12,18 @@ use second::nearly::nearly;
 use second::pairs::{try_pair, Found};
 use second::read::read;
 use second::rows::hex_of;
+use second::tool::{self, Fault};
+use std::io::Write;
 
 const BOUND: u64 = 400;
 
 fn main() {
-    let arguments: Vec<String> = std::env::args().skip(1).collect();
-    let number = |i: usize, other: u64| {
-        arguments.get(i).and_then(|a| a.parse::<u64>().ok()).unwrap_or(other)
-    };
-    let (seed, files, pairs) = (number(0, 1), number(1, 10_000), number(2, 20));
-    let refused = arguments.iter().any(|a| a == "refused");
+    tool::run(env!("CARGO_BIN_NAME"), "[SEED [FILES [PAIRS]]] [refused]", program)
+}
+
+fn program(arguments: &[String], out: &mut dyn Write) -> Result<u8, Fault> {
+    let (numbers, refused) = tool::numbers_and("refused", arguments);
+    let [seed, files, pairs] = tool::numbers(numbers, [1, 10_000, 20])?;
     let mut counts = [0u64; 6];
     let mut tried = 0u64;
     let mut with_pair = 0u64;
@@ -55,8 +57,8 @@ fn main() {
             let (found, stores) = try_pair(&mut rng, &file, BOUND);
             here[found as usize] += 1;
             if found == Found::Counterexample && !refused {
-                println!("counterexample: file {} of seed {seed}: {}", i - 1, hex_of(&bytes));
-                println!("{stores:?}");
+                writeln!(out, "counterexample: file {} of seed {seed}: {}", i - 1, hex_of(&bytes))?;
+                writeln!(out, "{stores:?}")?;
             }
             if found == Found::Counterexample {
                 break;
@@ -71,15 +73,13 @@ fn main() {
         with_counterexample += u64::from(here[5] > 0);
     }
     let which = if refused { "refused (8 or 9)" } else { "accepted" };
-    println!("seed {seed}, {tried} {which} files of {i} made, {pairs} pairs each, bound {BOUND} steps");
-    println!("files with a pair of different stores: {with_pair}");
-    println!("files with a pair whose runs both end: {with_end}");
-    println!("files with a counterexample: {with_counterexample}");
+    writeln!(out, "seed {seed}, {tried} {which} files of {i} made, {pairs} pairs each, bound {BOUND} steps")?;
+    writeln!(out, "files with a pair of different stores: {with_pair}")?;
+    writeln!(out, "files with a pair whose runs both end: {with_end}")?;
+    writeln!(out, "files with a counterexample: {with_counterexample}")?;
     let names = ["no pair", "assertion fails", "bound reached", "vacuous", "agree", "counterexample"];
     for k in 0..6 {
-        println!("pairs, {}: {}", names[k], counts[k]);
+        writeln!(out, "pairs, {}: {}", names[k], counts[k])?;
     }
-    if with_counterexample > 0 && !refused {
-        std::process::exit(1);
-    }
+    Ok(u8::from(with_counterexample > 0 && !refused))
 }

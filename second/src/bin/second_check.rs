@@ -1,12 +1,15 @@
 //! As `flowcheck`: reads standard input, writes one line.
 
-use std::io::{Read, Write};
+use second::judge::check;
+use second::tool::{self, Fault};
+use std::io::Write;
 
 fn main() {
-    let mut bytes = Vec::new();
-    // One byte more than the most is enough to refuse.
-    let most = second::words::MOST_BYTES as u64 + 1;
-    std::io::stdin().lock().take(most).read_to_end(&mut bytes).expect("standard input");
-    let line = second::judge::check(&bytes).line();
-    writeln!(std::io::stdout(), "{line}").expect("standard output");
+    tool::run(env!("CARGO_BIN_NAME"), "< FILE", program)
+}
+
+fn program(arguments: &[String], out: &mut dyn Write) -> Result<u8, Fault> {
+    let [] = arguments else { return Err(Fault::Usage) };
+    writeln!(out, "{}", check(&tool::read_input()?).line())?;
+    Ok(0)
 }

@@ -1,23 +1,26 @@
-//! `second_run BUDGET [STORE]`: the file on standard input, the store as
-//! `index=value,...` (see rows.rs). Writes the end, the steps and the
-//! changes, separated by tabs.
+//! `second_run BUDGET [STORE]`: the file on standard input, the store as `index=value,...` (see rows.rs). Writes the end,
+//! the steps and the changes, separated by tabs.
 
 use second::rows::{changes_of, store_of};
 use second::run::{run, SCALARS};
-use std::io::Read;
+use second::tool::{self, Fault};
+use std::io::Write;
 
 fn main() {
-    let arguments: Vec<String> = std::env::args().collect();
-    let budget = arguments.get(1).and_then(|a| a.parse::<u64>().ok());
-    let store = store_of(arguments.get(2).map_or("", |s| s.as_str()));
-    let (Some(budget), Ok(old)) = (budget, store) else {
-        eprintln!("second_run BUDGET [INDEX=VALUE,...] < file");
-        std::process::exit(2);
+    tool::run(env!("CARGO_BIN_NAME"), "BUDGET [INDEX=VALUE,...] < FILE", program)
+}
+
+fn program(arguments: &[String], out: &mut dyn Write) -> Result<u8, Fault> {
+    let (budget, store) = match arguments {
+        [budget] => (budget, ""),
+        [budget, store] => (budget, store.as_str()),
+        _ => return Err(Fault::Usage),
     };
-    let mut bytes = Vec::new();
-    std::io::stdin().lock().read_to_end(&mut bytes).expect("standard input");
+    let (budget, old) = (tool::number(budget)?, store_of(store)?);
+    let bytes = tool::read_input()?;
     let mut store = old.clone();
     let (scalars, arrays) = store.split_at_mut(SCALARS);
     let outcome = run(&bytes, budget, scalars, arrays);
-    println!("{}\t{}\t{}", outcome.end_text(), outcome.steps, changes_of(&old, &store));
+    writeln!(out, "{}\t{}\t{}", outcome.end_text(), outcome.steps, changes_of(&old, &store))?;
+    Ok(0)
 }

@@ -9,6 +9,7 @@ mod stack;
 
 use measure::{Bench, Row};
 use second::programs::PROGRAMS;
+use second::tool::{self, Fault};
 use second::worst::KINDS;
 use std::path::Path;
 
@@ -49,9 +50,14 @@ fn growing(bench: &Bench) -> Vec<Vec<Row>> {
 }
 
 fn main() {
-    if std::env::args().nth(1).is_some_and(|a| a == "stack") {
-        let used = stack::measure();
-        std::process::exit(i32::from(used.iter().any(|one| one.limit.is_none())));
+    tool::run(env!("CARGO_BIN_NAME"), "[stack]", program)
+}
+
+fn program(arguments: &[String], _: &mut dyn std::io::Write) -> Result<u8, Fault> {
+    match arguments {
+        [] => {}
+        [word] if word == "stack" => return Ok(u8::from(stack::measure().iter().any(|one| one.limit.is_none()))),
+        _ => return Err(Fault::Usage),
     }
     let bench = Bench::new();
     println!("instructions without start-up: proved, fast, second; nanoseconds: proved, fast, second");
@@ -68,4 +74,5 @@ fn main() {
     println!("\n{text}");
     write("PERFORMANCE.md", text);
     println!("written: docs/PERFORMANCE.md and its pictures");
+    Ok(0)
 }

@@ -1,0 +1,18 @@
+//! `make_examples FOLDER`: writes the texts and files of the examples that are made from trees (see guard.rs and loops.rs).
+
+use second::tool::{self, Fault};
+use second::{guard, loops};
+use std::io::Write;
+
+fn main() {
+    tool::run(env!("CARGO_BIN_NAME"), "FOLDER", program)
+}
+
+fn program(arguments: &[String], _: &mut dyn Write) -> Result<u8, Fault> {
+    let [folder] = arguments else { return Err(Fault::Usage) };
+    for example in guard::examples().into_iter().chain(loops::examples()) {
+        tool::write_file(&format!("{folder}/{}.txt", example.name), example.text().as_bytes())?;
+        tool::write_file(&format!("{folder}/{}.cert", example.name), &example.bytes())?;
+    }
+    Ok(0)
+}
