@@ -1,9 +1,9 @@
 // The check on bytes (document 01, "Judging order" 1 to 9): the public calls.
-mod file; // file.rt: refusals 1 to 9 in order
+mod rooms; // rooms.rt: refusals 1 to 9 in order, in room by the size of the file
 
-use file::outcome;
-use reader::Limits;
+use file::standard_limits;
 use reader::Places;
+use rooms::outcome;
 ghost use mathlib.Core.Path.{_≡_};
 ghost use Prim.Native.Nat.{_*_, _≤_};
 ghost use lib.ListN.{length};
@@ -12,7 +12,6 @@ ghost use Rattle.layout.specs.File.{fileOf};
 ghost use Rattle.layout.specs.Verdict.{verdictOf, bytesBetween, packed};
 ghost use Rattle.layout.specs.Verdict.{precondition as preconditionOf, postcondition as postconditionOf};
 ghost use Rattle.layout.specs.Verdict.{packedPlaces, programPlaces, preconditionPlaces, postconditionPlaces};
-ghost use Rattle.reader.specs.Walk.{limitsOf};
 ghost use Rattle.flow.specs.Checked.{Checked};
 ghost use Rattle.flow.specs.Outcome.{outcomeOf};
 
@@ -28,22 +27,11 @@ enum Outcome {
     Refused(u32, usize),
 }
 
-// Document 01's limits.
-fn limits() -> Limits
-    ensures { λ r. ⌜ limitsOf r ≡ standard ⌝ }
-{
-    Limits {
-        comparisons: 10,
-        depth: 128,
-        members: 64,
-    }
-}
-
-// Refusals 1 to 9 under these limits.
+// Refusals 1 to 9 under document 01's limits.
 fn standard_outcome(file: &[u8]) -> Outcome
     ensures { λ r. ⌜ r ≡ outcomeOf standard (fileOf standard (now (file .entry))) ⌝ }
 {
-    outcome(file, limits())
+    outcome(file, standard_limits())
 }
 
 // The check: the answer that document 01 settles for these bytes, with its demands 2 and 3.

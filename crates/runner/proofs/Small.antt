@@ -1,17 +1,13 @@
 -- The answer's steps and place are small, so that one number holds them.
 -- Assumes nothing.
 --     run-placed              a run stops at a word of its command
---     file-fault              a refusal 1 to 7 is at a place inside the file or at its end
 --     small-ran               the answer
 --     can-pack, packed-run    the code's answer; the number for C
 use mathlib.Core.Path.{_≡_, refl, sym, ap, ap₂, subst, _∙_}
 use mathlib.Core.Bool.{Bool, true, false, cond}
 use mathlib.Core.List.{List, [], _∷_, _++_}
-use mathlib.Core.Option.{Option, none, some}
 use Prim.Native.Nat.{ℕ, zero, suc, _+_, _*_, _<_, _≤_}
 use native.Mathlib.Omega.{arith}
-use borrow.Author.Tests.{eqb-true, ltb-true}
-use lib.Dec.{eqb, ltb}
 use lib.ListN.{length, length-append}
 use Rattle.language.specs.Syntax as syntax
 use Rattle.language.specs.Syntax.{Expr, Assignment, toScalar, toArray, scalar, compare, atMost}
@@ -19,26 +15,25 @@ use Rattle.language.specs.Syntax.{skip, sequence, assert, assign, ifElse, while
 use Rattle.language.specs.Runs.{start, increment}
 use Rattle.rules.specs.Words.{words, commandWords}
 use Rattle.rules.specs.Context.{Limits, standard}
-use Rattle.layout.specs.Bytes.{wordsOf, wordCount, numberAt}
-use Rattle.layout.specs.Reading.{Reading, read, fault, onRead}
+use Rattle.layout.specs.Bytes.{wordsOf}
+use Rattle.layout.specs.Reading.{read}
 use Rattle.layout.specs.EvidenceWords.{joined, setPart, flowPart}
-use Rattle.layout.specs.For.{unsteadyAt, firstUnsteady}
-use Rattle.layout.specs.File.{File, parts, steadyFile, finish, badLength, wordsRead, fileOf}
-use Rattle.layout.proofs.WholeFile.{parts-fault, file-spelled}
+use Rattle.layout.specs.File.{File, badLength, fileOf}
+use Rattle.layout.proofs.WholeFile.{file-spelled}
 use Rattle.execution.specs.Lent.{Lent, storeOf}
 use Rattle.execution.specs.Evaluate.{Outcome, worked, stops, evaluate}
 use Rattle.execution.specs.Run.{End, ended, stopped, onEnded, step, given, assigns, turns, run}
 use Rattle.execution.specs.Ran as definition
 use Rattle.execution.specs.Ran.{ranOf, runOf}
 use Rattle.execution.proofs.Order.{Judged, not-read, over-budget, ill-sized, is-run, judged}
-use Rattle.words.proofs.Loading.{words-length}
 use Rattle.runner.specs.Ran.{answerOf, RunOf}
 use Rattle.runner.specs.Packed.{codeOf, packedRan, PackedRun}
 use Rattle.runner.specs.Running.{ranAt, SmallAnswer, SmallRan, CanPack}
 use Rattle.runner.specs.declared.Answer.{Answer}
 use Rattle.runner.specs.declared.Answer.the-variants.{Done, Refused}
 use Rattle.runner.specs.declared.Ran.{Ran}
-use Rattle.words.proofs.Lengths.{bad-file, good-file, good-length}
+use Rattle.words.proofs.Lengths.{bad-file, good-file}
+use Rattle.file.proofs.Faults.{FaultBy, few-words, file-fault}
 use Rattle.runner.proofs.Files.{never}
 
 -- ---- a run stops at a word of its command
@@ -118,81 +113,7 @@ run-placed (for q r c) b at n m h =
     (run-placed c b (at + 1) k m″ (omega arith))
     (λ i j. assigns-placed b (increment q) at i j (omega arith))) l m′)
 
--- ---- refusals 1 to 7
-abbrev FaultBy : ℕ → Reading File → Type 0
-FaultBy n (read f p) = Unit {0}
-FaultBy n (fault k p) = p ≤ n
-
-fault-up : (l n : ℕ) (x : Reading File) → l ≤ n → FaultBy l x → FaultBy n x
-fault-up l n (read f p) h k = tt
-fault-up l n (fault i p) h k = omega arith
-
-module _ (limits : Limits) (w : List ℕ) where
-  -- n places from `at` on
-  unsteady-inside : (n at p : ℕ) → firstUnsteady limits w n at ≡ some p → p < at + n
-  unfolding firstUnsteady
-  unsteady-inside zero at p e = never (cc)
-  unsteady-inside (suc n) at p e = go (unsteadyAt limits w at) e (unsteady-inside n (suc at) p)
-    where
-      go : (t : Bool) → elim t [ true ↦ some at | false ↦ firstUnsteady limits w n (suc at) ] ≡ some p →
-          (firstUnsteady limits w n (suc at) ≡ some p → p < suc at + n) → p < at + suc n
-      go true e h = let x : at ≡ p = cc in omega arith
-      go false e h = let x = h e in omega arith
-
-  steady-fault : (f : File) (p : ℕ) → FaultBy (wordCount w) (steadyFile limits w f p)
-  unfolding steadyFile
-  steady-fault f p = go (firstUnsteady limits w (wordCount w) 0) refl
-    where
-      go : (o : Option ℕ) → firstUnsteady limits w (wordCount w) 0 ≡ o →
-          FaultBy (wordCount w) (elim o [ none ↦ read f p | some at ↦ fault 7 at ])
-      go none e = tt
-      go (some at) e = let h = unsteady-inside (wordCount w) 0 at e in omega arith
-
-  finish-fault : (f : File) (p : ℕ) → FaultBy (wordCount w) (finish limits w f p)
-  unfolding finish
-  finish-fault f p = go (ltb p (wordCount w)) refl
-    where
-      go : (t : Bool) → ltb p (wordCount w) ≡ t →
-          FaultBy (wordCount w) (elim t [ true ↦ fault 6 p | false ↦ steadyFile limits w f p ])
-      go true t = let h = ltb-true p (wordCount w) t in omega arith
-      go false t = steady-fault f p
-
-  -- 63:n is a word
-  some-word : (l : List ℕ) → numberAt l 0 ≡ 63 * 67108864 + wordCount l → 1 ≤ wordCount l
-  some-word [] e = absurd (omega arith)
-  some-word (x ∷ l) e = omega arith
-
-  words-fault : FaultBy (wordCount w) (wordsRead limits w)
-  unfolding wordsRead
-  words-fault = go (eqb (numberAt w 0) (63 * 67108864 + wordCount w)) refl
-    where
-      all : (x : Reading File) → parts limits w ≡ x → 1 ≤ wordCount w →
-          FaultBy (wordCount w) (onRead x (finish limits w))
-      all (read f p) e h = finish-fault f p
-      all (fault n p) e h = parts-fault limits w n p e h .inside
-
-      go : (t : Bool) → eqb (numberAt w 0) (63 * 67108864 + wordCount w) ≡ t →
-          FaultBy (wordCount w) (elim t [ true ↦ onRead (parts limits w) (finish limits w) | false ↦ fault 2 0 ])
-      go true t = all (parts limits w) refl (some-word w (eqb-true _ _ t))
-      go false t = omega arith
-
-few-words : (bytes : List ℕ) → badLength bytes ≡ false → wordCount (wordsOf bytes) ≤ 8192
-few-words bytes h =
-    let g = good-length bytes h in
-    let l = words-length bytes in
-    omega arith
-
 module _ (limits : Limits) (bytes : List ℕ) where
-  file-fault : FaultBy 8192 (fileOf limits bytes)
-  file-fault = go (badLength bytes) refl
-    where
-      go : (t : Bool) → badLength bytes ≡ t → FaultBy 8192 (fileOf limits bytes)
-      go true t = subst (FaultBy 8192) (sym (bad-file limits bytes t)) (omega arith)
-      go false t =
-          subst (FaultBy 8192) (sym (good-file limits bytes t))
-          (fault-up (wordCount (wordsOf bytes)) 8192 (wordsRead limits (wordsOf bytes)) (few-words bytes t)
-          (words-fault limits (wordsOf bytes)))
-
   -- the command of a file that was read stands within 8,192 words
   program-small : (f : File) (p : ℕ) → fileOf limits bytes ≡ read f p → 1 + length (commandWords (f .program)) ≤ 8192
   unfolding joined
@@ -217,7 +138,7 @@ pub small-ran : (limits : Limits) (bytes : List ℕ) (budget : ℕ) (m : Lent) �
 small-ran limits bytes budget m = go (judged limits bytes budget m)
   where
     go : {r : definition.Ran} → Judged limits bytes budget m r → SmallRan r
-    go (not-read e) = record { few = omega arith; near = subst (FaultBy 8192) e (file-fault limits bytes) }
+    go (not-read e) = record { few = omega arith; near = subst (FaultBy 8192) e (file-fault limits bytes) .1 }
     go (over-budget e l) = record { few = omega arith; near = omega arith }
     go (ill-sized e l h) = record { few = omega arith; near = omega arith }
     go (is-run {f} {p} e l h) =

@@ -4,12 +4,11 @@
 --     ranAt, refusedAt            the code's answer and the store then, as the definition's; a refusal before the run
 --     ranBy, RanBy                by what reading gives; what the functions promise
 --     CanReport, Reports          what a run came to
---     Small, Found, CanRunFile    words that are few enough; that refusals 2 to 6, and 2 to 7, let pass
+--     CanRunFile                  the words of a file that refusals 1 to 7 let pass
 --     SmallRan, CanPack           an answer that can be packed
 use mathlib.Core.Path.{_≡_}
 use mathlib.Core.List.{List}
 use Prim.Native.Nat.{ℕ, _≤_}
-use lib.ListN.{length}
 use Rattle.layout.specs.Reading.{Reading, read, fault}
 use Rattle.layout.specs.File.{File, wordsRead}
 use Rattle.layout.specs.EvidenceWords.{commandPart}
@@ -18,9 +17,7 @@ use Rattle.execution.specs.Ran as definition
 use Rattle.execution.specs.Ran.{notRun, ranOf, runFile}
 use Rattle.ends.specs.Ends.{EndsOf}
 use Rattle.reader.specs.Walk.{limitsOf}
-use Rattle.reader.specs.File.{placesOf, readOf}
 use Rattle.reader.specs.declared.Limits.{Limits}
-use Rattle.reader.specs.declared.Places.{Places}
 use Rattle.reader.specs.declared.Layout.the-variants as Layout
 use Rattle.heads.specs.Stands.{PartAt}
 use Rattle.run.specs.Steps.{endAt}
@@ -50,14 +47,6 @@ CanReport (Stopped k p n) budget = n ≤ budget
 
 pub record Reports (e : End) (budget : ℕ) (r : Ran) : Type 0 where
   pub is : (m : Lent) → ranAt r m ≡ ranOf budget (endAt e m)
-
-pub record Small (file : List ℕ) : Type 0 where
-  pub size : length file ≤ 8192
-
-pub record Found (file : List ℕ) (limits : Limits) : Type 0 where
-  pub small : Small file
-  pub places : Places
-  pub found : Layout.Found places ≡ placesOf (readOf (limitsOf limits) file)
 
 pub record CanRunFile (file ends : List ℕ) (limits : Limits) : Type 0 where
   pub ends-of : EndsOf file ends

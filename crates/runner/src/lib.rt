@@ -1,12 +1,10 @@
 // The runner (document 01, "Runner"): reads as refusals 1 to 7, then 10 and 11, and runs the command in the lent store
 // without judging the evidence.
-mod file; // file.rt: refusals 1 to 7 and 10 to 15 in order
+mod program; // program.rt: refusals 1 to 7 and 10 to 15 in order
 
-use file::run_bytes;
-use reader::Limits;
+use file::standard_limits;
+use program::run_bytes;
 ghost use mathlib.Core.Path.{_≡_};
-ghost use Rattle.rules.specs.Context.{standard};
-ghost use Rattle.reader.specs.Walk.{limitsOf};
 ghost use Rattle.execution.specs.Lent.{Lent, lent};
 ghost use Rattle.runner.specs.Packed.{packedRan, PackedRun};
 ghost use Rattle.runner.specs.Ran.{RunOf};
@@ -24,23 +22,12 @@ pub struct Ran {
     pub steps: usize,
 }
 
-// Document 01's limits.
-fn limits() -> Limits
-    ensures { λ r. ⌜ limitsOf r ≡ standard ⌝ }
-{
-    Limits {
-        comparisons: 10,
-        depth: 128,
-        members: 64,
-    }
-}
-
 // Runs a file's command in a lent store: 32 scalars, and 2,048 values, where array a's index i is value 64 × a + i.
 pub fn run(file: &[u8], scalars: &mut [i64], values: &mut [i64], budget: usize) -> Ran
     ensures { λ r. ⌜ RunOf (now (file .entry)) budget (lent (now (scalars .entry)) (now (values .entry))) r
         (lent (now (scalars .exit)) (now (values .exit))) ⌝ }
 {
-    run_bytes(file, limits(), scalars, values, budget)
+    run_bytes(file, standard_limits(), scalars, values, budget)
 }
 
 // The answer as one number.

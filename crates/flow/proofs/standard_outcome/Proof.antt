@@ -14,8 +14,8 @@ standard-outcome-spec =
     tie.close
     (tie.spec
     (λ c κs. search needs)
-    (λ c κs. standard-within _ (c .limits .ensures))
+    (λ c κs. standard-within _ (c .standard-limits .ensures))
     (λ c.
     let bytes = c .before .before .before .args .file .now in
     c .outcome .ensures
-    ∙ ap (λ (l : Limits). outcomeOf l (fileOf l bytes)) (c .before .limits .ensures)))
+    ∙ ap (λ (l : Limits). outcomeOf l (fileOf l bytes)) (c .before .standard-limits .ensures)))

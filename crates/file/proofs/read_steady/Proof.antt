@@ -1,0 +1,27 @@
+-- `file::read_steady` meets its contract: refusal 7 by the scan.
+-- Assumes nothing.
+use borrow.Author.Needs.{needs}
+use Rattle.file.proofs.Files.{steady-tabled, unsteady-tabled}
+use Rattle.file.proofs.read_steady.Statement.{statement}
+use Rattle.file.proofs.read_steady.Tie as tie
+
+pub read-steady-spec : {M : Type 1} → statement M
+read-steady-spec =
+    tie.close
+    (tie.spec
+    (λ c κs. search needs)
+    (λ c κs. search needs)
+    (λ c. search needs)
+    (λ c. search needs)
+    (λ c. search needs)
+    (λ c.
+    let scan = c .before .before in
+    let fill = scan .before .before .before .before in
+    steady-tabled (fill .before .before .before .before .pre .0) (fill .fill-table .ensures) _
+    (scan .first-unsteady .ensures) (c .enum-told .given .1))
+    (λ c. search needs)
+    (λ c.
+    let scan = c .before .before .before in
+    let fill = scan .before .before .before .before in
+    unsteady-tabled (fill .before .before .before .before .pre .0) _ _ (scan .first-unsteady .ensures)
+    (c .before .first .given .1)))
