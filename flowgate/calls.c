@@ -1,12 +1,13 @@
-/* The library's two calls with known answers: document 01's rows on a `for` over skip, and refusals of the runner.
- * Writes a line for each answer that is wrong; exit status 0 if none is. */
+/* The library's calls with known answers, and what the header takes them apart into: document 01's rows on a `for` over skip, where the
+ * parts of a file stand, and refusals of the runner. It is C and C++ alike. Writes a line for each answer that is wrong; exit status 0
+ * if none is. */
 #include <stdint.h>
 #include <stdio.h>
 #include <string.h>
 
 #include "flowcheck.h"
 
-enum { SCALARS = 32, VALUES = 2048 };
+enum { SCALARS = FLOW_SCALARS, VALUES = FLOW_VALUES };
 
 /* 63:6 31:32 24:0 32:0 32:0 33:10, a `for` over scalar 0 up to scalar 1 whose body is skip */
 static const uint8_t loop[] = {
@@ -50,21 +51,100 @@ static uint64_t run_store(int64_t index)
     return flow_run(store, sizeof store, scalars, SCALARS, values, VALUES, 1);
 }
 
-int main(void)
+static void check_calls(void)
 {
+    uint32_t refused = flow_check(store, sizeof loop);
     expect("loop accepted", flow_check(loop, sizeof loop), 1);
     expect("loop cut", flow_check(loop, sizeof loop - 1), 65536);
+    expect("accepted", (uint64_t)flow_accepted(flow_check(loop, sizeof loop)), 1);
+    expect("its count", flow_count(flow_check(loop, sizeof loop)), 1);
+    expect("its number", flow_number(flow_check(loop, sizeof loop)), 0);
+    expect("its place", flow_place(flow_check(loop, sizeof loop)), 0);
+    expect("refused", (uint64_t)flow_accepted(refused), 0);
+    expect("its number", flow_number(refused), 2);
+    expect("number and place", flow_number(8 * 65536 + 9) * 10 + flow_place(8 * 65536 + 9), 89);
+    expect("no count", flow_count(8 * 65536 + 9), 0);
+    expect("least refusal", (uint64_t)flow_accepted(65536), 0);
+}
+
+/* The parts of `store` are its words 1 to 5, 6 and 7. */
+static void part_calls(void)
+{
+    expect("program", flow_program(store, sizeof store), 1 * 65536 + 6);
+    expect("precondition", flow_precondition(store, sizeof store), 6 * 65536 + 7);
+    expect("postcondition", flow_postcondition(store, sizeof store), 7 * 65536 + 8);
+    expect("first word", flow_first(flow_program(store, sizeof store)), 1);
+    expect("past the last", flow_past(flow_program(store, sizeof store)), 6);
+    expect("no program", flow_program(store, sizeof store - 4), 0);
+    expect("no precondition", flow_precondition(store, sizeof store - 4), 0);
+    expect("no postcondition", flow_postcondition(store, sizeof store - 4), 0);
+}
+
+static void run_calls(void)
+{
     expect("up to 3", run_loop(3, SCALARS, VALUES, 11), steps_and(11, 0, 0));
     expect("q after 3", (uint64_t)scalars[0], 4);
     expect("up to -5", run_loop(-5, SCALARS, VALUES, 11), steps_and(2, 0, 0));
     expect("q after -5", (uint64_t)scalars[0], 1);
     expect("budget 10", run_loop(3, SCALARS, VALUES, 10), steps_and(10, 13, 1));
-    expect("budget too large", run_loop(3, SCALARS, VALUES, 1000001), steps_and(0, 10, 0));
+    expect("largest budget", run_loop(3, SCALARS, VALUES, FLOW_MOST_BUDGET), steps_and(11, 0, 0));
+    expect("budget too large", run_loop(3, SCALARS, VALUES, FLOW_MOST_BUDGET + 1), steps_and(0, 10, 0));
     expect("31 scalars", run_loop(3, SCALARS - 1, VALUES, 11), steps_and(0, 11, 0));
     expect("2,047 values", run_loop(3, SCALARS, VALUES - 1, 11), steps_and(0, 11, 0));
     expect("store untouched", (uint64_t)scalars[0], 0);
     expect("index 63", run_store(63), steps_and(1, 0, 0));
     expect("last value", (uint64_t)values[VALUES - 1], UINT64_MAX);
     expect("index 64", run_store(64), steps_and(0, 15, 1));
+    expect("ended", (uint64_t)flow_run_ended(run_store(63)), 1);
+    expect("steps of an end", flow_run_steps(run_store(63)), 1);
+    expect("not ended", (uint64_t)flow_run_ended(run_store(64)), 0);
+    expect("steps", flow_run_steps(run_loop(3, SCALARS, VALUES, 10)), 10);
+    expect("number", flow_run_number(run_loop(3, SCALARS, VALUES, 10)), 13);
+    expect("place", flow_run_place(run_loop(3, SCALARS, VALUES, 10)), 1);
+}
+
+/* Null is no bytes, whatever its count; any other pointer is handed on. */
+static void calls_with_null(void)
+{
+    expect("check of null", flow_check_bytes(NULL, 0), 65536);
+    expect("check of null, 4", flow_check_bytes(NULL, 4), 65536);
+    expect("check of bytes", flow_check_bytes(loop, sizeof loop), 1);
+    expect("program of null", flow_program_bytes(NULL, 0), 0);
+    expect("precondition of null", flow_precondition_bytes(NULL, 0), 0);
+    expect("postcondition of null", flow_postcondition_bytes(NULL, 0), 0);
+    expect("program of bytes", flow_program_bytes(store, sizeof store), flow_program(store, sizeof store));
+    expect("precondition of bytes", flow_precondition_bytes(store, sizeof store), flow_precondition(store, sizeof store));
+    expect("postcondition of bytes", flow_postcondition_bytes(store, sizeof store), flow_postcondition(store, sizeof store));
+    expect("run of null", flow_run_bytes(NULL, 0, scalars, SCALARS, values, VALUES, 1), steps_and(0, 1, 0));
+    expect("no scalars", flow_run_bytes(loop, sizeof loop, NULL, SCALARS, values, VALUES, 1), steps_and(0, 11, 0));
+    expect("no values", flow_run_bytes(loop, sizeof loop, scalars, SCALARS, NULL, VALUES, 1), steps_and(0, 11, 0));
+    expect("no store", flow_run_bytes(loop, sizeof loop, NULL, 0, NULL, 0, 1), steps_and(0, 11, 0));
+    scalars[1] = -5;
+    expect("run of bytes", flow_run_bytes(loop, sizeof loop, scalars, SCALARS, values, VALUES, 2), steps_and(2, 0, 0));
+}
+
+/* Fifteen meanings, no two alike, and one text for every other number. */
+static void meanings(void)
+{
+    uint32_t i, j;
+    for (i = 0; i <= 16; i++) {
+        for (j = 1; j < i; j++) {
+            expect("meanings that differ", strcmp(flow_meaning(i), flow_meaning(j)) != 0, 1);
+        }
+    }
+    expect("no meaning", strcmp(flow_meaning(0), flow_meaning(16)) == 0, 1);
+    expect("meaning of 8", strcmp(flow_meaning(8), "a rule's condition fails") == 0, 1);
+}
+
+int main(void)
+{
+    char version[32];
+    check_calls();
+    part_calls();
+    run_calls();
+    calls_with_null();
+    meanings();
+    snprintf(version, sizeof version, "%d.%d.%d", FLOWCHECK_VERSION_MAJOR, FLOWCHECK_VERSION_MINOR, FLOWCHECK_VERSION_PATCH);
+    expect("version", strcmp(FLOWCHECK_VERSION, version) == 0, 1);
     return wrong;
 }

@@ -1,140 +1,197 @@
-/* flowgate FILE...: checks flow certificates as a step of a build, by the proved call flow_check.
- * It writes one line a file: `accepted` and the count of evidence words, or `refused`, number and place, then what the number
- * means and the words about that place as kind:payload, the one at the place in brackets.
- * Exit status: 0 if every file is accepted; 1 if one is refused; 2 if one can't be read, or a line can't be written. */
+/* flowgate [OPTION]... FILE...: checks flow certificates as a step of a build, by the proved calls, and compares their parts with what
+ * was ordered. flowgate.1 has the options and the lines. Exit status: 0 if every certificate is accepted and as ordered; 1 if one is
+ * refused or differs; 2 if one can't be read, what is to be written can't, or for bad use. */
 #include <errno.h>
-#include <stdint.h>
 #include <stdio.h>
 #include <string.h>
 
-#include "flowcheck.h"
+#include "file.h"
+#include "options.h"
+#include "parts.h"
+#include "report.h"
+#include "show.h"
+#include "text.h"
 
-enum { MOST_BYTES = 32768, NEIGHBOURS = 2 };
-enum { ACCEPTED = 0, REFUSED = 1, FAILED = 2 };
+enum { PASSED = 0, STOPPED = 1, FAILED = 2 };
 
-/* A file as it was read; of one that is too long, one byte more than the most. */
-struct file {
-    size_t count;
-    uint8_t bytes[MOST_BYTES + 1];
+/* What was asked for: the file with the bytes that a part must have, or NULL; the folders with such files and for the parts, or NULL. */
+static const char *orders[PARTS];
+static const char *contract;
+static const char *folder;
+static int show, quiet, json;
+
+static const struct option options[] = {
+    {"--program", NULL, &orders[PROGRAM]},
+    {"--precondition", NULL, &orders[PRECONDITION]},
+    {"--postcondition", NULL, &orders[POSTCONDITION]},
+    {"--contract", NULL, &contract},
+    {"--parts", NULL, &folder},
+    {"--show", &show, NULL},
+    {"--json", &json, NULL},
+    {"--quiet", &quiet, NULL},
+    {NULL, NULL, NULL},
 };
 
-/* What refusal 1 and those after it mean. */
-static const char *const meanings[] = {
-    "the byte count is 0, over 32,768 or no multiple of 4",
-    "word 0 is not 63:n, n the words in the file",
-    "the file ends where a word is due",
-    "a word is deeper than 128",
-    "a word's kind or payload isn't allowed there",
-    "words follow the evidence",
-    "a for has q = m or a body that modifies q or m",
-    "a rule's condition fails",
-    "a rule's condition is an implication over more than 10 comparisons",
+static const struct program program = {
+    "flowgate",
+    "usage: flowgate [OPTION]... FILE...\n",
+    "Checks flow certificates; - is standard input.\n"
+    "\n"
+    "  --program FILE        accept only a certificate whose program is just the bytes of FILE,\n"
+    "  --precondition FILE   whose precondition,\n"
+    "  --postcondition FILE  whose postcondition\n"
+    "  --contract DIR        all three, by DIR/program, DIR/precondition and DIR/postcondition\n"
+    "  --parts DIR           write the parts of an accepted certificate as such files\n"
+    "  --show                write the parts of accepted certificates in readable form\n"
+    "  --json                write one JSON object a line\n"
+    "  --quiet               write nothing\n"
+    "  --help, --version     write this, or the version\n"
+    "  --                    no option follows\n"
+    "\n"
+    "Exit status: 0 every certificate is accepted and as ordered; 1 one is refused or differs;\n"
+    "2 one can't be read, what is to be written can't, or bad use.\n",
+    options,
 };
 
-static const char *meaning_of(uint32_t number)
+/* The bytes that a part must have, where its order is stated. */
+static struct file ordered[PARTS];
+
+static int is_standard(const char *name)
 {
-    if (number < 1 || number > sizeof meanings / sizeof meanings[0]) {
-        return "a number that flowgate doesn't know";
-    }
-    return meanings[number - 1];
+    return name != NULL && strcmp(name, "-") == 0;
 }
 
-/* The error number of what went wrong, or 0. */
-static int read_file(const char *name, struct file *file)
+/* Options and files that don't go together. */
+static enum command agree(int count, char **names)
 {
-    FILE *stream = fopen(name, "rb");
-    int error = 0;
-    if (stream == NULL) {
-        return errno;
+    int standard = 0;
+    for (int i = 0; i < PARTS; i++) {
+        standard += is_standard(orders[i]);
+        if (contract != NULL && orders[i] != NULL) {
+            return bad_use(&program, "--contract", "it orders every part already");
+        }
     }
-    errno = 0;
-    file->count = fread(file->bytes, 1, sizeof file->bytes, stream);
-    if (ferror(stream)) {
-        error = errno != 0 ? errno : EIO;
+    for (int i = 0; i < count; i++) {
+        standard += is_standard(names[i]);
     }
-    fclose(stream);
-    return error;
+    if (standard > 1) {
+        return bad_use(&program, "-", "standard input is read once");
+    }
+    if (folder != NULL && count > 1) {
+        return bad_use(&program, "--parts", "more than one certificate");
+    }
+    if (show + json + quiet > 1) {
+        return bad_use(&program, show ? "--show" : "--json", json && show ? "not with --json" : "not with --quiet");
+    }
+    if (count == 0) {
+        fputs(program.usage, stderr);
+        return BAD_USE;
+    }
+    return GO_ON;
 }
 
-/* A file's name on one line: control characters become `?`. */
-static void print_name(const char *name, FILE *out)
+static int fail(const char *name, int error)
 {
-    for (; *name != '\0'; name++) {
-        unsigned char c = (unsigned char)*name;
-        putc(c < 32 || c == 127 ? '?' : c, out);
+    if (!quiet) {
+        complain(program.name, name, strerror(error));
     }
+    return FAILED;
 }
 
-static uint32_t word_at(const struct file *file, size_t place)
+/* Reads what was ordered. With a contract's folder, every part is stated. */
+static int read_orders(void)
 {
-    const uint8_t *bytes = file->bytes + 4 * place;
-    return (uint32_t)bytes[0] | (uint32_t)bytes[1] << 8 | (uint32_t)bytes[2] << 16 | (uint32_t)bytes[3] << 24;
+    static char paths[PARTS][MOST_PATH];
+    for (int i = 0; i < PARTS; i++) {
+        int error = 0;
+        if (contract != NULL) {
+            error = path_of(contract, (enum part)i, paths[i]);
+            orders[i] = paths[i];
+        }
+        if (error == 0 && orders[i] != NULL) {
+            error = read_file(orders[i], &ordered[i]);
+        }
+        if (error != 0) {
+            return fail(orders[i], error);
+        }
+    }
+    return PASSED;
 }
 
-static void print_words(const struct file *file, size_t place)
+/* Reads a certificate, checks it, and compares its parts with what was ordered. */
+static struct result judge(const char *name, struct file *file)
 {
-    size_t count = file->count / 4;
-    size_t i = place < NEIGHBOURS ? 0 : place - NEIGHBOURS;
-    for (; i < count && i <= place + NEIGHBOURS; i++) {
-        unsigned kind = word_at(file, i) >> 26;
-        unsigned payload = word_at(file, i) & 0x3ffffff;
-        printf(i == place ? " [%u:%u]" : " %u:%u", kind, payload);
+    struct result result = {ACCEPTED, 0, {PROGRAM, 0}, 0};
+    result.error = read_file(name, file);
+    if (result.error != 0) {
+        result.verdict = UNREADABLE;
+        return result;
     }
-    if (place >= count) {
-        printf(" [no word, the file ends]");
+    result.answer = flow_check(file->bytes, file->count);
+    if (!flow_accepted(result.answer)) {
+        result.verdict = REFUSED;
+        return result;
     }
+    for (int i = 0; i < PARTS && result.verdict == ACCEPTED; i++) {
+        if (orders[i] != NULL && !is_ordered(file, &ordered[i], (enum part)i, &result.difference)) {
+            result.verdict = DIFFERS;
+        }
+    }
+    return result;
 }
 
-static void print_refusal(const struct file *file, uint32_t number, uint32_t place)
+/* Writes the parts of an accepted certificate into the folder, if none of the files is there: what was reviewed is not written over. */
+static int write_parts(const struct file *file)
 {
-    printf("refused %u %u: %s; ", number, place, meaning_of(number));
-    if (number == 1 && file->count > MOST_BYTES) {
-        printf("over %d bytes; ", MOST_BYTES);
-    } else if (number == 1) {
-        printf("%zu bytes; ", file->count);
+    static char path[MOST_PATH];
+    for (int i = 0; i < 2 * PARTS; i++) {
+        enum part part = (enum part)(i % PARTS);
+        int error = path_of(folder, part, path);
+        if (error == 0 && i < PARTS && is_there(path)) {
+            error = EEXIST;
+        }
+        if (error == 0 && i >= PARTS) {
+            error = write_part(file, part, path);
+        }
+        if (error != 0) {
+            return fail(path, error);
+        }
     }
-    printf("at word %u:", place);
-    print_words(file, place);
-    putchar('\n');
+    return PASSED;
 }
 
-static int check_file(const char *name, struct file *file)
-{
-    int error = read_file(name, file);
-    uint32_t answer;
-    if (error != 0) {
-        fflush(stdout);
-        fputs("flowgate: ", stderr);
-        print_name(name, stderr);
-        fprintf(stderr, ": %s\n", strerror(error));
-        return FAILED;
-    }
-    print_name(name, stdout);
-    fputs(": ", stdout);
-    answer = flow_check(file->bytes, file->count);
-    if (answer >= 65536) {
-        print_refusal(file, answer / 65536, answer % 65536);
-        return REFUSED;
-    }
-    printf("accepted %u\n", answer);
-    return ACCEPTED;
-}
-
-int main(int count, char **names)
+static int check_file(const char *name)
 {
     static struct file file;
-    int worst = ACCEPTED;
-    if (count < 2) {
-        fputs("usage: flowgate FILE...\n", stderr);
+    struct result result = judge(name, &file);
+    if (json) {
+        print_json(name, &file, &ordered[result.difference.part], &result);
+    } else if (!quiet) {
+        print_text(name, &file, &ordered[result.difference.part], &result);
+    }
+    if (result.verdict != ACCEPTED) {
+        return result.verdict == UNREADABLE ? FAILED : STOPPED;
+    }
+    if (show) {
+        show_parts(&file);
+    }
+    return folder != NULL ? write_parts(&file) : PASSED;
+}
+
+int main(int count, char **words)
+{
+    int files = count > 0 ? count - 1 : 0;
+    int worst = PASSED;
+    enum command command = read_options(&program, &files, words + 1);
+    if (command == DONE) {
+        return written(program.name) ? PASSED : FAILED;
+    }
+    if (command == BAD_USE || agree(files, words + 1) != GO_ON || read_orders() != PASSED) {
         return FAILED;
     }
-    for (int i = 1; i < count; i++) {
-        int status = check_file(names[i], &file);
+    for (int i = 0; i < files; i++) {
+        int status = check_file(words[i + 1]);
         worst = status > worst ? status : worst;
     }
-    if (fflush(stdout) != 0 || ferror(stdout)) {
-        fputs("flowgate: standard output can't be written\n", stderr);
-        return FAILED;
-    }
-    return worst;
+    return written(program.name) ? worst : FAILED;
 }

@@ -1,42 +1,161 @@
-/* The proved calls for C. `./library` makes target/c/lib/libflowcheck.a and puts this header into target/c/include; link for x86-64.
- * No pointer may be null, also where its count is 0, and what is lent may not overlap. Both calls end for every input, allocate
- * nothing, keep nothing, and write to the lent store alone. A place is that of a 32-bit word of the file, from 0. */
+/* The proved calls for C and C++, and small functions that take their answers apart. `./library` makes target/c/lib/libflowcheck.a
+ * and puts this header into target/c/include; `./library --prefix DIR` installs both. Link for x86-64.
+ *
+ * The calls end for every input, allocate nothing, keep nothing, and write to the lent store alone. What is lent may not overlap, and
+ * no pointer may be null, also where its count is 0; the functions with `_bytes` in their names take null for no bytes. A place is that
+ * of a 32-bit word of the file, from 0. */
 #ifndef FLOWCHECK_H
 #define FLOWCHECK_H
 
 #include <stddef.h>
 #include <stdint.h>
 
-/* The stack that a call takes below its caller's frame, at most, in bytes: a thread that makes the call must have so much left.
- * Measured on files that nest as deep as the layout allows, and rounded up (flowgate/stack.c); not proved. */
+/* The version of these calls and of what their numbers mean. It is written here alone. */
+#define FLOWCHECK_VERSION_MAJOR 1
+#define FLOWCHECK_VERSION_MINOR 0
+#define FLOWCHECK_VERSION_PATCH 0
+#define FLOWCHECK_QUOTE(a, b, c) #a "." #b "." #c
+#define FLOWCHECK_QUOTED(a, b, c) FLOWCHECK_QUOTE(a, b, c)
+#define FLOWCHECK_VERSION FLOWCHECK_QUOTED(FLOWCHECK_VERSION_MAJOR, FLOWCHECK_VERSION_MINOR, FLOWCHECK_VERSION_PATCH)
+
+/* The most bytes of a file; the size of the runner's store; its largest budget. */
+#define FLOW_MOST_BYTES 32768
+#define FLOW_SCALARS 32
+#define FLOW_ARRAYS 32
+#define FLOW_INDEXES 64
+#define FLOW_VALUES 2048
+#define FLOW_MOST_BUDGET 1000000
+
+/* The stack that a call takes below its caller's frame, at most, in bytes: a thread that makes the call must have so much left. The calls
+ * for the parts of a file take what flow_check takes. Measured on files that nest as deep as the layout allows, and rounded up
+ * (flowgate/stack.c); not proved. */
 #define FLOW_CHECK_STACK 212992
 #define FLOW_RUN_STACK 204800
 
-/* Checks the file of `count` bytes. Accepted: the count of its evidence words, below 65,536. Refused: number * 65,536 + place. The
- * numbers, tried in this order:
- *   1  the byte count is 0, over 32,768 or no multiple of 4 (place 0)
- *   2  word 0 is not 63:n, n the words in the file (place 0)
- *   3  the file ends where a word is due (place n, one past the last word)
- *   4  a word is deeper than 128
- *   5  a word's kind or payload isn't allowed there
- *   6  words follow the evidence (place of the first)
- *   7  a `for`, also one that evidence carries, has q = m or a body that modifies q or m (place of the first such)
- *   8  a rule's condition fails (place of the evidence word)
- *   9  a rule's condition is an implication over more than 10 comparisons (place of the evidence word)
- * but 3 to 5 at each word in file order, and 8 and 9 at each evidence word. docs/FORMAT.md has the usual causes. */
+#ifdef __cplusplus
+extern "C" {
+#endif
+
+/* Checks the file of `count` bytes. Accepted: the count of its evidence words, below 65,536. Refused: number * 65,536 + place, the
+ * number one of 1 to 9 (flow_meaning). */
 uint32_t flow_check(const uint8_t *file, size_t count);
 
-/* Runs the file's program in the lent store, without judging its evidence, for at most `budget` steps. `n` must be 32 scalars and `k`
- * 2,048 array values: array a's index i is value 64 * a + i. The upper 32 bits of the answer are the steps finished. The lower 32
- * are 0 if the run ended, and the store is then the ending store; else number * 65,536 + place. The numbers are 1 to 7 as above, then
- *  10  the budget is over 1,000,000 (place 0)
- *  11  the store is not of that size (place 0)
- *  12  an assertion is false
- *  13  the budget is used up and a step is due
- *  14  a value leaves the signed 64-bit range
- *  15  an index is outside 0 to 63
+/* Where the program, the precondition and the postcondition of an accepted file stand: the place of the part's first word * 65,536 + the
+ * place past its last. 0 if the file is refused. */
+uint32_t flow_program(const uint8_t *file, size_t count);
+uint32_t flow_precondition(const uint8_t *file, size_t count);
+uint32_t flow_postcondition(const uint8_t *file, size_t count);
+
+/* Runs the file's program in the lent store, without judging its evidence, for at most `budget` steps. `n` must be FLOW_SCALARS and `k`
+ * FLOW_VALUES: array a's index i is value FLOW_INDEXES * a + i. The upper 32 bits of the answer are the steps finished. The lower 32
+ * are 0 if the run ended, and the store is then the ending store; else number * 65,536 + place, the number one of 1 to 7 and 10 to 15.
  * For 1 to 11 no step is finished and the store is untouched. For 12 to 15 the place is that of the command, and the store is as
  * before the step that was due. */
 uint64_t flow_run(const uint8_t *file, size_t count, int64_t *scalars, size_t n, int64_t *values, size_t k, size_t budget);
+
+#ifdef __cplusplus
+}
+#endif
+
+/* What the number of a refusal means. They are tried in this order, but 3 to 5 at each word in file order, and 8 and 9 at each
+ * evidence word. docs/FORMAT.md has the usual causes. */
+static inline const char *flow_meaning(uint32_t number)
+{
+    switch (number) {
+    case 1: return "the byte count is 0, over 32,768 or no multiple of 4"; /* place 0 */
+    case 2: return "word 0 is not 63:n, n the words in the file"; /* place 0 */
+    case 3: return "the file ends where a word is due"; /* place n, one past the last word */
+    case 4: return "a word is deeper than 128";
+    case 5: return "a word's kind or payload isn't allowed there";
+    case 6: return "words follow the evidence"; /* place of the first */
+    case 7: return "a for has q = m or a body that modifies q or m"; /* place of the first such, also one that evidence carries */
+    case 8: return "a rule's condition fails"; /* place of the evidence word */
+    case 9: return "a rule's condition is an implication over more than 10 comparisons"; /* place of the evidence word */
+    case 10: return "the budget is over 1,000,000"; /* place 0 */
+    case 11: return "the store is not 32 scalars and 2,048 array values"; /* place 0 */
+    case 12: return "an assertion is false"; /* 12 to 15: place of the command */
+    case 13: return "the budget is used up and a step is due";
+    case 14: return "a value leaves the signed 64-bit range";
+    case 15: return "an index is outside 0 to 63";
+    default: return "no refusal has this number";
+    }
+}
+
+/* Of an answer of flow_check: whether the file is accepted; the count of its evidence words, if so; the refusal's number (0: none) and
+ * place, if not. */
+static inline int flow_accepted(uint32_t answer)
+{
+    return answer < 65536;
+}
+static inline uint32_t flow_count(uint32_t answer)
+{
+    return flow_accepted(answer) ? answer : 0;
+}
+static inline uint32_t flow_number(uint32_t answer)
+{
+    return answer >> 16;
+}
+static inline uint32_t flow_place(uint32_t answer)
+{
+    return flow_accepted(answer) ? 0 : answer & 65535;
+}
+
+/* Of an answer of flow_program, flow_precondition or flow_postcondition: the place of the first word, and the one past the last. */
+static inline uint32_t flow_first(uint32_t answer)
+{
+    return answer >> 16;
+}
+static inline uint32_t flow_past(uint32_t answer)
+{
+    return answer & 65535;
+}
+
+/* Of an answer of flow_run: whether the run ended; the steps finished; the refusal's number (0: none) and place. */
+static inline int flow_run_ended(uint64_t answer)
+{
+    return (answer & 0xffffffff) == 0;
+}
+static inline uint64_t flow_run_steps(uint64_t answer)
+{
+    return answer >> 32;
+}
+static inline uint32_t flow_run_number(uint64_t answer)
+{
+    return answer >> 16 & 65535;
+}
+static inline uint32_t flow_run_place(uint64_t answer)
+{
+    return answer & 65535;
+}
+
+/* The calls where a pointer may be null: its count is then taken as 0. */
+static inline const uint8_t *flow_lent(const uint8_t *bytes)
+{
+    static const uint8_t none = 0;
+    return bytes ? bytes : &none;
+}
+static inline uint32_t flow_check_bytes(const uint8_t *file, size_t count)
+{
+    return flow_check(flow_lent(file), file ? count : 0);
+}
+static inline uint32_t flow_program_bytes(const uint8_t *file, size_t count)
+{
+    return flow_program(flow_lent(file), file ? count : 0);
+}
+static inline uint32_t flow_precondition_bytes(const uint8_t *file, size_t count)
+{
+    return flow_precondition(flow_lent(file), file ? count : 0);
+}
+static inline uint32_t flow_postcondition_bytes(const uint8_t *file, size_t count)
+{
+    return flow_postcondition(flow_lent(file), file ? count : 0);
+}
+static inline uint64_t flow_run_bytes(const uint8_t *file, size_t count, int64_t *scalars, size_t n, int64_t *values, size_t k,
+    size_t budget)
+{
+    int64_t none[2] = {0, 0};
+    return flow_run(flow_lent(file), file ? count : 0, scalars ? scalars : none, scalars ? n : 0, values ? values : none + 1,
+        values ? k : 0, budget);
+}
 
 #endif
