@@ -252,12 +252,24 @@ const LEAKS: [[&str; 4]; 7] = [
     ["retry-before", "retry", "0=1,1=5", "0=1,1=6"],
 ];
 
+/// A store as `examples/README.md` and `flowrun` write it: x5=5 a0[3]=7.
+fn shown(store: &str) -> String {
+    let word = |field: &str| {
+        let (index, value) = field.split_once('=').expect("INDEX=VALUE");
+        match index.parse::<usize>().expect("an index") {
+            scalar @ 0..=31 => format!("x{scalar}={value}"),
+            other => format!("a{}[{}]={value}", (other - 32) / 64, (other - 32) % 64),
+        }
+    };
+    store.split(',').map(word).collect::<Vec<String>>().join(" ")
+}
+
 /// The pairs of `examples/README.md`: each faulty contract is broken, and the good one holds of them.
 #[test]
 fn faulty_contracts_are_broken_by_runs() {
     let readme = readme().replace('\n', " ");
     for [name, good, one, two] in LEAKS {
-        assert!(readme.contains(&format!("`{one}` and `{two}`")), "{name}");
+        assert!(readme.contains(&format!("`{}` and `{}`", shown(one), shown(two))), "{name}");
         let file = |name: &str| read(&bytes(name)).expect("readable");
         assert_eq!(judged_by_runs(&file(name), one, two), (true, false), "{name}");
         let (agreed, ended) = judged_by_runs(&file(good), one, two);
