@@ -1,5 +1,5 @@
 -- What stands at a place of a file, with however many levels left.
--- Working: `steady-words` of runner/proofs/Files says that the command of a file stands so at place 1, `command-parts`,
+-- Working: `can-run-file` of runner/proofs/Files says that the command of a file stands so at place 1, `command-parts`,
 -- `arithmetic-parts`, `boolean-parts` and `array-parts` of proofs/Parts that its parts do. Assumes nothing.
 --     PartAt                             a part stands from a place up to another
 --     ExpressionStands, CommandStands    an expression of a sort, a command stands at a place
