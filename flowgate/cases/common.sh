@@ -40,7 +40,7 @@ tried() {
 
 # wrong TEXT: a case that failed
 wrong() {
-    echo "flowgate/test: wrong for $*" | tee -a "$work/wrong"
+    printf 'flowgate/test: wrong for %s\n' "$*" | tee -a "$work/wrong"
 }
 
 # expect STATUS WORD...: the program's exit status for these words is STATUS; what it writes is file `out`, and `err` on standard error.
