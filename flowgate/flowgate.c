@@ -1,7 +1,6 @@
 /* flowgate [OPTION]... FILE...: checks flow certificates as a step of a build, by the proved calls, and compares their parts with what
  * was ordered. flowgate.1 has the options and the lines. Exit status: 0 if every certificate is accepted and as ordered; 1 if one is
  * refused or differs; 2 if one can't be read, what is to be written can't, or for bad use. */
-#include <errno.h>
 #include <stdio.h>
 #include <string.h>
 
@@ -147,11 +146,8 @@ static int write_parts(const struct file *file)
     for (int i = 0; i < 2 * PARTS; i++) {
         enum part part = (enum part)(i % PARTS);
         int error = path_of(folder, part, path);
-        if (error == 0 && i < PARTS && is_there(path)) {
-            error = EEXIST;
-        }
-        if (error == 0 && i >= PARTS) {
-            error = write_part(file, part, path);
+        if (error == 0) {
+            error = i < PARTS ? find_new(path) : write_part(file, part, path);
         }
         if (error != 0) {
             return fail(path, error);

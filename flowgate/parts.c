@@ -47,14 +47,15 @@ int path_of(const char *folder, enum part part, char path[MOST_PATH])
     return count < 0 || count >= MOST_PATH ? ENAMETOOLONG : 0;
 }
 
-int is_there(const char *path)
+int find_new(const char *path)
 {
+    errno = 0;
     FILE *stream = fopen(path, "rb");
     if (stream == NULL) {
-        return 0;
+        return errno == ENOENT ? 0 : errno != 0 ? errno : EIO;
     }
     fclose(stream);
-    return 1;
+    return EEXIST;
 }
 
 int write_part(const struct file *file, enum part part, const char *path)

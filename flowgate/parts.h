@@ -33,8 +33,8 @@ int is_ordered(const struct file *file, const struct file *ordered, enum part pa
 /* The path of a part's file in a folder: an error number if it is too long, or 0. */
 int path_of(const char *folder, enum part part, char path[MOST_PATH]);
 
-/* Whether there is a file of that path that can be opened. */
-int is_there(const char *path);
+/* 0 if there is no file of that path; else EEXIST, or why that can't be told. */
+int find_new(const char *path);
 
 /* Writes a part as a file. The error number of what went wrong, or 0. */
 int write_part(const struct file *file, enum part part, const char *path);

@@ -31,7 +31,8 @@ static const char *find_value(struct store *store, const char **word, int64_t **
     uint64_t number = 0;
     uint64_t index = 0;
     char sort = *(*word)++;
-    enum taken taken = sort == 'x' || sort == 'a' ? take_number(word, FLOW_ARRAYS - 1, &number) : NO_DIGIT;
+    uint64_t most = sort == 'x' ? FLOW_SCALARS - 1 : FLOW_ARRAYS - 1;
+    enum taken taken = sort == 'x' || sort == 'a' ? take_number(word, most, &number) : NO_DIGIT;
     if (taken == TOO_LARGE) {
         return sort == 'x' ? "scalars are x0 to x31" : "arrays are a0 to a31";
     }

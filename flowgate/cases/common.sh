@@ -13,6 +13,11 @@ in_valgrind() {
     valgrind -q --error-exitcode=99 --leak-check=full --show-leak-kinds=all --errors-for-leak-kinds=all "$bin/$program" "$@"
 }
 
+# root reads every file, and so runs a program as nobody
+as_nobody() {
+    setpriv --reuid=65534 --regid=65534 --clear-groups "$bin/$program" "$@"
+}
+
 # words K:P...: these words as bytes, low byte first
 words() {
     for word in "$@"; do
@@ -40,7 +45,7 @@ tried() {
 
 # wrong TEXT: a case that failed
 wrong() {
-    echo "flowgate/test: wrong for $*" | tee -a "$work/wrong"
+    printf 'flowgate/test: wrong for %s\n' "$*" | tee -a "$work/wrong"
 }
 
 # expect STATUS WORD...: the program's exit status for these words is STATUS; what it writes is file `out`, and `err` on standard error.
@@ -124,7 +129,5 @@ make_files() {
     cp good -- -good
     cp good closed
     chmod 000 closed
-    if [ -r closed ]; then
-        echo "flowgate/test: skipped: a file without permission (this user reads every file)"
-    fi
+    chmod 755 .
 }

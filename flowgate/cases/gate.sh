@@ -74,13 +74,24 @@ END
     printf 'good: accepted 1\nrule:9: refused 8: a rule'"'"'s condition fails; at word 9: 9:1 2:0 [33:3]\ncopy: accepted 1\n' > out
     echo 'flowgate: missing: No such file or directory' > err
     expect 2 good missing rule copy
-    if [ ! -r closed ]; then
-        errors 2 closed << 'END'
-flowgate: closed: Permission denied
-END
-    fi
     full_device good
     full_device rule
+}
+
+closed_file() {
+    program=flowgate
+    run=plain
+    [ ! -r closed ] || run=as_nobody
+    if ! $run --version > /dev/null 2>&1; then
+        echo "flowgate/test: skipped: a file without permission (this user reads every file, and can't be nobody)"
+        return
+    fi
+    errors 2 closed << 'END'
+flowgate: closed: Permission denied
+END
+    errors 2 --program closed good << 'END'
+flowgate: closed: Permission denied
+END
 }
 
 gate_cases() {

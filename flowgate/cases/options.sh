@@ -85,12 +85,13 @@ END
 # names that JSON must escape, and bytes that are no UTF-8: cut short, too long for their character, a surrogate, above U+10FFFF
 json_names() {
     lines 2 --json 'a"b\c' "$(printf 'd\te\001\177\nf')" "$(printf '\303\251\342\202\254\360\237\230\200')" \
-        "$(printf 'g\377h\303')" "$(printf '\300\257\355\240\200\364\220\200\200\340\237\277')" << 'END'
+        "$(printf 'g\377h\303')" "$(printf '\300\257\355\240\200\364\220\200\200\340\237\277')" "$(printf '\360\217\277\277')" << 'END'
 {"file":"a\"b\\c","verdict":"unreadable","number":null,"place":null,"count":null,"meaning":"No such file or directory"}
 {"file":"d\u0009e\u0001\u007f\u000af","verdict":"unreadable","number":null,"place":null,"count":null,"meaning":"No such file or directory"}
 {"file":"é€😀","verdict":"unreadable","number":null,"place":null,"count":null,"meaning":"No such file or directory"}
 {"file":"g\ufffdh\ufffd","verdict":"unreadable","number":null,"place":null,"count":null,"meaning":"No such file or directory"}
 {"file":"\ufffd\ufffd\ufffd\ufffd\ufffd\ufffd\ufffd\ufffd\ufffd\ufffd\ufffd\ufffd","verdict":"unreadable","number":null,"place":null,"count":null,"meaning":"No such file or directory"}
+{"file":"\ufffd\ufffd\ufffd\ufffd","verdict":"unreadable","number":null,"place":null,"count":null,"meaning":"No such file or directory"}
 END
 }
 

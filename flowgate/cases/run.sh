@@ -236,7 +236,8 @@ run_cases() {
 
 # store_words: cells of tests/runs.tsv (0 to 31 the scalars, 32 + 64 × a + i array a at i) as words, a line each
 store_words() {
-    tr ',' '\n' | awk -F = 'NF == 2 { if ($1 < 32) name = "x" $1; else name = "a" int(($1 - 32) / 64) "[" ($1 - 32) % 64 "]"; print name "=" $2 }'
+    tr ',' '\n' | awk -F = 'NF == 2 && $1 < 32 { print "x" $1 "=" $2 }
+        NF == 2 && $1 >= 32 { print "a" int(($1 - 32) / 64) "[" ($1 - 32) % 64 "]=" $2 }'
 }
 
 # the runs of tests/runs.tsv
