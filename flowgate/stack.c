@@ -1,4 +1,4 @@
-/* How much stack the library's two calls take: `stack ROWS RUNS FOLDER/...`, with the rows and runs that have known answers, and folders of
+/* How much stack the library's calls take: `stack ROWS RUNS FOLDER/...`, with the rows and runs that have known answers, and folders of
  * files with theirs in `expected`. To these it adds files in which evidence, expressions or commands nest as deep as may be.
  *
  * Each call is made in a thread whose stack lies above a page that can't be touched. First the stack is more than enough and filled
@@ -20,9 +20,10 @@ enum { SCALARS = 32, VALUES = 2048, MOST_BYTES = 32768, MOST_STACK = 256 * 1024 
 enum { PAGE = 4096, ROOM = 2 * MOST_STACK, PATTERN = 0xa5, BUDGET = 10000 };
 
 /* What is to be called, and the answer. */
-enum call { CHECK, RUN, CALLS };
-static const char *const names[CALLS] = {"flow_check", "flow_run"};
-static const size_t stated[CALLS] = {FLOW_CHECK_STACK, FLOW_RUN_STACK};
+enum call { CHECK, PROGRAM, PRECONDITION, POSTCONDITION, RUN, CALLS };
+static const char *const names[CALLS] = {"flow_check", "flow_program", "flow_precondition", "flow_postcondition", "flow_run"};
+static const size_t stated[CALLS] = {FLOW_CHECK_STACK, FLOW_CHECK_STACK, FLOW_CHECK_STACK, FLOW_CHECK_STACK, FLOW_RUN_STACK};
+static uint32_t (*const calls[RUN])(const uint8_t *, size_t) = {flow_check, flow_program, flow_precondition, flow_postcondition};
 static enum call call;
 static uint8_t file[MOST_BYTES + 4];
 static size_t bytes;
@@ -57,10 +58,10 @@ static void fail(const char *what)
 static void *make_call(void *unused)
 {
     frame = __builtin_frame_address(0);
-    if (call == CHECK) {
-        answer = flow_check(file, bytes);
-    } else {
+    if (call == RUN) {
         answer = flow_run(file, bytes, scalars, SCALARS, values, VALUES, budget);
+    } else {
+        answer = calls[call](file, bytes);
     }
     return unused;
 }
@@ -121,6 +122,18 @@ static void try(enum call which, const char *name, const uint64_t *due)
     }
 }
 
+/* Makes the check and the calls for the parts, which are 0 for a refused file. */
+static void try_check(const char *name, const uint64_t *due)
+{
+    static const uint64_t none = 0;
+    int i;
+
+    try(CHECK, name, due);
+    for (i = PROGRAM; i <= POSTCONDITION; i++) {
+        try((enum call)i, name, *due >> 16 ? &none : NULL);
+    }
+}
+
 /* Runs the file from a store that is 0 but for the bounds of `for` loops. */
 static void try_run(const char *name)
 {
@@ -174,7 +187,7 @@ static void try_row(char *at)
     uint64_t due = number_of(field(&at));
 
     read_hexadecimal(field(&at));
-    try(CHECK, name, &due);
+    try_check(name, &due);
 }
 
 /* A lent store: INDEX=VALUE,.., the scalars and then the values. */
@@ -241,7 +254,7 @@ static void try_file(char *at)
 
     bytes = fread(file, 1, sizeof file, stream);
     fclose(stream);
-    try(CHECK, name, &due);
+    try_check(name, &due);
     try_run(name);
 }
 
@@ -346,7 +359,7 @@ static void try_implied_set(enum antecedent which)
     put(IMPLICATION, 14);
     end();
     snprintf(name, sizeof name, "set rule 14 at depth 128, %s", antecedents[which]);
-    try(CHECK, name, &due);
+    try_check(name, &due);
     try_run(name);
 }
 
@@ -371,7 +384,7 @@ static void try_implied_before(enum antecedent which)
     put(BEFORE, 22);
     end();
     snprintf(name, sizeof name, "rule 21 at depth 127, %s", antecedents[which]);
-    try(CHECK, name, &due);
+    try_check(name, &due);
 }
 
 /* Expressions that nest: a word at each level, with an operand of one word before the next level if `leaf` is one; the last word;
@@ -422,7 +435,7 @@ static void try_replaced(const struct deep *which, uint32_t assignment, uint32_t
     put(FLOW, assignment == TO_SCALAR ? 3 : 4);
     end();
     snprintf(name, sizeof name, "rule %d at depth 127, %s", assignment == TO_SCALAR ? 3 : 4, which->name);
-    try(CHECK, name, &due);
+    try_check(name, &due);
 }
 
 /* The start of a file: loops, so many of them `for` loops over scalars of their own. */
@@ -447,7 +460,7 @@ static void try_command(const char *name, int fors, int whiles)
     put(FLOW, 10);
     end();
     snprintf(whole, sizeof whole, "%s under %d fors and %d whiles", name, fors, whiles);
-    try(CHECK, whole, &due);
+    try_check(whole, &due);
     try_run(whole);
 }
 
