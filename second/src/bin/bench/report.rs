@@ -168,5 +168,6 @@ Programs of `second/src/programs.rs`, with a budget of 1,000,000 steps; the read
 const STACK: &str = "## Stack
 
 The least limit of the whole process (`ulimit -s`, in steps of 8 KiB) under which every file gets its answer: the usual, the worst and the
-largest growing ones, and those in which a rule at the deepest evidence walks the deepest expression (`deepest` in `second/src/worst.rs`).
+largest growing ones, and those in which a rule at the deepest evidence walks the deepest expression (`deepest` in `second/src/worst.rs`). What a call
+takes at most, over the deepest files of each kind, is in `include/flowcheck.h`, measured by `flowgate/stack.c`.
 ";
