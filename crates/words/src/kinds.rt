@@ -81,4 +81,5 @@ pub const TO_SCALAR_WORD: u32 = TO_SCALAR * KIND;
 
 pub const WHILE_WORD: u32 = WHILE * KIND;
 
-pub const FILE_WORD: u32 = FILE * KIND;
+// A count of words is added to it.
+pub const FILE_WORD: usize = (FILE * KIND) as usize;
