@@ -2,6 +2,13 @@ use crate::cursor::Match;
 use crate::cursor::Put;
 use crate::cursor::match_head;
 use ends::end_at;
+use words::kinds::ARRAY;
+use words::kinds::COMPARISON;
+use words::kinds::KIND;
+use words::kinds::NOT;
+use words::kinds::OPERATOR;
+use words::kinds::TRUTH;
+use words::kinds::UPDATE;
 ghost use Rattle.language.specs.Syntax.{Arithmetic, Boolean, Array};
 ghost use Rattle.compare.specs.Places.{CanMatch, CanMatchAny, Matched};
 
@@ -11,11 +18,11 @@ pub fn match_expression(w: &[u32], ends: &[u32], m: Match, b: usize, put: Put) -
     requires { ⌜ CanMatchAny (now w) (now ends) b put ⌝ }
     ensures { λ r. ⌜ Matched (now (w .entry)) (now (ends .entry)) m b put r ⌝ }
 {
-    let kind = w[b] / 67108864;
-    if kind < 8 {
+    let kind = w[b] / KIND;
+    if kind < COMPARISON {
         return match_arithmetic(w, ends, m, b, put);
     }
-    if kind < 16 {
+    if kind < ARRAY {
         return match_boolean(w, ends, m, b, put);
     }
     match_array(w, ends, m, b, put)
@@ -28,7 +35,7 @@ pub fn match_arithmetic(w: &[u32], ends: &[u32], m: Match, b: usize, put: Put) -
     let x = w[b];
     let head = match_head(w, m, x, put);
     // 1 constant and 2 scalar have no operands; 3 operator and 4 select have two
-    if x / 67108864 < 3 {
+    if x / KIND < OPERATOR {
         return head;
     }
     let left = match_expression(w, ends, head, b + 1, put);
@@ -42,12 +49,12 @@ pub fn match_boolean(w: &[u32], ends: &[u32], m: Match, b: usize, put: Put) -> M
 {
     let x = w[b];
     let head = match_head(w, m, x, put);
-    let kind = x / 67108864;
+    let kind = x / KIND;
     // 9 truth has no operand, 12 not has one; 8 comparison, 10 and, 11 or have two
-    if kind == 9 {
+    if kind == TRUTH {
         return head;
     }
-    if kind == 12 {
+    if kind == NOT {
         return match_expression(w, ends, head, b + 1, put);
     }
     let left = match_expression(w, ends, head, b + 1, put);
@@ -62,7 +69,7 @@ pub fn match_array(w: &[u32], ends: &[u32], m: Match, b: usize, put: Put) -> Mat
     let x = w[b];
     let head = match_head(w, m, x, put);
     // 16 identifier and 17 zero everywhere have no operands; 18 update has three
-    if x / 67108864 < 18 {
+    if x / KIND < UPDATE {
         return head;
     }
     let array = match_expression(w, ends, head, b + 1, put);

@@ -4,6 +4,22 @@ pub mod mask; // mask.rt: identifiers as the bits of a number
 pub mod blocks; // blocks.rt: what words assign, by blocks
 
 use blocks::fill_blocks;
+use words::kinds::AND;
+use words::kinds::ASSERT;
+use words::kinds::COMPARISON;
+use words::kinds::FOR;
+use words::kinds::IF;
+use words::kinds::KIND;
+use words::kinds::NOT;
+use words::kinds::OPERATOR;
+use words::kinds::OR;
+use words::kinds::SELECT;
+use words::kinds::SEQUENCE;
+use words::kinds::SET;
+use words::kinds::TO_ARRAY;
+use words::kinds::TO_SCALAR;
+use words::kinds::UPDATE;
+use words::kinds::WHILE;
 ghost use mathlib.Core.Path.{_≡_};
 ghost use Prim.Native.Nat.{_/_, _%_, _<_, _≤_};
 ghost use lib.ListN.{length, getD};
@@ -23,23 +39,23 @@ pub fn end_at(ends: &[u32], at: usize) -> usize
 fn parts(x: u32) -> usize
     ensures { λ r. ⌜ r ≡ countOf (x / 67108864) (x % 67108864) ⌝ }
 {
-    let kind = x / 67108864;
+    let kind = x / KIND;
     match kind {
-        3 => 2,
-        4 => 2,
-        8 => 2,
-        10 => 2,
-        11 => 2,
-        12 => 1,
-        18 => 3,
-        25 => 2,
-        26 => 1,
-        27 => 1,
-        28 => 1,
-        29 => 3,
-        30 => 2,
-        31 => 1,
-        32 => 2 * ((x % 67108864) as usize),
+        OPERATOR => 2,
+        SELECT => 2,
+        COMPARISON => 2,
+        AND => 2,
+        OR => 2,
+        NOT => 1,
+        UPDATE => 3,
+        SEQUENCE => 2,
+        ASSERT => 1,
+        TO_SCALAR => 1,
+        TO_ARRAY => 1,
+        IF => 3,
+        WHILE => 2,
+        FOR => 1,
+        SET => 2 * ((x % KIND) as usize),
         _ => 0,
     }
 }

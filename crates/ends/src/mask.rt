@@ -1,4 +1,8 @@
 // Identifiers as the bits of a number: bit x is scalar x, bit 32 + a is array a.
+use words::kinds::FOR;
+use words::kinds::KIND;
+use words::kinds::TO_ARRAY;
+use words::kinds::TO_SCALAR;
 ghost use mathlib.Core.Path.{_≡_};
 ghost use Prim.Native.Nat.{_/_, _%_, _^_, _<_};
 ghost use lib.Bits.{bitOr};
@@ -25,19 +29,19 @@ pub fn with_bit(mask: u64, i: u32) -> u64
 pub fn mark(mask: u64, x: u32) -> u64
     ensures { λ r. ⌜ r ≡ withMark mask (written (x / 67108864) (x % 67108864)) ⌝ }
 {
-    let kind = x / 67108864;
+    let kind = x / KIND;
     // most words assign nothing
-    if kind < 27 {
+    if kind < TO_SCALAR {
         return mask;
     }
-    if 31 < kind {
+    if FOR < kind {
         return mask;
     }
-    let number = x % 67108864 % 32;
+    let number = x % KIND % 32;
     match kind {
-        27 => with_bit(mask, number),
-        28 => with_bit(mask, 32 + number),
-        31 => with_bit(mask, number),
+        TO_SCALAR => with_bit(mask, number),
+        TO_ARRAY => with_bit(mask, 32 + number),
+        FOR => with_bit(mask, number),
         _ => mask,
     }
 }

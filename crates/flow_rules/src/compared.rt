@@ -7,6 +7,8 @@ use sets::rule::same_under;
 use sets::rule::same_union;
 use sets::rule::same_written;
 use sets::rule::test_stands;
+use words::kinds::KIND;
+use words::kinds::WHILE;
 ghost use Rattle.flow_rules.specs.Tried.{CanTry, Tried};
 
 // Rule 9. Carries S, S', T and T'; P same as S ∪ T, Q as S' ∪ T'; (S, C, S'), (T, C, T').
@@ -60,7 +62,7 @@ pub fn rule_13(w: &[u32], ends: &[u32], at: usize, p: usize, c: usize, q: usize)
     requires { ⌜ CanTry (now w) (now ends) 13 p c q «at» ⌝ }
     ensures { λ r. ⌜ Tried (now (w .entry)) p c q «at» r ⌝ }
 {
-    if w[c] / 67108864 != 30 {
+    if w[c] / KIND != WHILE {
         return Step::Stop(8);
     }
     if !same_written(w, ends, p, q) {

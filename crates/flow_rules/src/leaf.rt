@@ -8,6 +8,13 @@ use rule_laws::step::leaf;
 use sets::rule::same_replaced;
 use sets::rule::same_under;
 use sets::rule::same_written;
+use words::kinds::ARRAY_WORD;
+use words::kinds::ASSERT;
+use words::kinds::KIND;
+use words::kinds::SCALAR_WORD;
+use words::kinds::SKIP;
+use words::kinds::TO_ARRAY;
+use words::kinds::TO_SCALAR;
 ghost use Rattle.flow_rules.specs.Tried.{CanTry, Tried};
 
 // Rule 1. Skip; P same as Q.
@@ -15,7 +22,7 @@ pub fn rule_1(w: &[u32], ends: &[u32], at: usize, p: usize, c: usize, q: usize) 
     requires { ⌜ CanTry (now w) (now ends) 1 p c q «at» ⌝ }
     ensures { λ r. ⌜ Tried (now (w .entry)) p c q «at» r ⌝ }
 {
-    if w[c] / 67108864 != 24 {
+    if w[c] / KIND != SKIP {
         return Step::Stop(8);
     }
     leaf(at, same_written(w, ends, p, q))
@@ -27,12 +34,12 @@ pub fn rule_3(w: &[u32], ends: &[u32], at: usize, p: usize, c: usize, q: usize) 
     ensures { λ r. ⌜ Tried (now (w .entry)) p c q «at» r ⌝ }
 {
     let x = w[c];
-    if x / 67108864 != 27 {
+    if x / KIND != TO_SCALAR {
         return Step::Stop(8);
     }
     let to = end_at(ends, c + 1);
     let put = Put {
-        word: 134217728 + x % 67108864,
+        word: SCALAR_WORD + x % KIND,
         from: c + 1,
         to,
     };
@@ -45,12 +52,12 @@ pub fn rule_4(w: &[u32], ends: &[u32], at: usize, p: usize, c: usize, q: usize) 
     ensures { λ r. ⌜ Tried (now (w .entry)) p c q «at» r ⌝ }
 {
     let x = w[c];
-    if x / 67108864 != 28 {
+    if x / KIND != TO_ARRAY {
         return Step::Stop(8);
     }
     let to = end_at(ends, c + 1);
     let put = Put {
-        word: 1073741824 + x % 67108864,
+        word: ARRAY_WORD + x % KIND,
         from: c + 1,
         to,
     };
@@ -62,7 +69,7 @@ pub fn rule_5(w: &[u32], ends: &[u32], at: usize, p: usize, c: usize, q: usize) 
     requires { ⌜ CanTry (now w) (now ends) 5 p c q «at» ⌝ }
     ensures { λ r. ⌜ Tried (now (w .entry)) p c q «at» r ⌝ }
 {
-    if w[c] / 67108864 != 26 {
+    if w[c] / KIND != ASSERT {
         return Step::Stop(8);
     }
     leaf(at, same_under(w, ends, p, q, c + 1))

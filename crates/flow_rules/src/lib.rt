@@ -19,6 +19,7 @@ use node::rule_8;
 use node::rule_14;
 use one::rule_6;
 use one::rule_11;
+use words::kinds::KIND;
 ghost use Rattle.goals.specs.Goals.{CanStep, StepOf};
 ghost use Rattle.goals.specs.declared.Goal.the-variants.{Flow};
 
@@ -36,7 +37,7 @@ pub fn flow_step(
     requires { ⌜ CanStep (now w) (now ends) limit (Flow p c q) «at» ⌝ }
     ensures { λ r. ⌜ StepOf (now (w .entry)) limit (Flow p c q) «at» r ⌝ }
 {
-    let rule = w[at] % 67108864;
+    let rule = w[at] % KIND;
     match rule {
         1 => rule_1(w, ends, at, p, c, q),
         2 => rule_2(w, ends, at, p, c, q),

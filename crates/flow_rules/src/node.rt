@@ -4,6 +4,9 @@ use ends::end_at;
 use goals::Goal;
 use goals::Step;
 use rule_laws::same::is_meaning;
+use words::kinds::FOR;
+use words::kinds::KIND;
+use words::kinds::SEQUENCE;
 ghost use Rattle.flow_rules.specs.Tried.{CanTry, Tried};
 
 // Rule 2. Sequence; carries M; (P, C1, M), (M, C2, Q).
@@ -11,7 +14,7 @@ pub fn rule_2(w: &[u32], ends: &[u32], at: usize, p: usize, c: usize, q: usize) 
     requires { ⌜ CanTry (now w) (now ends) 2 p c q «at» ⌝ }
     ensures { λ r. ⌜ Tried (now (w .entry)) p c q «at» r ⌝ }
 {
-    if w[c] / 67108864 != 25 {
+    if w[c] / KIND != SEQUENCE {
         return Step::Stop(8);
     }
     let second = end_at(ends, c + 1);
@@ -57,7 +60,7 @@ pub fn rule_14(w: &[u32], ends: &[u32], at: usize, p: usize, c: usize, q: usize)
     requires { ⌜ CanTry (now w) (now ends) 14 p c q «at» ⌝ }
     ensures { λ r. ⌜ Tried (now (w .entry)) p c q «at» r ⌝ }
 {
-    if w[c] / 67108864 != 31 {
+    if w[c] / KIND != FOR {
         return Step::Stop(8);
     }
     if !is_meaning(w, ends, at + 1, c) {

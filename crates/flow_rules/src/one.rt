@@ -7,6 +7,8 @@ use rule_laws::kept::is_kept;
 use rule_laws::same::is_same;
 use sets::pile::count;
 use sets::rule::same_branches;
+use words::kinds::IF;
+use words::kinds::KIND;
 ghost use Rattle.flow_rules.specs.Tried.{CanTry, Tried};
 
 // Rule 6. If; Q one written member φ ⇒ E; carries S, T and φ0; P same as S under B, T under ¬B and φ0 ⇒ B together;
@@ -15,7 +17,7 @@ pub fn rule_6(w: &[u32], ends: &[u32], at: usize, p: usize, c: usize, q: usize) 
     requires { ⌜ CanTry (now w) (now ends) 6 p c q «at» ⌝ }
     ensures { λ r. ⌜ Tried (now (w .entry)) p c q «at» r ⌝ }
 {
-    if w[c] / 67108864 != 29 {
+    if w[c] / KIND != IF {
         return Step::Stop(8);
     }
     if count(w, q) != 1 {

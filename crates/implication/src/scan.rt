@@ -1,4 +1,8 @@
 // The words of a boolean, one after the other.
+use words::kinds::COMPARISON;
+use words::kinds::KIND;
+use words::kinds::NOT;
+use words::kinds::TRUTH;
 ghost use mathlib.Core.Path.{_≡_};
 ghost use Prim.Native.Nat.{_+_, _<_};
 ghost use lib.ListN.{length};
@@ -9,18 +13,18 @@ ghost use Rattle.implication.specs.Scanning.{byteOf, Skipped, Compares, 
 pub fn byte(x: u32) -> u8
     ensures { λ r. ⌜ r ≡ byteOf x ⌝ }
 {
-    let kind = x / 67108864;
-    if kind < 8 {
+    let kind = x / KIND;
+    if kind < COMPARISON {
         return 21;
     }
-    if 12 < kind {
+    if NOT < kind {
         return 21;
     }
-    if kind == 8 {
+    if kind == COMPARISON {
         return 22;
     }
-    if kind == 9 {
-        if x % 67108864 == 0 {
+    if kind == TRUTH {
+        if x % KIND == 0 {
             return 16;
         }
         return 17;

@@ -8,6 +8,8 @@ use implication::Side;
 use implication::implies;
 use rule_laws::imply::implies_at;
 use rule_laws::step::settled;
+use words::kinds::KIND;
+use words::kinds::WHILE;
 ghost use Rattle.goals.specs.Goals.{StepOf};
 ghost use Rattle.goals.specs.declared.Goal.the-variants.{Pre};
 ghost use Rattle.pre_rules.specs.Tried.{CanTryWithin};
@@ -53,7 +55,7 @@ pub fn rule_21(
     requires { ⌜ CanTryWithin (now w) (now ends) limit 21 f c g «at» ⌝ }
     ensures { λ r. ⌜ StepOf (now (w .entry)) limit (Pre f c g) «at» r ⌝ }
 {
-    if w[c] / 67108864 != 30 {
+    if w[c] / KIND != WHILE {
         return Step::Stop(8);
     }
     let condition = repeats(w, ends, limit, at + 1, c + 1, g, f);

@@ -7,6 +7,13 @@ use goals::Step;
 use rule_laws::kept::is_kept;
 use rule_laws::same::is_same;
 use rule_laws::step::leaf;
+use words::kinds::ARRAY_WORD;
+use words::kinds::ASSERT;
+use words::kinds::KIND;
+use words::kinds::SCALAR_WORD;
+use words::kinds::SKIP;
+use words::kinds::TO_ARRAY;
+use words::kinds::TO_SCALAR;
 ghost use Rattle.pre_rules.specs.Tried.{CanTry, Tried};
 
 // Rule 22. Skip; φ is φ'.
@@ -14,7 +21,7 @@ pub fn rule_22(w: &[u32], ends: &[u32], at: usize, f: usize, c: usize, g: usize)
     requires { ⌜ CanTry (now w) (now ends) 22 f c g «at» ⌝ }
     ensures { λ r. ⌜ Tried (now (w .entry)) f c g «at» r ⌝ }
 {
-    if w[c] / 67108864 != 24 {
+    if w[c] / KIND != SKIP {
         return Step::Stop(8);
     }
     leaf(at, is_same(w, ends, f, g))
@@ -26,12 +33,12 @@ pub fn rule_24(w: &[u32], ends: &[u32], at: usize, f: usize, c: usize, g: usize)
     ensures { λ r. ⌜ Tried (now (w .entry)) f c g «at» r ⌝ }
 {
     let x = w[c];
-    if x / 67108864 != 27 {
+    if x / KIND != TO_SCALAR {
         return Step::Stop(8);
     }
     leaf(
         at,
-        is_replaced(w, ends, f, g, 134217728 + x % 67108864, c + 1),
+        is_replaced(w, ends, f, g, SCALAR_WORD + x % KIND, c + 1),
     )
 }
 
@@ -41,13 +48,10 @@ pub fn rule_25(w: &[u32], ends: &[u32], at: usize, f: usize, c: usize, g: usize)
     ensures { λ r. ⌜ Tried (now (w .entry)) f c g «at» r ⌝ }
 {
     let x = w[c];
-    if x / 67108864 != 28 {
+    if x / KIND != TO_ARRAY {
         return Step::Stop(8);
     }
-    leaf(
-        at,
-        is_replaced(w, ends, f, g, 1073741824 + x % 67108864, c + 1),
-    )
+    leaf(at, is_replaced(w, ends, f, g, ARRAY_WORD + x % KIND, c + 1))
 }
 
 // Rule 26. Assert; φ is φ' ∧ B.
@@ -55,7 +59,7 @@ pub fn rule_26(w: &[u32], ends: &[u32], at: usize, f: usize, c: usize, g: usize)
     requires { ⌜ CanTry (now w) (now ends) 26 f c g «at» ⌝ }
     ensures { λ r. ⌜ Tried (now (w .entry)) f c g «at» r ⌝ }
 {
-    if w[c] / 67108864 != 26 {
+    if w[c] / KIND != ASSERT {
         return Step::Stop(8);
     }
     leaf(at, is_join(w, ends, f, g, c + 1))

@@ -16,6 +16,7 @@ use leaf::rule_29;
 use node::rule_20;
 use node::rule_23;
 use node::rule_30;
+use words::kinds::KIND;
 ghost use Rattle.goals.specs.Goals.{CanStep, StepOf};
 ghost use Rattle.goals.specs.declared.Goal.the-variants.{Pre};
 
@@ -33,7 +34,7 @@ pub fn pre_step(
     requires { ⌜ CanStep (now w) (now ends) limit (Pre f c g) «at» ⌝ }
     ensures { λ r. ⌜ StepOf (now (w .entry)) limit (Pre f c g) «at» r ⌝ }
 {
-    let rule = w[at] % 67108864;
+    let rule = w[at] % KIND;
     match rule {
         20 => rule_20(w, ends, at, f, c, g),
         21 => rule_21(w, ends, limit, at, f, c, g),

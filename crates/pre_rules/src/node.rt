@@ -5,6 +5,10 @@ use ends::end_at;
 use goals::Goal;
 use goals::Step;
 use rule_laws::same::is_meaning;
+use words::kinds::FOR;
+use words::kinds::IF;
+use words::kinds::KIND;
+use words::kinds::SEQUENCE;
 ghost use Rattle.pre_rules.specs.Tried.{CanTry, Tried};
 
 // Rule 20. If; carries φ1 and φ2; φ is (φ1 ∧ B) ∨ (φ2 ∧ ¬B); (φ1, C1, φ'), (φ2, C2, φ').
@@ -12,7 +16,7 @@ pub fn rule_20(w: &[u32], ends: &[u32], at: usize, f: usize, c: usize, g: usize)
     requires { ⌜ CanTry (now w) (now ends) 20 f c g «at» ⌝ }
     ensures { λ r. ⌜ Tried (now (w .entry)) f c g «at» r ⌝ }
 {
-    if w[c] / 67108864 != 29 {
+    if w[c] / KIND != IF {
         return Step::Stop(8);
     }
     let right = end_at(ends, at + 1);
@@ -35,7 +39,7 @@ pub fn rule_23(w: &[u32], ends: &[u32], at: usize, f: usize, c: usize, g: usize)
     requires { ⌜ CanTry (now w) (now ends) 23 f c g «at» ⌝ }
     ensures { λ r. ⌜ Tried (now (w .entry)) f c g «at» r ⌝ }
 {
-    if w[c] / 67108864 != 25 {
+    if w[c] / KIND != SEQUENCE {
         return Step::Stop(8);
     }
     let second = end_at(ends, c + 1);
@@ -53,7 +57,7 @@ pub fn rule_30(w: &[u32], ends: &[u32], at: usize, f: usize, c: usize, g: usize)
     requires { ⌜ CanTry (now w) (now ends) 30 f c g «at» ⌝ }
     ensures { λ r. ⌜ Tried (now (w .entry)) f c g «at» r ⌝ }
 {
-    if w[c] / 67108864 != 31 {
+    if w[c] / KIND != FOR {
         return Step::Stop(8);
     }
     if !is_meaning(w, ends, at + 1, c) {

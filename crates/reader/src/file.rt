@@ -6,6 +6,7 @@ use super::Walk;
 use super::command::read_command;
 use super::evidence::read_flow;
 use super::set::read_set;
+use words::kinds::FILE_WORD;
 ghost use mathlib.Core.Path.{_≡_};
 ghost use Rattle.layout.specs.File.{parts};
 ghost use Rattle.reader.specs.Walk.{limitsOf};
@@ -73,7 +74,7 @@ fn starts(w: &[u32]) -> bool
         return false;
     }
     let head = wide(w[0]);
-    let due = 4227858432 + n;
+    let due = FILE_WORD + n;
     head == due
 }
 

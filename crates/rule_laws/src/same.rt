@@ -2,6 +2,13 @@ use super::part::came_to_end;
 use super::part::match_part;
 use compare::cursor::Match;
 use compare::cursor::match_word;
+use words::kinds::AT_MOST_WORD;
+use words::kinds::KIND;
+use words::kinds::PLUS_WORD;
+use words::kinds::SCALAR_WORD;
+use words::kinds::SEQUENCE_WORD;
+use words::kinds::TO_SCALAR_WORD;
+use words::kinds::WHILE_WORD;
 ghost use mathlib.Core.Path.{_≡_};
 ghost use Prim.Native.Nat.{_≤_};
 ghost use Rattle.compare.specs.Matching.{matched};
@@ -21,14 +28,14 @@ fn match_start(w: &[u32], m: Match, q: u32, bound: u32) -> Match
     requires { ⌜ (q ≤ 67108863) × (bound ≤ 67108863) ⌝ }
     ensures { λ r. ⌜ r ≡ matched (now (w .entry)) m (startNumbers q bound) ⌝ }
 {
-    let sequence = match_word(w, m, 1677721600);
-    let start = match_word(w, sequence, 1811939328 + q);
+    let sequence = match_word(w, m, SEQUENCE_WORD);
+    let start = match_word(w, sequence, TO_SCALAR_WORD + q);
     let one = match_word(w, start, 67108865);
-    let repeat = match_word(w, one, 2013265920);
-    let test = match_word(w, repeat, 536870914);
-    let left = match_word(w, test, 134217728 + q);
-    let right = match_word(w, left, 134217728 + bound);
-    match_word(w, right, 1677721600)
+    let repeat = match_word(w, one, WHILE_WORD);
+    let test = match_word(w, repeat, AT_MOST_WORD);
+    let left = match_word(w, test, SCALAR_WORD + q);
+    let right = match_word(w, left, SCALAR_WORD + bound);
+    match_word(w, right, SEQUENCE_WORD)
 }
 
 // The words after it: 27:q 3:0 2:q 1:1, that is q := q + 1.
@@ -36,9 +43,9 @@ fn match_next(w: &[u32], m: Match, q: u32) -> Match
     requires { ⌜ q ≤ 67108863 ⌝ }
     ensures { λ r. ⌜ r ≡ matched (now (w .entry)) m (nextNumbers q) ⌝ }
 {
-    let next = match_word(w, m, 1811939328 + q);
-    let sum = match_word(w, next, 201326592);
-    let counter = match_word(w, sum, 134217728 + q);
+    let next = match_word(w, m, TO_SCALAR_WORD + q);
+    let sum = match_word(w, next, PLUS_WORD);
+    let counter = match_word(w, sum, SCALAR_WORD + q);
     match_word(w, counter, 67108865)
 }
 
@@ -47,7 +54,7 @@ pub fn is_meaning(w: &[u32], ends: &[u32], d: usize, c: usize) -> bool
     requires { ⌜ CanMean (now w) (now ends) d c ⌝ }
     ensures { λ r. ⌜ MeaningAt (now (w .entry)) (now (ends .entry)) d c r ⌝ }
 {
-    let p = w[c] % 67108864;
+    let p = w[c] % KIND;
     let q = p % 32;
     let start = match_start(w, Match { same: true, at: d }, q, p / 32);
     let body = match_part(w, ends, start, c + 1);

@@ -1,5 +1,8 @@
 // Identifiers of a mask among words.
 use ends::mask::has_bit;
+use words::kinds::ARRAY;
+use words::kinds::KIND;
+use words::kinds::SCALAR;
 ghost use mathlib.Core.Path.{_≡_};
 ghost use Prim.Native.Nat.{_/_, _%_};
 ghost use Rattle.scan.specs.Scan.{marked};
@@ -8,11 +11,11 @@ ghost use Rattle.scan.specs.Scan.{marked};
 pub fn is_marked(mask: u64, x: u32) -> bool
     ensures { λ r. ⌜ r ≡ marked mask (x / 67108864) (x % 67108864) ⌝ }
 {
-    let kind = x / 67108864;
-    let number = x % 67108864 % 32;
+    let kind = x / KIND;
+    let number = x % KIND % 32;
     match kind {
-        2 => has_bit(mask, number),
-        16 => has_bit(mask, 32 + number),
+        SCALAR => has_bit(mask, number),
+        ARRAY => has_bit(mask, 32 + number),
         _ => false,
     }
 }

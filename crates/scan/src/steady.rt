@@ -1,6 +1,8 @@
 // Refusal 7 (document 01, "Judging order"): a `for` has q = m or a body that modifies q or m.
 use super::range::modified;
 use ends::mask::has_bit;
+use words::kinds::FOR;
+use words::kinds::KIND;
 ghost use mathlib.Core.Path.{_≡_};
 ghost use Prim.Native.Nat.{_≤_};
 ghost use Rattle.ends.specs.Ends.{EndsOf};
@@ -23,7 +25,7 @@ fn unsteady_at(w: &[u32], ends: &[u32], at: usize) -> bool
     requires { ⌜ CanTest (now w) (now ends) «at» ⌝ }
     ensures { λ r. ⌜ Tested (now (w .entry)) «at» r ⌝ }
 {
-    let payload = w[at] % 67108864;
+    let payload = w[at] % KIND;
     let q = payload % 32;
     let m = payload / 32;
     if q == m {
@@ -44,7 +46,7 @@ pub fn first_unsteady(w: &[u32], ends: &[u32]) -> Steadiness
 {
     let mut at = 0;
     while at < w.len() {
-        if w[at] / 67108864 != 31 {
+        if w[at] / KIND != FOR {
             at += 1;
             continue;
         }

@@ -11,6 +11,12 @@ use sets::pile::Pile;
 use sets::pile::Piles;
 use sets::pile::count;
 use sets::set::same_set;
+use words::kinds::AND;
+use words::kinds::COMPARISON;
+use words::kinds::KIND;
+use words::kinds::NOT;
+use words::kinds::OPERATOR;
+use words::kinds::OR;
 ghost use mathlib.Core.Path.{_≡_};
 ghost use Prim.Native.Nat.{_<_};
 ghost use Rattle.set_rules.specs.Tried.{conditionStep};
@@ -79,10 +85,10 @@ fn has_two(kind: u32) -> bool
     ensures { λ r. ⌜ r ≡ hasTwo kind ⌝ }
 {
     match kind {
-        3 => true,
-        8 => true,
-        10 => true,
-        11 => true,
+        OPERATOR => true,
+        COMPARISON => true,
+        AND => true,
+        OR => true,
         _ => false,
     }
 }
@@ -93,9 +99,9 @@ pub fn is_split(w: &[u32], ends: &[u32], p: usize, f: usize, e: usize) -> bool
     requires { ⌜ CanSplit (now w) (now ends) p f e ⌝ }
     ensures { λ r. ⌜ SplitAt (now (w .entry)) (now (ends .entry)) p f e r ⌝ }
 {
-    let kind = w[e] / 67108864;
+    let kind = w[e] / KIND;
     let first = Pile::One(f, e + 1);
-    if kind == 12 {
+    if kind == NOT {
         let piles = Piles {
             first,
             second: Pile::Empty,

@@ -11,6 +11,7 @@ use leaf::rule_18;
 use leaf::rule_19;
 use node::rule_16;
 use node::rule_17;
+use words::kinds::KIND;
 ghost use Rattle.goals.specs.Goals.{CanStep, StepOf};
 ghost use Rattle.goals.specs.declared.Goal.the-variants.{Set};
 
@@ -19,7 +20,7 @@ pub fn set_step(w: &[u32], ends: &[u32], limit: usize, at: usize, p: usize, q: u
     requires { ⌜ CanStep (now w) (now ends) limit (Set p q) «at» ⌝ }
     ensures { λ r. ⌜ StepOf (now (w .entry)) limit (Set p q) «at» r ⌝ }
 {
-    let rule = w[at] % 67108864;
+    let rule = w[at] % KIND;
     match rule {
         13 => rule_13(w, ends, at, p, q),
         14 => rule_14(w, ends, limit, at, p, q),

@@ -5,6 +5,9 @@ use compare::cursor::match_word;
 use compare::expression::match_boolean;
 use compare::expression::match_expression;
 use ends::end_at;
+use words::kinds::AND_WORD;
+use words::kinds::NOT_WORD;
+use words::kinds::TRUE_WORD;
 ghost use mathlib.Core.Path.{_≡_};
 ghost use Rattle.compare.specs.Matching.{matched, between};
 ghost use Rattle.sets.specs.Items.{underNumbers, unlessNumbers, exchangedMember, seenAs, itemNumbers, sameNumbers, pastMember};
@@ -42,7 +45,7 @@ fn match_under(w: &[u32], ends: &[u32], m: Match, a: usize, b: usize) -> Match
     let middle = end_at(ends, a);
     let past = end_at(ends, middle);
     let to = end_at(ends, b);
-    let head = match_word(w, m, 671088640);
+    let head = match_word(w, m, AND_WORD);
     let antecedent = match_range(w, head, a, middle);
     let test = match_range(w, antecedent, b, to);
     match_range(w, test, middle, past)
@@ -56,9 +59,9 @@ fn match_unless(w: &[u32], ends: &[u32], m: Match, a: usize, b: usize) -> Match
     let middle = end_at(ends, a);
     let past = end_at(ends, middle);
     let to = end_at(ends, b);
-    let head = match_word(w, m, 671088640);
+    let head = match_word(w, m, AND_WORD);
     let antecedent = match_range(w, head, a, middle);
-    let negation = match_word(w, antecedent, 805306368);
+    let negation = match_word(w, antecedent, NOT_WORD);
     let test = match_range(w, negation, b, to);
     match_range(w, test, middle, past)
 }
@@ -103,7 +106,7 @@ fn match_item(w: &[u32], ends: &[u32], m: Match, item: Item) -> Match
         }
         Item::Certain(b) => {
             let to = end_at(ends, b);
-            let antecedent = match_word(w, m, 603979777);
+            let antecedent = match_word(w, m, TRUE_WORD);
             match_range(w, antecedent, b, to)
         }
     }

@@ -7,6 +7,7 @@ use crate::member::in_rest;
 use crate::member::in_seen;
 use crate::member::rest_in;
 use crate::member::seen_in;
+use words::kinds::KIND;
 ghost use mathlib.Core.Path.{_≡_};
 ghost use Prim.Native.Nat.{_<_};
 ghost use lib.ListN.{length};
@@ -37,7 +38,7 @@ pub fn count(w: &[u32], q: usize) -> usize
     requires { ⌜ q < length (now w) ⌝ }
     ensures { λ r. ⌜ r ≡ countAt (now (w .entry)) q ⌝ }
 {
-    let x = w[q] % 67108864;
+    let x = w[q] % KIND;
     x as usize
 }
 

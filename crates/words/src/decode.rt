@@ -9,6 +9,32 @@ use super::Operator;
 use super::PreRule;
 use super::SetRule;
 use super::Word;
+use super::kinds::AND;
+use super::kinds::ARRAY;
+use super::kinds::ASSERT;
+use super::kinds::COMPARISON;
+use super::kinds::CONSTANT;
+use super::kinds::FLOW;
+use super::kinds::FOR;
+use super::kinds::IF;
+use super::kinds::IMPLICATION;
+use super::kinds::KIND;
+use super::kinds::NOT;
+use super::kinds::OPERATOR;
+use super::kinds::OR;
+use super::kinds::PAYLOADS;
+use super::kinds::PRECONDITION;
+use super::kinds::SCALAR;
+use super::kinds::SELECT;
+use super::kinds::SEQUENCE;
+use super::kinds::SET;
+use super::kinds::SKIP;
+use super::kinds::TO_ARRAY;
+use super::kinds::TO_SCALAR;
+use super::kinds::TRUTH;
+use super::kinds::UPDATE;
+use super::kinds::WHILE;
+use super::kinds::ZEROS;
 ghost use mathlib.Core.Path.{_≡_};
 ghost use Prim.Native.Nat.{_/_, _%_};
 ghost use Rattle.layout.specs.Bytes.{signed as signedOf};
@@ -19,13 +45,13 @@ ghost use Rattle.words.specs.Decode.{flowOf, setOf, preOf, evidenceOf, d
 pub fn kind(word: u32) -> u32
     ensures { λ r. ⌜ r ≡ word / 67108864 ⌝ }
 {
-    word / 67108864
+    word / KIND
 }
 
 pub fn payload(word: u32) -> u32
     ensures { λ r. ⌜ r ≡ word % 67108864 ⌝ }
 {
-    word % 67108864
+    word % KIND
 }
 
 // A payload in two's complement.
@@ -33,7 +59,7 @@ pub fn signed(payload: u32) -> i64
     ensures { λ r. ⌜ r ≡ signedOf payload ⌝ }
 {
     let p = payload as i64;
-    if payload < 33554432 { p } else { p - 67108864 }
+    if payload < 33554432 { p } else { p - PAYLOADS }
 }
 
 fn operator_word(payload: u32) -> Word
@@ -80,14 +106,14 @@ pub fn arithmetic_word(kind: u32, payload: u32) -> Word
     ensures { λ r. ⌜ r ≡ arithmeticOf kind payload ⌝ }
 {
     match kind {
-        1 => Word::Arithmetic(ArithmeticWord::Constant(signed(payload))),
-        2 => bounded(
+        CONSTANT => Word::Arithmetic(ArithmeticWord::Constant(signed(payload))),
+        SCALAR => bounded(
             Word::Arithmetic(ArithmeticWord::Scalar(payload)),
             payload,
             31,
         ),
-        3 => operator_word(payload),
-        4 => bounded(Word::Arithmetic(ArithmeticWord::Select), payload, 0),
+        OPERATOR => operator_word(payload),
+        SELECT => bounded(Word::Arithmetic(ArithmeticWord::Select), payload, 0),
         _ => Word::Other,
     }
 }
@@ -97,11 +123,11 @@ pub fn boolean_word(kind: u32, payload: u32) -> Word
     ensures { λ r. ⌜ r ≡ booleanOf kind payload ⌝ }
 {
     match kind {
-        8 => comparison_word(payload),
-        9 => truth_word(payload),
-        10 => bounded(Word::Boolean(BooleanWord::And), payload, 0),
-        11 => bounded(Word::Boolean(BooleanWord::Or), payload, 0),
-        12 => bounded(Word::Boolean(BooleanWord::Not), payload, 0),
+        COMPARISON => comparison_word(payload),
+        TRUTH => truth_word(payload),
+        AND => bounded(Word::Boolean(BooleanWord::And), payload, 0),
+        OR => bounded(Word::Boolean(BooleanWord::Or), payload, 0),
+        NOT => bounded(Word::Boolean(BooleanWord::Not), payload, 0),
         _ => Word::Other,
     }
 }
@@ -111,9 +137,9 @@ pub fn array_word(kind: u32, payload: u32) -> Word
     ensures { λ r. ⌜ r ≡ arrayOf kind payload ⌝ }
 {
     match kind {
-        16 => bounded(Word::Array(ArrayWord::Identifier(payload)), payload, 31),
-        17 => bounded(Word::Array(ArrayWord::Zeros), payload, 0),
-        18 => bounded(Word::Array(ArrayWord::Update), payload, 0),
+        ARRAY => bounded(Word::Array(ArrayWord::Identifier(payload)), payload, 31),
+        ZEROS => bounded(Word::Array(ArrayWord::Zeros), payload, 0),
+        UPDATE => bounded(Word::Array(ArrayWord::Update), payload, 0),
         _ => Word::Other,
     }
 }
@@ -123,22 +149,22 @@ pub fn command_word(kind: u32, payload: u32) -> Word
     ensures { λ r. ⌜ r ≡ commandOf kind payload ⌝ }
 {
     match kind {
-        24 => bounded(Word::Command(CommandWord::Skip), payload, 0),
-        25 => bounded(Word::Command(CommandWord::Sequence), payload, 0),
-        26 => bounded(Word::Command(CommandWord::Assert), payload, 0),
-        27 => bounded(
+        SKIP => bounded(Word::Command(CommandWord::Skip), payload, 0),
+        SEQUENCE => bounded(Word::Command(CommandWord::Sequence), payload, 0),
+        ASSERT => bounded(Word::Command(CommandWord::Assert), payload, 0),
+        TO_SCALAR => bounded(
             Word::Command(CommandWord::AssignScalar(payload)),
             payload,
             31,
         ),
-        28 => bounded(
+        TO_ARRAY => bounded(
             Word::Command(CommandWord::AssignArray(payload)),
             payload,
             31,
         ),
-        29 => bounded(Word::Command(CommandWord::If), payload, 0),
-        30 => bounded(Word::Command(CommandWord::While), payload, 0),
-        31 => bounded(
+        IF => bounded(Word::Command(CommandWord::If), payload, 0),
+        WHILE => bounded(Word::Command(CommandWord::While), payload, 0),
+        FOR => bounded(
             Word::Command(CommandWord::For(payload % 32, payload / 32)),
             payload,
             1023,
@@ -208,10 +234,10 @@ pub fn evidence_word(kind: u32, payload: u32) -> Word
     ensures { λ r. ⌜ r ≡ evidenceOf kind payload ⌝ }
 {
     match kind {
-        32 => Word::Set(payload),
-        33 => flow_word(payload),
-        34 => set_word(payload),
-        35 => pre_word(payload),
+        SET => Word::Set(payload),
+        FLOW => flow_word(payload),
+        IMPLICATION => set_word(payload),
+        PRECONDITION => pre_word(payload),
         _ => Word::Other,
     }
 }

@@ -1,4 +1,5 @@
 // The words of a file (document 01, "Layout"): loaded from its bytes, and decoded by kind and payload.
+pub mod kinds; // kinds.rt: kinds and words by name
 pub mod load; // load.rt: words from bytes
 pub mod decode; // decode.rt: what a word stands for
 
