@@ -7,7 +7,7 @@ use Prim.Native.Nat.{ℕ}
 use native.Mathlib.Omega.{arith}
 use Rattle.language.specs.Syntax.{Command}
 use Rattle.language.specs.Store.{Store}
-use Rattle.rules.specs.Context.{Limits}
+use Rattle.rules.specs.Context.{Context}
 use Rattle.layout.specs.File.{File}
 use Rattle.execution.specs.Lent.{Lent, storeOf}
 use Rattle.execution.specs.Ran.{Answer, Ran, runOf}
@@ -23,28 +23,28 @@ of-run : {c : Command} {s : Store} {budget : ℕ} {a : Answer} {n : ℕ} {t : St
 of-run (ends u r) = tt
 of-run (stops u due said) = executes-number (stops u due said)
 
-module _ (limits : Limits) (bytes : List ℕ) (budget : ℕ) (m : Lent) where
-  ran : (f : File) → Starts limits bytes budget m f → OfRun (runOf limits bytes budget m .answer)
+module _ (Γ : Context) (bytes : List ℕ) (budget : ℕ) (m : Lent) where
+  ran : (f : File) → Starts Γ bytes budget m f → OfRun (runOf Γ bytes budget m .answer)
   ran f h =
-      let x = executed limits bytes budget m f (h .end) (h .reads) (h .affordable) (h .sized) (storeOf m) (held-itself m) in
+      let x = executed Γ bytes budget m f (h .end) (h .reads) (h .affordable) (h .sized) (storeOf m) (held-itself m) in
       subst OfRun (sym (x .reports .answer)) (of-run (x .executes))
 
-  only-run : {r : Ran} → Judged limits bytes budget m r → OfRun (r .answer) → (f : File) × Starts limits bytes budget m f
-  only-run (not-read {k = k} {p = p} e) x = let h = file-refused limits bytes k p e in absurd (omega arith)
+  only-run : {r : Ran} → Judged Γ bytes budget m r → OfRun (r .answer) → (f : File) × Starts Γ bytes budget m f
+  only-run (not-read {k = k} {p = p} e) x = let h = file-refused Γ bytes k p e in absurd (omega arith)
   only-run (over-budget e l) x = absurd (omega arith)
   only-run (ill-sized e l h) x = absurd (omega arith)
   only-run (is-run {f = f} {p = p} e l h) x = (f, record { end = p; reads = e; affordable = l; sized = h })
 
-  pub runner : Runner limits bytes budget m
+  pub runner : Runner Γ bytes budget m
   runner = record {
-    not-read = not-read-is limits bytes budget m;
-    over-budget = over-budget-is limits bytes budget m;
-    ill-sized = ill-sized-is limits bytes budget m;
+    not-read = not-read-is Γ bytes budget m;
+    over-budget = over-budget-is Γ bytes budget m;
+    ill-sized = ill-sized-is Γ bytes budget m;
     started = ran;
-    within = λ f h. steps-within limits bytes budget m;
-    only-started = only-run (judged limits bytes budget m);
+    within = λ f h. steps-within Γ bytes budget m;
+    only-started = only-run (judged Γ bytes budget m);
     sound = λ f h s held.
-        let x = executed limits bytes budget m f (h .end) (h .reads) (h .affordable) (h .sized) s held in
+        let x = executed Γ bytes budget m f (h .end) (h .reads) (h .affordable) (h .sized) s held in
         (x .answer, x .count, x .last, x .executes, x .reports);
-    complete = λ f h. reported limits bytes budget m f (h .end) (h .reads) (h .affordable) (h .sized);
+    complete = λ f h. reported Γ bytes budget m f (h .end) (h .reads) (h .affordable) (h .sized);
   }

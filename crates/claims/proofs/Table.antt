@@ -10,10 +10,10 @@ use Rattle.rules.specs.Context.{standard}
 use Rattle.rules.specs.Replace.{replace}
 use Rattle.rules.specs.Sets.{setIdentifiers}
 use Rattle.rules.specs.Condition.{test, _then_, byForm}
-use Rattle.rules.specs.Judge.{oneMore, judgeWord, judgeFlow}
+use Rattle.rules.specs.Judge.{oneMore, judgeWord, flowRule, judge}
 use Rattle.layout.specs.Reading.{_⊛_, several, wordDue}
 use Rattle.layout.specs.Read.{expression, command, set}
-use Rattle.layout.specs.ReadEvidence.{flowEvidence}
+use Rattle.layout.specs.ReadEvidence.{evidence}
 use Rattle.layout.specs.For.{unsteadyAt, firstUnsteady}
 use Rattle.layout.specs.Bytes.{wordsOf}
 use Rattle.layout.specs.File.{parts, steadyFile, finish, wordsRead, fileOf}
@@ -25,6 +25,6 @@ use Rattle.claims.specs.Table.{right, allRight, table}
 
 pub table-right : allRight table ≡ true
 unfolding allRight table right verdictOf fileOf wordsOf wordsRead parts finish steadyFile unsteadyAt firstUnsteady standard
-    words commandWords replace test _then_ byForm oneMore judgeWord judgeFlow _⊛_ several wordDue expression command set
-    flowEvidence value identifiers setIdentifiers evaluate turns run runFile runOf
+    words commandWords replace test _then_ byForm oneMore judgeWord flowRule judge _⊛_ several wordDue expression command set
+    evidence value identifiers setIdentifiers evaluate turns run runFile runOf
 table-right = refl

@@ -19,7 +19,7 @@ use lib.ListN.{length, getD}
 use lib.Seq.{ext-getD}
 use Rattle.language.specs.Syntax.{Command}
 use Rattle.language.specs.Store.{Store}
-use Rattle.rules.specs.Context.{Limits}
+use Rattle.rules.specs.Context.{Context}
 use Rattle.layout.specs.Reading.{read}
 use Rattle.layout.specs.File.{File, fileOf}
 use Rattle.laws.proofs.Bools.{and-left, and-right, and-both}
@@ -153,17 +153,17 @@ run-executed {budget = budget} (agrees-stopped k l {number = i} {p = p} {d = d} 
 }
 
 -- ---- The answer on bytes, of a file whose program is run.
-module _ (limits : Limits) (bytes : List ℕ) (budget : ℕ) (m : Lent) (f : File) (p : ℕ)
-    (e : fileOf limits bytes ≡ read f p) (l : budget ≤ 1000000) (h : wellSized m ≡ true) (s : Store) (held : HeldBy m s)
+module _ (Γ : Context) (bytes : List ℕ) (budget : ℕ) (m : Lent) (f : File) (p : ℕ)
+    (e : fileOf Γ bytes ≡ read f p) (l : budget ≤ 1000000) (h : wellSized m ≡ true) (s : Store) (held : HeldBy m s)
   where
-    pub executed : Executed (f .program) s budget (runOf limits bytes budget m)
+    pub executed : Executed (f .program) s budget (runOf Γ bytes budget m)
     executed =
-        rw (run-is limits bytes budget m f p e l h)
-        (run-executed (run-agrees (f .program) (file-small limits bytes f p e) 1 budget m s
+        rw (run-is Γ bytes budget m f p e l h)
+        (run-executed (run-agrees (f .program) (file-small Γ bytes f p e) 1 budget m s
         (record { sized = sized-of m h; held = held })))
 
     pub reported : (a : Answer) (n : ℕ) (t : Store) → Executes (f .program) s budget a n t →
-        Reports (runOf limits bytes budget m) a n t
+        Reports (runOf Γ bytes budget m) a n t
     reported a n t x =
         let y = executed in
         let r = y .reports in
@@ -171,20 +171,20 @@ module _ (limits : Limits) (bytes : List ℕ) (budget : ℕ) (m : Lent) (f : Fil
         record {
           answer = r .answer ∙ z .same-answer;
           steps = r .steps ∙ z .same-count;
-          held = subst (HeldBy (runOf limits bytes budget m .store)) (z .same-store) (r .held);
+          held = subst (HeldBy (runOf Γ bytes budget m .store)) (z .same-store) (r .held);
           sized = r .sized;
         }
 
 -- ---- The steps reported are within the budget.
-pub steps-within : (limits : Limits) (bytes : List ℕ) (budget : ℕ) (m : Lent) →
-    runOf limits bytes budget m .steps ≤ budget
-steps-within limits bytes budget m = by-order (judged limits bytes budget m)
+pub steps-within : (Γ : Context) (bytes : List ℕ) (budget : ℕ) (m : Lent) →
+    runOf Γ bytes budget m .steps ≤ budget
+steps-within Γ bytes budget m = by-order (judged Γ bytes budget m)
   where
     of-run : (x : End) → ranOf budget x .steps ≤ budget
     of-run (ended n m) = omega arith
     of-run (stopped k p n m) = omega arith
 
-    by-order : {r : Ran} → Judged limits bytes budget m r → r .steps ≤ budget
+    by-order : {r : Ran} → Judged Γ bytes budget m r → r .steps ≤ budget
     by-order (not-read e) = omega arith
     by-order (over-budget e l) = omega arith
     by-order (ill-sized e l h) = omega arith

@@ -15,7 +15,7 @@ use lib.Dec.{eqb, ltb}
 use Rattle.language.specs.Syntax.{Sort, Expr, constant, scalar, operation, select, compare, truth, and, or, neg}
 use Rattle.language.specs.Syntax.{array, zeros, update, toScalar, toArray}
 use Rattle.language.specs.Syntax.{Command, skip, sequence, assert, assign, ifElse, while, for}
-use Rattle.rules.specs.Context.{Limits}
+use Rattle.rules.specs.Context.{Context}
 use Rattle.layout.specs.Bytes.{wordsOf, wordCount, numberAt}
 use Rattle.layout.specs.Reading.{Reading, read, fault, onRead}
 use Rattle.layout.specs.For.{firstUnsteady}
@@ -55,42 +55,42 @@ command-small (ifElse b c₁ c₂) (suc d) h =
 command-small (while b c) (suc d) h = (expression-small b d (h .0), command-small c d (h .1))
 command-small (for q m c) (suc d) h = (omega (arith, h .0 .0), omega (arith, h .0 .1), command-small c d (h .1))
 
-module _ (limits : Limits) (bytes : List ℕ) where
+module _ (Γ : Context) (bytes : List ℕ) where
   -- what was read was read from words
-  pub file-words : (f : File) (p : ℕ) → fileOf limits bytes ≡ read f p → wordsRead limits (wordsOf bytes) ≡ read f p
+  pub file-words : (f : File) (p : ℕ) → fileOf Γ bytes ≡ read f p → wordsRead Γ (wordsOf bytes) ≡ read f p
   unfolding fileOf
   file-words f p = go (badLength bytes)
     where
-      go : (t : Bool) → elim t [ true ↦ fault 1 0 | false ↦ wordsRead limits (wordsOf bytes) ] ≡ read f p →
-          wordsRead limits (wordsOf bytes) ≡ read f p
+      go : (t : Bool) → elim t [ true ↦ fault 1 0 | false ↦ wordsRead Γ (wordsOf bytes) ] ≡ read f p →
+          wordsRead Γ (wordsOf bytes) ≡ read f p
       go true e = absurd (let z : _≡_ {A = ℕ} 0 1 = cc in omega (arith, z))
       go false e = e
 
-  pub file-small : (f : File) (p : ℕ) → fileOf limits bytes ≡ read f p → SmallCommand (f .program)
+  pub file-small : (f : File) (p : ℕ) → fileOf Γ bytes ≡ read f p → SmallCommand (f .program)
   unfolding EachFits
   file-small f p e =
-      command-small (f .program) (limits .depth)
-      (file-spelled limits (wordsOf bytes) f p (file-words f p e) .spelled .fits .0)
+      command-small (f .program) (Γ .limits .depth)
+      (file-spelled Γ (wordsOf bytes) f p (file-words f p e) .spelled .fits .0)
 
 -- a refusal from 1 to 7
 abbrev Numbered : Reading File → Type 0
 Numbered (read f p) = Unit {0}
 Numbered (fault n p) = (1 ≤ n) × (n ≤ 7)
 
-module _ (limits : Limits) (file : List ℕ) where
-  steady-numbered : (f : File) (p : ℕ) → Numbered (steadyFile limits file f p)
+module _ (Γ : Context) (file : List ℕ) where
+  steady-numbered : (f : File) (p : ℕ) → Numbered (steadyFile Γ file f p)
   unfolding steadyFile
-  steady-numbered f p = go (firstUnsteady limits file (wordCount file) 0)
+  steady-numbered f p = go (firstUnsteady Γ file (wordCount file) 0)
     where
       go : (o : Option ℕ) → Numbered (elim o [ none ↦ read f p | some at ↦ fault 7 at ])
       go none = tt
       go (some at) = (omega arith, omega arith)
 
-  finish-numbered : (f : File) (p : ℕ) → Numbered (finish limits file f p)
+  finish-numbered : (f : File) (p : ℕ) → Numbered (finish Γ file f p)
   unfolding finish
   finish-numbered f p = go (ltb p (wordCount file))
     where
-      go : (t : Bool) → Numbered (elim t [ true ↦ fault 6 p | false ↦ steadyFile limits file f p ])
+      go : (t : Bool) → Numbered (elim t [ true ↦ fault 6 p | false ↦ steadyFile Γ file f p ])
       go true = (omega arith, omega arith)
       go false = steady-numbered f p
 
@@ -102,32 +102,32 @@ module _ (limits : Limits) (file : List ℕ) where
       go [] e = omega (arith, e)
       go (x ∷ l) e = omega arith
 
-  parts-numbered : (r : Reading File) → parts limits file ≡ r → 1 ≤ wordCount file →
-      Numbered (onRead r (finish limits file))
+  parts-numbered : (r : Reading File) → parts Γ file ≡ r → 1 ≤ wordCount file →
+      Numbered (onRead r (finish Γ file))
   parts-numbered (read f p) e h = finish-numbered f p
   parts-numbered (fault n p) e h =
-      let f = parts-fault limits file n p e h in
+      let f = parts-fault Γ file n p e h in
       let least = f .least in
       let most = f .most in
       (omega arith, omega arith)
 
-  words-numbered : Numbered (wordsRead limits file)
+  words-numbered : Numbered (wordsRead Γ file)
   unfolding wordsRead
   words-numbered = go (eqb (numberAt file 0) (63 * 67108864 + wordCount file)) refl
     where
       go : (t : Bool) → eqb (numberAt file 0) (63 * 67108864 + wordCount file) ≡ t →
-          Numbered (elim t [ true ↦ onRead (parts limits file) (finish limits file) | false ↦ fault 2 0 ])
-      go true e = parts-numbered (parts limits file) refl (counted (eqb-true _ _ e))
+          Numbered (elim t [ true ↦ onRead (parts Γ file) (finish Γ file) | false ↦ fault 2 0 ])
+      go true e = parts-numbered (parts Γ file) refl (counted (eqb-true _ _ e))
       go false e = (omega arith, omega arith)
 
-module _ (limits : Limits) (bytes : List ℕ) where
-  file-numbered : Numbered (fileOf limits bytes)
+module _ (Γ : Context) (bytes : List ℕ) where
+  file-numbered : Numbered (fileOf Γ bytes)
   unfolding fileOf
   file-numbered = go (badLength bytes)
     where
-      go : (t : Bool) → Numbered (elim t [ true ↦ fault 1 0 | false ↦ wordsRead limits (wordsOf bytes) ])
+      go : (t : Bool) → Numbered (elim t [ true ↦ fault 1 0 | false ↦ wordsRead Γ (wordsOf bytes) ])
       go true = (omega arith, omega arith)
-      go false = words-numbered limits (wordsOf bytes)
+      go false = words-numbered Γ (wordsOf bytes)
 
-  pub file-refused : (n p : ℕ) → fileOf limits bytes ≡ fault n p → (1 ≤ n) × (n ≤ 7)
+  pub file-refused : (n p : ℕ) → fileOf Γ bytes ≡ fault n p → (1 ≤ n) × (n ≤ 7)
   file-refused n p e = subst Numbered e file-numbered

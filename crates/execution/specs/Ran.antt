@@ -9,7 +9,7 @@ use mathlib.Core.List.{List}
 use Prim.Native.Nat.{ℕ, _-_}
 use lib.Dec.{eqb, ltb}
 use lib.ListN.{length}
-use Rattle.rules.specs.Context.{Limits}
+use Rattle.rules.specs.Context.{Context}
 use Rattle.layout.specs.Reading.{read, fault}
 use Rattle.layout.specs.File.{File, fileOf}
 use Rattle.execution.specs.Lent.{Lent}
@@ -42,8 +42,8 @@ runFile f budget m = elim (ltb 1000000 budget) [
   | false ↦ elim (wellSized m) [ true ↦ ranOf budget (run (f .program) 1 budget m) | false ↦ notRun 11 0 m ]
 ]
 
-unfoldable pub runOf : Limits → List ℕ → ℕ → Lent → Ran
-runOf limits bytes budget m = elim (fileOf limits bytes) [
+unfoldable pub runOf : Context → List ℕ → ℕ → Lent → Ran
+runOf Γ bytes budget m = elim (fileOf Γ bytes) [
   | read f p ↦ runFile f budget m
   | fault k p ↦ notRun k p m
 ]

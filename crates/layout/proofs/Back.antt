@@ -19,7 +19,7 @@ use Rattle.language.specs.Syntax.{Command, skip, sequence, assert, assign, ifEl
 use Rattle.rules.specs.Words.{Word, word, forWord, words, commandWords}
 use Rattle.rules.specs.Words.{operatorPayload, comparisonPayload, truthPayload}
 use Rattle.rules.specs.Assertion.{Member, Members, member}
-use Rattle.rules.specs.Context.{Limits}
+use Rattle.rules.specs.Context.{Context}
 use Rattle.layout.specs.Bytes.{wordCount, numberAt, kindAt, payloadAt}
 use Rattle.layout.specs.Reading.{read, Reader, leaf, _⊛_, several, allowed, wordDue, upTo, onOption}
 use Rattle.layout.specs.Read.{operatorOf, comparisonOf, truthOf}
@@ -249,13 +249,13 @@ module _ (file : List ℕ) where
       parted (memberWords m) (membersWords l) s λ q x y.
       record { back = rw (member-stands d m at q x .back) (rw (members-stands d l q p y .back) refl) }
 
-  pub set-stands : (limits : Limits) (d : ℕ) (m : Members) (at p : ℕ) →
-      Stands file (setWords m) (FitsSet limits m d) at p → Back (set limits file d) at m p
+  pub set-stands : (Γ : Context) (d : ℕ) (m : Members) (at p : ℕ) →
+      Stands file (setWords m) (FitsSet Γ m d) at p → Back (set Γ file d) at m p
   unfolding set FitsSet
-  set-stands limits zero m at p s = absurd (s .fit)
-  set-stands limits (suc d) m at p s =
+  set-stands Γ zero m at p s = absurd (s .fit)
+  set-stands Γ (suc d) m at p s =
       word-back _ s (s .fit .0 .1)
-      (up-to-back (limits .members) (length m) (s .fit .0 .0) (members-stands d m (at + 1) p (less-fit (rest s))))
+      (up-to-back (Γ .limits .members) (length m) (s .fit .0 .0) (members-stands d m (at + 1) p (less-fit (rest s))))
 
 -- the same of what is spelled
 pub stands-from : {file : List ℕ} {F : Type 0} {at : ℕ} (l : List Word) → SpelledAt file at l → F →
@@ -273,6 +273,6 @@ pub command-back :
 command-back file d c at h f = command-stands file d c at _ (stands-from (commandWords c) h f) .back
 
 pub set-back :
-    (limits : Limits) (file : List ℕ) (d : ℕ) (m : Members) (at : ℕ) → SpelledAt file at (setWords m) →
-    FitsSet limits m d → set limits file d at ≡ read m (at + length (setWords m))
-set-back limits file d m at h f = set-stands file limits d m at _ (stands-from (setWords m) h f) .back
+    (Γ : Context) (file : List ℕ) (d : ℕ) (m : Members) (at : ℕ) → SpelledAt file at (setWords m) →
+    FitsSet Γ m d → set Γ file d at ≡ read m (at + length (setWords m))
+set-back Γ file d m at h f = set-stands file Γ d m at _ (stands-from (setWords m) h f) .back

@@ -21,17 +21,19 @@ use Rattle.language.specs.Syntax.{compare, truth, and, or, neg, array, zeros, u
 use Rattle.language.specs.Syntax.{Command, skip, sequence, assert, assign, ifElse, while, for}
 use Rattle.rules.specs.Words.{Word, word, forWord, words, commandWords}
 use Rattle.rules.specs.Assertion.{Member, Members}
-use Rattle.rules.specs.Context.{Limits, Context}
+use Rattle.rules.specs.Context.{Context}
 use Rattle.rules.specs.Sets.{operands}
-use Rattle.rules.specs.Evidence.{PreEvidence, pre20, pre21, pre22, pre23, pre24, pre25, pre26, pre27, pre28, pre29}
-use Rattle.rules.specs.Evidence.{pre30, SetEvidence, set13, set14, set15, set16, set17, set18, set19}
-use Rattle.rules.specs.Evidence.{FlowEvidence, flow1, flow2, flow3, flow4, flow5, flow6, flow7, flow8, flow9}
-use Rattle.rules.specs.Evidence.{flow10, flow11, flow12, flow13, flow14}
+use Rattle.rules.specs.Evidence.{flow, implication, precondition, Standing, Tree, by, assertion, command, members, child, done, _&_}
+use Rattle.rules.specs.Evidence.{FlowEvidence, SetEvidence, PreEvidence, flow1, flow2, flow3, flow4, flow5, flow6}
+use Rattle.rules.specs.Evidence.{flow7, flow8, flow9, flow10, flow11, flow12, flow13, flow14, set13, set14, set15}
+use Rattle.rules.specs.Evidence.{set16, set17, set18, set19, pre20, pre21, pre22, pre23, pre24, pre25, pre26, pre27}
+use Rattle.rules.specs.Evidence.{pre28, pre29, pre30}
 use Rattle.rules.specs.Condition.{Result, passes, fails, tooLarge, byForm, onSkip, onSequence, onAssert, onScalar}
 use Rattle.rules.specs.Condition.{onArray, onIf, onWhile, onFor, onEmpty, onOne, onSome}
-use Rattle.rules.specs.Judge.{Verdict, accepted, refused, oneMore, _also_, judgeWord, judgePre, judgeSet, judgeFlow}
+use Rattle.rules.specs.Judge.{Verdict, accepted, refused, oneMore, _also_, Step, step, misfit, leaf, judgeWord}
+use Rattle.rules.specs.Judge.{preRule, setRule, flowRule, judge, judgePre, judgeSet, judgeFlow}
 use Rattle.layout.specs.Spelling.{membersWords, setWords}
-use Rattle.layout.specs.EvidenceWords.{Part, joined, preNode, setNode, flowNode, prePart, setEvidencePart, flowPart}
+use Rattle.layout.specs.EvidenceWords.{Part, joined, spelledTree}
 use Rattle.layout.specs.File.{File}
 use Rattle.layout.specs.FileWords.{fileParts}
 use Rattle.layout.specs.Bytes.{wordCount, numberAt}
@@ -142,33 +144,68 @@ also-counts (accepted a) (accepted b) g h =
 also-counts (accepted a) (refused k i) g h = refused-counts k i _
 also-counts (refused k i) w g h = refused-counts k i _
 
--- an evidence word, before the parts l
-word-counts : (i : ℕ) (r : Result) (v : Verdict) (l : List Part) (m : ℕ) → Counts v m → m ≡ counts l →
-    Counts (judgeWord i r v) (suc (evidenceIn (joined l)))
-unfolding judgeWord oneMore
-word-counts i passes (accepted a) l m h e =
-    let x = h .counted a refl in
-    let y = joined-counts l in
-    record { counted = λ k z. let u : suc a ≡ k = cc in omega (arith, x, y, u, e) }
-word-counts i passes (refused k j) l m h e = refused-counts k j _
-word-counts i fails v l m h e = refused-counts 8 i _
-word-counts i tooLarge v l m h e = refused-counts 9 i _
+-- the count of evidence: what is carried has none
+abbrev tally : {s : Standing} → Tree s → ℕ
+tally (by r i t) = suc (tally t)
+tally (assertion φ) = 0
+tally (command c) = 0
+tally (members p) = 0
+tally (child k) = tally k
+tally done = 0
+tally (x & t) = tally x + tally t
 
--- a word with no parts
-leaf-counts : (i : ℕ) (r : Result) → Counts (judgeWord i r (accepted 0)) (suc (evidenceIn (joined [])))
-leaf-counts i r = word-counts i r (accepted 0) [] 0 (record { counted = λ n e. cc }) refl
+pub tree-tally : {s : Standing} (t : Tree s) → evidenceIn (spelledTree t) ≡ tally t
+unfolding spelledTree evidenceIn
+tree-tally (by {j = flow} r i t) = ap suc (tree-tally t)
+tree-tally (by {j = implication} r i t) = ap suc (tree-tally t)
+tree-tally (by {j = precondition} r i t) = ap suc (tree-tally t)
+tree-tally (assertion φ) = expression-none φ
+tree-tally (command c) = command-none c
+tree-tally (members p) = set-none p
+tree-tally (child k) = tree-tally k
+tree-tally done = refl
+tree-tally (x & t) = count-append (spelledTree x) (spelledTree t) ∙ ap₂ (λ m n. m + n) (tree-tally x) (tree-tally t)
+
+-- what a rule comes to, whose children count m where its conditions pass
+abbrev CountsBy : Step → ℕ → Type 0
+CountsBy (step passes v) m = Counts v m
+CountsBy (step fails v) m = Unit {0}
+CountsBy (step tooLarge v) m = Unit {0}
+
+record StepCounts (s : Step) (m : ℕ) : Type 0 where
+  children : CountsBy s m
+
+word-counts : (i : ℕ) {s : Step} {m n : ℕ} → StepCounts s m → n ≡ suc m → Counts (judgeWord i s) n
+unfolding judgeWord oneMore
+word-counts i {s} {m} {n} h e = go s (h .children)
+  where
+    go : (s : Step) → CountsBy s m → Counts (judgeWord i s) n
+    go (step passes (accepted a)) c =
+        let x = c .counted a refl in
+        record { counted = λ k z. let u : suc a ≡ k = cc in omega (arith, x, u, e) }
+    go (step passes (refused k j)) c = refused-counts k j n
+    go (step fails v) c = refused-counts 8 i n
+    go (step tooLarge v) c = refused-counts 9 i n
+
+passing : (r : Result) {v : Verdict} {m : ℕ} → Counts v m → StepCounts (step r v) m
+passing passes h = record { children = h }
+passing fails h = record { children = tt }
+passing tooLarge h = record { children = tt }
+
+leaf-counts : (r : Result) → StepCounts (leaf r) 0
+leaf-counts r = passing r (record { counted = λ n e. cc })
 
 -- a command, a set or operands, by their form: the count is there in every case
-module _ (i m : ℕ) where
-  form-counts : (c : Command) {s : Verdict} {q : Command → Command → Verdict} {t : Expr Boolean → Verdict}
-      {x : ℕ → Expr Arithmetic → Verdict} {a : ℕ → Expr Array → Verdict}
-      {f : Expr Boolean → Command → Command → Verdict} {w : Expr Boolean → Command → Verdict}
-      {o : ℕ → ℕ → Command → Verdict} → Counts s m → ((c d : Command) → Counts (q c d) m) →
-      ((b : Expr Boolean) → Counts (t b) m) → ((y : ℕ) (e : Expr Arithmetic) → Counts (x y e) m) →
-      ((y : ℕ) (e : Expr Array) → Counts (a y e) m) →
-      ((b : Expr Boolean) (c d : Command) → Counts (f b c d) m) →
-      ((b : Expr Boolean) (c : Command) → Counts (w b c) m) → ((y n : ℕ) (c : Command) → Counts (o y n c) m) →
-      Counts (byForm s q t x a f w o c) m
+module _ (m : ℕ) where
+  form-counts : (c : Command) {s : Step} {q : Command → Command → Step} {t : Expr Boolean → Step}
+      {x : ℕ → Expr Arithmetic → Step} {a : ℕ → Expr Array → Step}
+      {f : Expr Boolean → Command → Command → Step} {w : Expr Boolean → Command → Step}
+      {o : ℕ → ℕ → Command → Step} → StepCounts s m → ((c d : Command) → StepCounts (q c d) m) →
+      ((b : Expr Boolean) → StepCounts (t b) m) → ((y : ℕ) (e : Expr Arithmetic) → StepCounts (x y e) m) →
+      ((y : ℕ) (e : Expr Array) → StepCounts (a y e) m) →
+      ((b : Expr Boolean) (c d : Command) → StepCounts (f b c d) m) →
+      ((b : Expr Boolean) (c : Command) → StepCounts (w b c) m) → ((y n : ℕ) (c : Command) → StepCounts (o y n c) m) →
+      StepCounts (byForm s q t x a f w o c) m
   unfolding byForm
   form-counts skip s q t x a f w o = s
   form-counts (sequence c d) s q t x a f w o = q c d
@@ -179,167 +216,140 @@ module _ (i m : ℕ) where
   form-counts (while b c) s q t x a f w o = w b c
   form-counts (for y n c) s q t x a f w o = o y n c
 
-  no : Counts (refused 8 i) m
-  no = refused-counts 8 i m
+  no : StepCounts misfit m
+  no = record { children = tt }
 
-  skip-counts : (c : Command) {f : Verdict} → Counts f m →
-      Counts (onSkip c (refused 8 i) f) m
+  skip-counts : (c : Command) {f : Step} → StepCounts f m →
+      StepCounts (onSkip c misfit f) m
   skip-counts c h = form-counts c h (λ c d. no) (λ b. no) (λ y e. no) (λ y e. no) (λ b c d. no) (λ b c. no) (λ y n c. no)
 
-  sequence-counts : (c : Command) {f : Command → Command → Verdict} → ((c₁ c₂ : Command) → Counts (f c₁ c₂) m) →
-      Counts (onSequence c (refused 8 i) f) m
+  sequence-counts : (c : Command) {f : Command → Command → Step} → ((c₁ c₂ : Command) → StepCounts (f c₁ c₂) m) →
+      StepCounts (onSequence c misfit f) m
   sequence-counts c h = form-counts c no h (λ b. no) (λ y e. no) (λ y e. no) (λ b c d. no) (λ b c. no) (λ y n c. no)
 
-  assert-counts : (c : Command) {f : Expr Boolean → Verdict} → ((b : Expr Boolean) → Counts (f b) m) →
-      Counts (onAssert c (refused 8 i) f) m
+  assert-counts : (c : Command) {f : Expr Boolean → Step} → ((b : Expr Boolean) → StepCounts (f b) m) →
+      StepCounts (onAssert c misfit f) m
   assert-counts c h = form-counts c no (λ c d. no) h (λ y e. no) (λ y e. no) (λ b c d. no) (λ b c. no) (λ y n c. no)
 
-  scalar-counts : (c : Command) {f : ℕ → Expr Arithmetic → Verdict} → ((x : ℕ) (e : Expr Arithmetic) → Counts (f x e) m) →
-      Counts (onScalar c (refused 8 i) f) m
+  scalar-counts : (c : Command) {f : ℕ → Expr Arithmetic → Step} → ((x : ℕ) (e : Expr Arithmetic) → StepCounts (f x e) m) →
+      StepCounts (onScalar c misfit f) m
   scalar-counts c h = form-counts c no (λ c d. no) (λ b. no) h (λ y e. no) (λ b c d. no) (λ b c. no) (λ y n c. no)
 
-  array-counts : (c : Command) {f : ℕ → Expr Array → Verdict} → ((a : ℕ) (e : Expr Array) → Counts (f a e) m) →
-      Counts (onArray c (refused 8 i) f) m
+  array-counts : (c : Command) {f : ℕ → Expr Array → Step} → ((a : ℕ) (e : Expr Array) → StepCounts (f a e) m) →
+      StepCounts (onArray c misfit f) m
   array-counts c h = form-counts c no (λ c d. no) (λ b. no) (λ y e. no) h (λ b c d. no) (λ b c. no) (λ y n c. no)
 
-  if-counts : (c : Command) {f : Expr Boolean → Command → Command → Verdict} → ((b : Expr Boolean) (c₁ c₂ : Command) → Counts (f b c₁ c₂) m) →
-      Counts (onIf c (refused 8 i) f) m
+  if-counts : (c : Command) {f : Expr Boolean → Command → Command → Step} → ((b : Expr Boolean) (c₁ c₂ : Command) → StepCounts (f b c₁ c₂) m) →
+      StepCounts (onIf c misfit f) m
   if-counts c h = form-counts c no (λ c d. no) (λ b. no) (λ y e. no) (λ y e. no) h (λ b c. no) (λ y n c. no)
 
-  while-counts : (c : Command) {f : Expr Boolean → Command → Verdict} → ((b : Expr Boolean) (c₁ : Command) → Counts (f b c₁) m) →
-      Counts (onWhile c (refused 8 i) f) m
+  while-counts : (c : Command) {f : Expr Boolean → Command → Step} → ((b : Expr Boolean) (c₁ : Command) → StepCounts (f b c₁) m) →
+      StepCounts (onWhile c misfit f) m
   while-counts c h = form-counts c no (λ c d. no) (λ b. no) (λ y e. no) (λ y e. no) (λ b c d. no) h (λ y n c. no)
 
-  for-counts : (c : Command) {f : ℕ → ℕ → Command → Verdict} → ((q n : ℕ) (c₁ : Command) → Counts (f q n c₁) m) →
-      Counts (onFor c (refused 8 i) f) m
+  for-counts : (c : Command) {f : ℕ → ℕ → Command → Step} → ((q n : ℕ) (c₁ : Command) → StepCounts (f q n c₁) m) →
+      StepCounts (onFor c misfit f) m
   for-counts c h = form-counts c no (λ c d. no) (λ b. no) (λ y e. no) (λ y e. no) (λ b c d. no) (λ b c. no) h
 
-  empty-counts : (p : Members) {v : Verdict} → Counts v m → Counts (onEmpty p (refused 8 i) v) m
+  empty-counts : (p : Members) {v : Step} → StepCounts v m → StepCounts (onEmpty p misfit v) m
   unfolding onEmpty
   empty-counts [] h = h
   empty-counts (x ∷ p) h = no
 
-  one-counts : (p : Members) {f : Member → Verdict} → ((x : Member) → Counts (f x) m) →
-      Counts (onOne p (refused 8 i) f) m
+  one-counts : (p : Members) {f : Member → Step} → ((x : Member) → StepCounts (f x) m) →
+      StepCounts (onOne p misfit f) m
   unfolding onOne
   one-counts [] h = no
   one-counts (x ∷ []) h = h x
   one-counts (x ∷ (y ∷ p)) h = no
 
-  some-counts : (o : Option Members) {f : Members → Verdict} → ((r : Members) → Counts (f r) m) →
-      Counts (onSome o (refused 8 i) f) m
+  some-counts : (o : Option Members) {f : Members → Step} → ((r : Members) → StepCounts (f r) m) →
+      StepCounts (onSome o misfit f) m
   unfolding onSome
   some-counts none h = no
   some-counts (some r) h = h r
 
 module _ (Γ : Context) where
   pub pre-counts : (k : PreEvidence) (φ : Expr Boolean) (c : Command) (φ′ : Expr Boolean) →
-      Counts (judgePre Γ k φ c φ′) (evidenceIn (prePart k .spelling))
-  unfolding judgePre preNode evidenceIn
-  pre-counts (pre20 i φ₁ φ₂ k l) φ c φ′ =
-      let x = expression-none φ₁ in
-      let y = expression-none φ₂ in
-      if-counts i _ c λ b c₁ c₂.
-      word-counts i _ _ _ _ (also-counts _ _ (pre-counts k φ₁ c₁ φ′) (pre-counts l φ₂ c₂ φ′)) (omega (arith, x, y))
-  pre-counts (pre21 i φ₀ k) φ c φ′ =
-      let x = expression-none φ₀ in
-      while-counts i _ c λ b c₁. word-counts i _ _ _ _ (pre-counts k φ₀ c₁ φ) (omega (arith, x))
-  pre-counts (pre22 i) φ c φ′ = skip-counts i _ c (leaf-counts i _)
-  pre-counts (pre23 i φ₁ k l) φ c φ′ =
-      let x = expression-none φ₁ in
-      sequence-counts i _ c λ c₁ c₂.
-      word-counts i _ _ _ _ (also-counts _ _ (pre-counts k φ c₁ φ₁) (pre-counts l φ₁ c₂ φ′)) (omega (arith, x))
-  pre-counts (pre24 i) φ c φ′ = scalar-counts i _ c λ x e. leaf-counts i _
-  pre-counts (pre25 i) φ c φ′ = array-counts i _ c λ a e. leaf-counts i _
-  pre-counts (pre26 i) φ c φ′ = assert-counts i _ c λ b. leaf-counts i _
-  pre-counts (pre27 i) φ c φ′ = leaf-counts i _
-  pre-counts (pre28 i φ₁ k) φ c φ′ =
-      let x = expression-none φ₁ in
-      word-counts i _ _ _ _ (pre-counts k φ₁ c φ′) (omega (arith, x))
-  pre-counts (pre29 i) φ c φ′ = leaf-counts i _
-  pre-counts (pre30 i d k) φ c φ′ =
-      let x = command-none d in
-      for-counts i _ c λ q m c₁. word-counts i _ _ _ _ (pre-counts k φ d φ′) (omega (arith, x))
+      Counts (judgePre Γ k φ c φ′) (tally k)
+  unfolding judge preRule
+  pre-counts (by pre20 i (assertion φ₁ & assertion φ₂ & child k & child l & done)) φ c φ′ =
+      word-counts i (if-counts _ c λ b c₁ c₂.
+      passing _ (also-counts _ _ (pre-counts k φ₁ c₁ φ′) (pre-counts l φ₂ c₂ φ′))) (omega arith)
+  pre-counts (by pre21 i (assertion φ₀ & child k & done)) φ c φ′ =
+      word-counts i (while-counts _ c λ b c₁. passing _ (pre-counts k φ₀ c₁ φ)) (omega arith)
+  pre-counts (by pre22 i done) φ c φ′ = word-counts i (skip-counts _ c (leaf-counts _)) (omega arith)
+  pre-counts (by pre23 i (assertion φ₁ & child k & child l & done)) φ c φ′ =
+      word-counts i (sequence-counts _ c λ c₁ c₂.
+      passing _ (also-counts _ _ (pre-counts k φ c₁ φ₁) (pre-counts l φ₁ c₂ φ′))) (omega arith)
+  pre-counts (by pre24 i done) φ c φ′ = word-counts i (scalar-counts _ c λ x e. leaf-counts _) (omega arith)
+  pre-counts (by pre25 i done) φ c φ′ = word-counts i (array-counts _ c λ a e. leaf-counts _) (omega arith)
+  pre-counts (by pre26 i done) φ c φ′ = word-counts i (assert-counts _ c λ b. leaf-counts _) (omega arith)
+  pre-counts (by pre27 i done) φ c φ′ = word-counts i (leaf-counts _) (omega arith)
+  pre-counts (by pre28 i (assertion φ₁ & child k & done)) φ c φ′ =
+      word-counts i (passing _ (pre-counts k φ₁ c φ′)) (omega arith)
+  pre-counts (by pre29 i done) φ c φ′ = word-counts i (leaf-counts _) (omega arith)
+  pre-counts (by pre30 i (command d & child k & done)) φ c φ′ =
+      word-counts i (for-counts _ c λ q m c₁. passing _ (pre-counts k φ d φ′)) (omega arith)
 
-  module _ (limits : Limits) where
-    pub set-counts : (k : SetEvidence) (p q : Members) →
-        Counts (judgeSet Γ k p q) (evidenceIn (setEvidencePart limits k .spelling))
-    unfolding judgeSet setNode evidenceIn
-    set-counts (set13 i) p q = leaf-counts i _
-    set-counts (set14 i) p q = empty-counts i _ p (leaf-counts i _)
-    set-counts (set15 i) p q = empty-counts i _ p (one-counts i _ q λ n. leaf-counts i _)
-    set-counts (set16 i s s′ t t′ k l) p q =
-        let x = set-none s in
-        let y = set-none s′ in
-        let z = set-none t in
-        let u = set-none t′ in
-        word-counts i _ _ _ _ (also-counts _ _ (set-counts k s s′) (set-counts l t t′)) (omega (arith, x, y, z, u))
-    set-counts (set17 i s s′ t k l) p q =
-        let x = set-none s in
-        let y = set-none s′ in
-        let z = set-none t in
-        word-counts i _ _ _ _ (also-counts _ _ (set-counts k s s′) (set-counts l t q)) (omega (arith, x, y, z))
-    set-counts (set18 i) p q = one-counts i _ p λ m. one-counts i _ q λ n. leaf-counts i _
-    set-counts (set19 i) p q =
-        one-counts i _ q λ n. some-counts i _ (operands (n .antecedent) (n .consequent)) λ r. leaf-counts i _
+  pub set-counts : (k : SetEvidence) (p q : Members) →
+      Counts (judgeSet Γ k p q) (tally k)
+  unfolding judge setRule
+  set-counts (by set13 i done) p q = word-counts i (leaf-counts _) (omega arith)
+  set-counts (by set14 i done) p q = word-counts i (empty-counts _ p (leaf-counts _)) (omega arith)
+  set-counts (by set15 i done) p q =
+      word-counts i (empty-counts _ p (one-counts _ q λ n. leaf-counts _)) (omega arith)
+  set-counts (by set16 i (members s & members s′ & members t & members t′ & child k & child l & done)) p q =
+      word-counts i (passing _ (also-counts _ _ (set-counts k s s′) (set-counts l t t′))) (omega arith)
+  set-counts (by set17 i (members s & members s′ & members t & child k & child l & done)) p q =
+      word-counts i (passing _ (also-counts _ _ (set-counts k s s′) (set-counts l t q))) (omega arith)
+  set-counts (by set18 i done) p q =
+      word-counts i (one-counts _ p λ m. one-counts _ q λ n. leaf-counts _) (omega arith)
+  set-counts (by set19 i done) p q =
+      word-counts i (one-counts _ q λ n. some-counts _ (operands (n .antecedent) (n .consequent)) λ r. leaf-counts _) (omega arith)
 
-    pub flow-counts : (k : FlowEvidence) (p : Members) (c : Command) (q : Members) →
-        Counts (judgeFlow Γ k p c q) (evidenceIn (flowPart limits k .spelling))
-    unfolding judgeFlow flowNode evidenceIn
-    flow-counts (flow1 i) p c q = skip-counts i _ c (leaf-counts i _)
-    flow-counts (flow2 i m k l) p c q =
-        let x = set-none m in
-        sequence-counts i _ c λ c₁ c₂.
-        word-counts i _ _ _ _ (also-counts _ _ (flow-counts k p c₁ m) (flow-counts l m c₂ q)) (omega (arith, x))
-    flow-counts (flow3 i) p c q = scalar-counts i _ c λ x e. leaf-counts i _
-    flow-counts (flow4 i) p c q = array-counts i _ c λ a e. leaf-counts i _
-    flow-counts (flow5 i) p c q = assert-counts i _ c λ b. leaf-counts i _
-    flow-counts (flow6 i s t φ₀ k l n) p c q =
-        let x = set-none s in
-        let y = set-none t in
-        let z = expression-none φ₀ in
-        if-counts i _ c λ b c₁ c₂. one-counts i _ q λ m.
-        word-counts i _ _ _ _ (also-counts _ _ (flow-counts k s c₁ q)
-        (also-counts _ _ (flow-counts l t c₂ q) (pre-counts n φ₀ c (m .antecedent)))) (omega (arith, x, y, z))
-    flow-counts (flow7 i m n k) p c q =
-        let x = set-none m in
-        word-counts i _ _ _ _ (also-counts _ _ (set-counts n p m) (flow-counts k m c q)) (omega (arith, x))
-    flow-counts (flow8 i m k n) p c q =
-        let x = set-none m in
-        word-counts i _ _ _ _ (also-counts _ _ (flow-counts k p c m) (set-counts n m q)) (omega (arith, x))
-    flow-counts (flow9 i s s′ t t′ k l) p c q =
-        let x = set-none s in
-        let y = set-none s′ in
-        let z = set-none t in
-        let u = set-none t′ in
-        word-counts i _ _ _ _ (also-counts _ _ (flow-counts k s c s′) (flow-counts l t c t′))
-        (omega (arith, x, y, z, u))
-    flow-counts (flow10 i) p c q = leaf-counts i _
-    flow-counts (flow11 i n) p c q = one-counts i _ p λ m. one-counts i _ q λ m′.
-        word-counts i _ _ _ _ (pre-counts n (m .antecedent) c (m′ .antecedent)) (omega arith)
-    flow-counts (flow12 i s s′ φ φ′ k n) p c q =
-        let x = set-none s in
-        let y = set-none s′ in
-        let z = expression-none φ in
-        let u = expression-none φ′ in
-        word-counts i _ _ _ _ (also-counts _ _ (flow-counts k s c s′) (pre-counts n φ c φ′))
-        (omega (arith, x, y, z, u))
-    flow-counts (flow13 i k) p c q =
-        while-counts i _ c λ b c₁. word-counts i _ _ _ _ (flow-counts k p c₁ q) (omega arith)
-    flow-counts (flow14 i d k) p c q =
-        let x = command-none d in
-        for-counts i _ c λ v m c₁. word-counts i _ _ _ _ (flow-counts k p d q) (omega (arith, x))
+  pub flow-counts : (k : FlowEvidence) (p : Members) (c : Command) (q : Members) →
+      Counts (judgeFlow Γ k p c q) (tally k)
+  unfolding judge flowRule
+  flow-counts (by flow1 i done) p c q = word-counts i (skip-counts _ c (leaf-counts _)) (omega arith)
+  flow-counts (by flow2 i (members m & child k & child l & done)) p c q =
+      word-counts i (sequence-counts _ c λ c₁ c₂.
+      passing _ (also-counts _ _ (flow-counts k p c₁ m) (flow-counts l m c₂ q))) (omega arith)
+  flow-counts (by flow3 i done) p c q = word-counts i (scalar-counts _ c λ x e. leaf-counts _) (omega arith)
+  flow-counts (by flow4 i done) p c q = word-counts i (array-counts _ c λ a e. leaf-counts _) (omega arith)
+  flow-counts (by flow5 i done) p c q = word-counts i (assert-counts _ c λ b. leaf-counts _) (omega arith)
+  flow-counts (by flow6 i (members s & members t & assertion φ₀ & child k & child l & child n & done)) p c q =
+      word-counts i (if-counts _ c λ b c₁ c₂. one-counts _ q λ m.
+      passing _ (also-counts _ _ (flow-counts k s c₁ q)
+      (also-counts _ _ (flow-counts l t c₂ q) (pre-counts n φ₀ c (m .antecedent))))) (omega arith)
+  flow-counts (by flow7 i (members m & child n & child k & done)) p c q =
+      word-counts i (passing _ (also-counts _ _ (set-counts n p m) (flow-counts k m c q))) (omega arith)
+  flow-counts (by flow8 i (members m & child k & child n & done)) p c q =
+      word-counts i (passing _ (also-counts _ _ (flow-counts k p c m) (set-counts n m q))) (omega arith)
+  flow-counts (by flow9 i (members s & members s′ & members t & members t′ & child k & child l & done)) p c q =
+      word-counts i (passing _ (also-counts _ _ (flow-counts k s c s′) (flow-counts l t c t′))) (omega arith)
+  flow-counts (by flow10 i done) p c q = word-counts i (leaf-counts _) (omega arith)
+  flow-counts (by flow11 i (child n & done)) p c q =
+      word-counts i (one-counts _ p λ m. one-counts _ q λ m′.
+      passing _ (pre-counts n (m .antecedent) c (m′ .antecedent))) (omega arith)
+  flow-counts (by flow12 i (members s & members s′ & assertion φ & assertion φ′ & child k & child n & done)) p c q =
+      word-counts i (passing _ (also-counts _ _ (flow-counts k s c s′) (pre-counts n φ c φ′))) (omega arith)
+  flow-counts (by flow13 i (child k & done)) p c q =
+      word-counts i (while-counts _ c λ b c₁. passing _ (flow-counts k p c₁ q)) (omega arith)
+  flow-counts (by flow14 i (command d & child k & done)) p c q =
+      word-counts i (for-counts _ c λ v m c₁. passing _ (flow-counts k p d q)) (omega arith)
 
 -- the parts of a file: its evidence has all of them
-pub file-counts : (Γ : Context) (limits : Limits) (f : File) →
-    Counts (judgeFlow Γ (f .evidence) (f .pre) (f .program) (f .post)) (evidenceIn (joined (fileParts limits f)))
-file-counts Γ limits f =
+pub file-counts : (Γ : Context) (f : File) →
+    Counts (judgeFlow Γ (f .evidence) (f .pre) (f .program) (f .post)) (evidenceIn (joined (fileParts Γ f)))
+file-counts Γ f =
     let x = command-none (f .program) in
     let y = set-none (f .pre) in
     let z = set-none (f .post) in
-    let e = joined-counts (fileParts limits f) in
-    let h = flow-counts Γ limits (f .evidence) (f .pre) (f .program) (f .post) in
-    record { counted = λ n k. let u = h .counted n k in omega (arith, x, y, z, e, u) }
+    let e = joined-counts (fileParts Γ f) in
+    let h = flow-counts Γ (f .evidence) (f .pre) (f .program) (f .post) in
+    let t = tree-tally (f .evidence) in
+    record { counted = λ n k. let u = h .counted n k in omega (arith, x, y, z, e, u, t) }
 
 -- ---- the same by the words of the file
 same-kind : (n : ℕ) (w : Word) → n / 67108864 ≡ kindOf w → isEvidence n ≡ isEvidenceWord w
@@ -366,13 +376,13 @@ first-none n =
     rw (lt-leb ((63 * 67108864 + n) / 67108864) 35 k)
     (rw (le-leb 33 ((63 * 67108864 + n) / 67108864) (omega arith)) refl)
 
-pub file-counted : (limits : Limits) (file : List ℕ) (f : File) → FileSpelled limits file f →
-    countEvidence file ≡ evidenceIn (joined (fileParts limits f))
+pub file-counted : (Γ : Context) (file : List ℕ) (f : File) → FileSpelled Γ file f →
+    countEvidence file ≡ evidenceIn (joined (fileParts Γ f))
 unfolding countEvidence
-file-counted limits file f h =
-    let all : AllSmall (joined (fileParts limits f)) = parts-small limits f (h .fits) in
+file-counted Γ file f h =
+    let all : AllSmall (joined (fileParts Γ f)) = parts-small Γ f (h .fits) in
     let some : 0 < length file = omega (arith, h .whole) in
     ap countEvidence (drop-cons file 0 0 some)
     ∙ ap (λ t. cond t (suc (countEvidence (drop 1 file))) (countEvidence (drop 1 file)))
     (ap isEvidence (h .count) ∙ first-none (wordCount file))
-    ∙ count-spelled file 1 (joined (fileParts limits f)) (h .spelled) all (h .whole)
+    ∙ count-spelled file 1 (joined (fileParts Γ f)) (h .spelled) all (h .whole)

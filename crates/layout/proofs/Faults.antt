@@ -3,20 +3,21 @@
 -- Assumes nothing.
 --     Bounds                                                       the law, by cases on a reading
 --     expression-bounds, command-bounds, set-bounds                of these readers
---     pre-bounds, set-evidence-bounds, flow-bounds                 of evidence
+--     evidence-bounds                                              of evidence
 --     bounds-read, bounds-fault                                    of what was read; of a refusal
 use mathlib.Core.Path.{_≡_, subst}
 use mathlib.Core.List.{List}
 use Prim.Native.Nat.{ℕ, _<_, _≤_}
 use Rattle.language.specs.Syntax.{Sort}
-use Rattle.rules.specs.Context.{Limits}
+use Rattle.rules.specs.Context.{Context}
+use Rattle.rules.specs.Evidence.{Judgement}
 use Rattle.layout.specs.Bytes.{wordCount}
 use Rattle.layout.specs.Reading.{Reading, read, fault, Reader}
 use Rattle.layout.specs.Read.{expression, command, set}
-use Rattle.layout.specs.ReadEvidence.{preEvidence, setEvidence, flowEvidence}
+use Rattle.layout.specs.ReadEvidence.{evidence}
 use Rattle.layout.proofs.Yields.{FaultAt, Past, PastBy}
 use Rattle.layout.proofs.Spelled.{expression-past, command-past, set-past}
-use Rattle.layout.proofs.SpelledEvidence.{pre-past, set-evidence-past, flow-past}
+use Rattle.layout.proofs.SpelledEvidence.{evidence-past}
 
 abbrev pub BoundsBy : {A : Type 0} → List ℕ → ℕ → Reading A → Type 0
 BoundsBy file at (read a p) = (at < p) × (p ≤ wordCount file)
@@ -47,14 +48,8 @@ expression-bounds file d j at = past-bounds (expression-past file d j at)
 pub command-bounds : (file : List ℕ) (d at : ℕ) → Bounds file at (command file d)
 command-bounds file d at = past-bounds (command-past file d at)
 
-pub set-bounds : (limits : Limits) (file : List ℕ) (d at : ℕ) → Bounds file at (set limits file d)
-set-bounds limits file d at = past-bounds (set-past file limits d at)
+pub set-bounds : (Γ : Context) (file : List ℕ) (d at : ℕ) → Bounds file at (set Γ file d)
+set-bounds Γ file d at = past-bounds (set-past file Γ d at)
 
-pub pre-bounds : (file : List ℕ) (d at : ℕ) → Bounds file at (preEvidence file d)
-pre-bounds file d at = past-bounds (pre-past file d at)
-
-pub set-evidence-bounds : (limits : Limits) (file : List ℕ) (d at : ℕ) → Bounds file at (setEvidence limits file d)
-set-evidence-bounds limits file d at = past-bounds (set-evidence-past file limits d at)
-
-pub flow-bounds : (limits : Limits) (file : List ℕ) (d at : ℕ) → Bounds file at (flowEvidence limits file d)
-flow-bounds limits file d at = past-bounds (flow-past file limits d at)
+pub evidence-bounds : (Γ : Context) (file : List ℕ) (d : ℕ) (j : Judgement) (at : ℕ) → Bounds file at (evidence Γ file d j)
+evidence-bounds Γ file d j at = past-bounds (evidence-past Γ file d j at)

@@ -2,7 +2,7 @@
 -- Assumes nothing.
 --     Small, AllSmall                                 the payload of a word, of each of some words
 --     expression-small, command-small, set-small      of what fits
---     pre-small, set-evidence-small, flow-small       of evidence that fits
+--     tree-small                                      of evidence that fits
 --     parts-small                                     of the parts of a file
 --     kindOf, contentOf, kind-at, content-at          the kind and the payload of a word, and of what stands there
 use mathlib.Core.Path.{_≡_, refl, _∙_}
@@ -18,19 +18,16 @@ use Rattle.language.specs.Syntax.{Command, skip, sequence, assert, assign, ifEl
 use Rattle.rules.specs.Words.{Word, word, forWord, words, commandWords}
 use Rattle.rules.specs.Words.{operatorPayload, comparisonPayload, truthPayload}
 use Rattle.rules.specs.Assertion.{Members}
-use Rattle.rules.specs.Context.{Limits}
-use Rattle.rules.specs.Evidence.{PreEvidence, pre20, pre21, pre22, pre23, pre24, pre25, pre26, pre27, pre28, pre29}
-use Rattle.rules.specs.Evidence.{pre30, SetEvidence, set13, set14, set15, set16, set17, set18, set19}
-use Rattle.rules.specs.Evidence.{FlowEvidence, flow1, flow2, flow3, flow4, flow5, flow6, flow7, flow8, flow9}
-use Rattle.rules.specs.Evidence.{flow10, flow11, flow12, flow13, flow14}
+use Rattle.rules.specs.Context.{Context}
+use Rattle.rules.specs.Evidence.{Standing, Tree, by, assertion, command, members, child, done, _&_}
 use Rattle.layout.specs.Bytes.{numberAt, kindAt, payloadAt}
 use Rattle.layout.specs.Spelling.{payloadOf, encode, FitsExpression, FitsCommand}
 use Rattle.layout.specs.Spelling.{membersWords, setWords, FitsMembers, FitsSet}
-use Rattle.layout.specs.EvidenceWords.{Part, Node, nodePart, expressionPart, commandPart, setPart, joined, EachFits}
-use Rattle.layout.specs.EvidenceWords.{preNode, setNode, flowNode, prePart, setEvidencePart, flowPart}
+use Rattle.layout.specs.EvidenceWords.{joined, EachFits, spelledTree, FitsTree}
 use Rattle.layout.specs.File.{File}
 use Rattle.layout.specs.FileWords.{fileParts}
 use Rattle.layout.proofs.Words.{quotient, remainder, payload-small}
+use Rattle.layout.proofs.BackEvidence.{rule-row}
 
 abbrev pub Small : Word → Type 0
 Small (word k z) = payloadOf z < 67108864
@@ -115,97 +112,35 @@ members-small d (m ∷ l) h =
     (expression-small d (m .consequent) (h .0 .1)))
     (members-small d l (h .1))
 
-pub set-small : (limits : Limits) (d : ℕ) (m : Members) → FitsSet limits m d → AllSmall (setWords m)
+pub set-small : (Γ : Context) (d : ℕ) (m : Members) → FitsSet Γ m d → AllSmall (setWords m)
 unfolding FitsSet
-set-small limits zero m h = absurd h
-set-small limits (suc d) m h = (h .0 .1, members-small d m (h .1))
+set-small Γ zero m h = absurd h
+set-small Γ (suc d) m h = (h .0 .1, members-small d m (h .1))
 
 -- ---- evidence
-abbrev SmallPart : Part → Type 0
-SmallPart x = (d at : ℕ) → x .fits d at → AllSmall (x .spelling)
+module _ (Γ : Context) where
+  pub tree-small : {s : Standing} (t : Tree s) (d at : ℕ) → FitsTree Γ t d at → AllSmall (spelledTree t)
+  unfolding spelledTree FitsTree
+  tree-small (by r i t) zero at h = absurd h
+  tree-small (by {n = n} r i t) (suc d) at h =
+      (number-small n (rule-row r .1), tree-small t d (at + 1) (h .1))
+  tree-small (assertion φ) d at h = expression-small d φ h
+  tree-small (command c) d at h = command-small d c h
+  tree-small (members p) d at h = set-small Γ d p h
+  tree-small (child k) d at h = tree-small k d at h
+  tree-small done d at h = tt
+  tree-small (x & t) d at h =
+      small-append (spelledTree x) (spelledTree t) (tree-small x d at (h .0))
+      (tree-small t d (at + length (spelledTree x)) (h .1))
 
-abbrev SmallParts : List Part → Type 0
-SmallParts [] = Unit {0}
-SmallParts (x ∷ l) = SmallPart x × SmallParts l
-
-joined-small : (l : List Part) → SmallParts l → (d at : ℕ) → EachFits l d at → AllSmall (joined l)
-unfolding joined EachFits
-joined-small [] h d at f = tt
-joined-small (x ∷ l) h d at f =
-    small-append (x .spelling) (joined l) (h .0 d at (f .0))
-    (joined-small l (h .1) d (at + length (x .spelling)) (f .1))
-
-node-small : (k : ℕ) (x : Node) → x .rule ≤ 31 → SmallParts (x .parts) → SmallPart (nodePart k x)
-node-small k x r h zero at f = absurd f
-node-small k x r h (suc d) at f = (number-small (x .rule) r, joined-small (x .parts) h d (at + 1) (f .1))
-
-of-expression : {k : Sort} (e : Expr k) → SmallPart (expressionPart e)
-of-expression e d at f = expression-small d e f
-
-of-command : (c : Command) → SmallPart (commandPart c)
-of-command c d at f = command-small d c f
-
-pub pre-small : (e : PreEvidence) → SmallPart (prePart e)
-unfolding preNode
-pre-small (pre20 i φ ψ n m) =
-    node-small 35 _ (omega arith) (of-expression φ, (of-expression ψ, (pre-small n, (pre-small m, tt))))
-pre-small (pre21 i φ n) = node-small 35 _ (omega arith) (of-expression φ, (pre-small n, tt))
-pre-small (pre22 i) = node-small 35 _ (omega arith) tt
-pre-small (pre23 i φ n m) = node-small 35 _ (omega arith) (of-expression φ, (pre-small n, (pre-small m, tt)))
-pre-small (pre24 i) = node-small 35 _ (omega arith) tt
-pre-small (pre25 i) = node-small 35 _ (omega arith) tt
-pre-small (pre26 i) = node-small 35 _ (omega arith) tt
-pre-small (pre27 i) = node-small 35 _ (omega arith) tt
-pre-small (pre28 i φ n) = node-small 35 _ (omega arith) (of-expression φ, (pre-small n, tt))
-pre-small (pre29 i) = node-small 35 _ (omega arith) tt
-pre-small (pre30 i c n) = node-small 35 _ (omega arith) (of-command c, (pre-small n, tt))
-
-module _ (limits : Limits) where
-  of-set : (p : Members) → SmallPart (setPart limits p)
-  of-set p d at f = set-small limits d p f
-
-  pub set-evidence-small : (e : SetEvidence) → SmallPart (setEvidencePart limits e)
-  unfolding setNode
-  set-evidence-small (set13 i) = node-small 34 _ (omega arith) tt
-  set-evidence-small (set14 i) = node-small 34 _ (omega arith) tt
-  set-evidence-small (set15 i) = node-small 34 _ (omega arith) tt
-  set-evidence-small (set16 i p q r t e f) =
-      node-small 34 _ (omega arith)
-      (of-set p, (of-set q, (of-set r, (of-set t, (set-evidence-small e, (set-evidence-small f, tt))))))
-  set-evidence-small (set17 i p q r e f) =
-      node-small 34 _ (omega arith)
-      (of-set p, (of-set q, (of-set r, (set-evidence-small e, (set-evidence-small f, tt)))))
-  set-evidence-small (set18 i) = node-small 34 _ (omega arith) tt
-  set-evidence-small (set19 i) = node-small 34 _ (omega arith) tt
-
-  pub flow-small : (e : FlowEvidence) → SmallPart (flowPart limits e)
-  unfolding flowNode
-  flow-small (flow1 i) = node-small 33 _ (omega arith) tt
-  flow-small (flow2 i p e f) = node-small 33 _ (omega arith) (of-set p, (flow-small e, (flow-small f, tt)))
-  flow-small (flow3 i) = node-small 33 _ (omega arith) tt
-  flow-small (flow4 i) = node-small 33 _ (omega arith) tt
-  flow-small (flow5 i) = node-small 33 _ (omega arith) tt
-  flow-small (flow6 i p q φ e f n) =
-      node-small 33 _ (omega arith)
-      (of-set p, (of-set q, (of-expression φ, (flow-small e, (flow-small f, (pre-small n, tt))))))
-  flow-small (flow7 i p s e) = node-small 33 _ (omega arith) (of-set p, (set-evidence-small s, (flow-small e, tt)))
-  flow-small (flow8 i p e s) = node-small 33 _ (omega arith) (of-set p, (flow-small e, (set-evidence-small s, tt)))
-  flow-small (flow9 i p q r t e f) =
-      node-small 33 _ (omega arith)
-      (of-set p, (of-set q, (of-set r, (of-set t, (flow-small e, (flow-small f, tt))))))
-  flow-small (flow10 i) = node-small 33 _ (omega arith) tt
-  flow-small (flow11 i n) = node-small 33 _ (omega arith) (pre-small n, tt)
-  flow-small (flow12 i p q φ ψ e n) =
-      node-small 33 _ (omega arith)
-      (of-set p, (of-set q, (of-expression φ, (of-expression ψ, (flow-small e, (pre-small n, tt))))))
-  flow-small (flow13 i e) = node-small 33 _ (omega arith) (flow-small e, tt)
-  flow-small (flow14 i c e) = node-small 33 _ (omega arith) (of-command c, (flow-small e, tt))
-
-  pub parts-small : (f : File) → EachFits (fileParts limits f) (limits .depth) 1 → AllSmall (joined (fileParts limits f))
+  pub parts-small : (f : File) → EachFits (fileParts Γ f) (Γ .limits .depth) 1 → AllSmall (joined (fileParts Γ f))
+  unfolding joined EachFits
   parts-small f h =
-      joined-small (fileParts limits f)
-      (of-command (f .program), (of-set (f .pre), (of-set (f .post), (flow-small (f .evidence), tt))))
-      (limits .depth) 1 h
+      let d = Γ .limits .depth in
+      small-append (commandWords (f .program)) _ (command-small d (f .program) (h .0))
+      (small-append (setWords (f .pre)) _ (set-small Γ d (f .pre) (h .1 .0))
+      (small-append (setWords (f .post)) _ (set-small Γ d (f .post) (h .1 .1 .0))
+      (small-append (spelledTree (f .evidence)) _ (tree-small (f .evidence) d _ (h .1 .1 .1 .0)) tt)))
 
 -- ---- kinds and payloads
 abbrev pub kindOf : Word → ℕ

@@ -12,7 +12,7 @@ use lib.ListN.{length}
 use Rattle.language.specs.Syntax.{Sort, Arithmetic, Boolean, Array, Expr, Command}
 use Rattle.rules.specs.Words.{Word, word, words, commandWords, operatorPayload, comparisonPayload, truthPayload}
 use Rattle.rules.specs.Assertion.{Member, Members}
-use Rattle.rules.specs.Context.{Limits}
+use Rattle.rules.specs.Context.{Context}
 use Rattle.layout.specs.Bytes.{wordCount, kindAt}
 use Rattle.layout.specs.Reading.{read, Reader, several}
 use Rattle.layout.specs.Read.{operatorOf, comparisonOf, truthOf}
@@ -166,8 +166,8 @@ module _ (file : List ℕ) where
       start _ (λ φ q s m p t. rw (t φ .1) (both s (t φ .0)))
       ▹ (λ q. past-yields (expression-past d Boolean q)) ▹ consequent-yields d
 
-  abbrev pub SetAt : Limits → ℕ → ℕ → Members → ℕ → Type 0
-  SetAt limits d at m p = Stands file (setWords m) (FitsSet limits m d) at p
+  abbrev pub SetAt : Context → ℕ → ℕ → Members → ℕ → Type 0
+  SetAt Γ d at m p = Stands file (setWords m) (FitsSet Γ m d) at p
 
   abbrev MembersAt : ℕ → Members → ℕ → ℕ → Type 0
   MembersAt d m at p = Stands file (membersWords m) (FitsMembers m d) at p
@@ -179,19 +179,19 @@ module _ (file : List ℕ) where
       several-yields (MembersAt d) (λ q. alone tt) (λ m l q r p s t. both s t) (member-yields d) n at
 
   -- a set's word before its members
-  set-after : (limits : Limits) (d at k p : ℕ) → Found file at k p → k ≡ 32 → p ≤ limits .members →
-      (m : Members) (q : ℕ) → MembersAt d m (at + 1) q × (length m ≡ p) → SetAt limits (suc d) at m q
+  set-after : (Γ : Context) (d at k p : ℕ) → Found file at k p → k ≡ 32 → p ≤ Γ .limits .members →
+      (m : Members) (q : ℕ) → MembersAt d m (at + 1) q × (length m ≡ p) → SetAt Γ (suc d) at m q
   unfolding FitsSet
-  set-after limits d at k p f e h m q s =
+  set-after Γ d at k p f e h m q s =
       after f e (s .1) (too (rw (s .1) h, rw (s .1) (f .small)) (s .0))
 
-  pub set-past : (limits : Limits) (d at : ℕ) → Past file at (SetAt limits d at) (set limits file d)
+  pub set-past : (Γ : Context) (d at : ℕ) → Past file at (SetAt Γ d at) (set Γ file d)
   unfolding set
-  set-past limits zero at = level-past at _
-  set-past limits (suc d) at =
+  set-past Γ zero at = level-past at _
+  set-past Γ (suc d) at =
       due-past at _ λ k p f.
-      entry k 32 (λ e. up-to (limits .members) p _ λ h.
-      yields-map (set-after limits d at k p f e h) (members-yields d p (at + 1))) nothing
+      entry k 32 (λ e. up-to (Γ .limits .members) p _ λ h.
+      yields-map (set-after Γ d at k p f e h) (members-yields d p (at + 1))) nothing
 
 -- the laws of what was read
 pub past-read : {A : Type 0} (file : List ℕ) {at : ℕ} {T : A → ℕ → Type 0} (r : Reader A) (a : A) (p : ℕ) →
@@ -214,6 +214,6 @@ pub command-spelled :
 command-spelled file d at c p h = spelled (past-read file (command file d) c p (command-past file d at) h .2)
 
 pub set-spelled :
-    (limits : Limits) (file : List ℕ) (d at : ℕ) (m : Members) (p : ℕ) → set limits file d at ≡ read m p →
-    SpelledAt file at (setWords m) × (p ≡ at + length (setWords m)) × FitsSet limits m d
-set-spelled limits file d at m p h = spelled (past-read file (set limits file d) m p (set-past file limits d at) h .2)
+    (Γ : Context) (file : List ℕ) (d at : ℕ) (m : Members) (p : ℕ) → set Γ file d at ≡ read m p →
+    SpelledAt file at (setWords m) × (p ≡ at + length (setWords m)) × FitsSet Γ m d
+set-spelled Γ file d at m p h = spelled (past-read file (set Γ file d) m p (set-past file Γ d at) h .2)

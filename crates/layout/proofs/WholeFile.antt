@@ -13,88 +13,90 @@ use native.Mathlib.Omega.{arith}
 use borrow.Author.Tests.{eqb-true, eq-eqb, ltb-false, le-ltb}
 use lib.Dec.{eqb, ltb}
 use lib.ListN.{length}
-use Rattle.rules.specs.Context.{Limits}
+use Rattle.rules.specs.Context.{Context}
+use Rattle.rules.specs.Evidence.{flow}
 use Rattle.layout.specs.Bytes.{wordCount, numberAt}
 use Rattle.layout.specs.Reading.{Reading, read, fault, Reader, onRead, leaf, _⊛_}
 use Rattle.layout.specs.Read.{command, set}
-use Rattle.layout.specs.ReadEvidence.{flowEvidence}
+use Rattle.layout.specs.ReadEvidence as reading
 use Rattle.layout.specs.For.{firstUnsteady}
 use Rattle.layout.specs.File.{File, made, here, parts, steadyFile, finish, wordsRead}
 use Rattle.layout.specs.Spelling.{setWords}
-use Rattle.layout.specs.EvidenceWords.{commandPart, setPart, flowPart, joined}
+use Rattle.layout.specs.EvidenceWords.{commandPart, setPart, treePart, joined}
 use Rattle.layout.specs.FileWords.{fileParts, FileSpelled}
 use Rattle.layout.specs.Standing.{PartStands}
 use Rattle.layout.proofs.Stands.{chain-stands, stands-chain, stands-inside}
 use Rattle.layout.proofs.Yields.{FaultAt, Yields, YieldsBy, past-yields, start, _▹_, yields-here}
 use Rattle.layout.proofs.Spelled.{CommandAt, SetAt, command-past, set-past, spelled}
-use Rattle.layout.proofs.SpelledEvidence.{FlowAt, flow-past}
+use Rattle.layout.proofs.SpelledEvidence.{TreeAt, head-inside, evidence-past}
 use Rattle.layout.proofs.Back.{Back, begun, _⊲_, command-stands, set-stands, stands-from}
-use Rattle.layout.proofs.BackEvidence.{flow-stands}
+use Rattle.layout.proofs.BackEvidence.{evidence-stands}
 
 there : (at : ℕ) → Back here at at at
 there at = record { back = refl }
 
-module _ (limits : Limits) (file : List ℕ) where
+module _ (Γ : Context) (file : List ℕ) where
   -- the four parts stand one after the other, up to p
   pub record PartsTo (f : File) (p : ℕ) : Type 0 where
-    pub program : PartStands file (commandPart (f .program)) (limits .depth) 1 (f .preAt)
-    pub pre : PartStands file (setPart limits (f .pre)) (limits .depth) (f .preAt) (f .postAt)
-    pub post : PartStands file (setPart limits (f .post)) (limits .depth) (f .postAt) (f .evidenceAt)
-    pub evidence : PartStands file (flowPart limits (f .evidence)) (limits .depth) (f .evidenceAt) p
+    pub program : PartStands file (commandPart (f .program)) (Γ .limits .depth) 1 (f .preAt)
+    pub pre : PartStands file (setPart Γ (f .pre)) (Γ .limits .depth) (f .preAt) (f .postAt)
+    pub post : PartStands file (setPart Γ (f .post)) (Γ .limits .depth) (f .postAt) (f .evidenceAt)
+    pub evidence : PartStands file (treePart Γ (f .evidence)) (Γ .limits .depth) (f .evidenceAt) p
 
   -- the reader of `parts`
   abbrev reader : Reader File
   reader =
-      leaf made ⊛ command file (limits .depth) ⊛ here ⊛ set limits file (limits .depth) ⊛ here
-      ⊛ set limits file (limits .depth) ⊛ here ⊛ flowEvidence limits file (limits .depth)
+      leaf made ⊛ command file (Γ .limits .depth) ⊛ here ⊛ set Γ file (Γ .limits .depth) ⊛ here
+      ⊛ set Γ file (Γ .limits .depth) ⊛ here ⊛ reading.evidence Γ file (Γ .limits .depth) flow
 
   reader-yields : Yields file 1 PartsTo reader
   reader-yields =
-      let program : (q : ℕ) → Yields file q (CommandAt file (limits .depth) q) (command file (limits .depth)) =
-      λ q. past-yields (command-past file (limits .depth) q) in
-      let members : (q : ℕ) → Yields file q (SetAt file limits (limits .depth) q) (set limits file (limits .depth)) =
-      λ q. past-yields (set-past file limits (limits .depth) q) in
+      let program : (q : ℕ) → Yields file q (CommandAt file (Γ .limits .depth) q) (command file (Γ .limits .depth)) =
+      λ q. past-yields (command-past file (Γ .limits .depth) q) in
+      let members : (q : ℕ) → Yields file q (SetAt file Γ (Γ .limits .depth) q) (set Γ file (Γ .limits .depth)) =
+      λ q. past-yields (set-past file Γ (Γ .limits .depth) q) in
       let evidence :
-      (q : ℕ) → Yields file q (FlowAt file limits (limits .depth) q) (flowEvidence limits file (limits .depth)) =
-      λ q. past-yields (flow-past file limits (limits .depth) q) in
+      (q : ℕ) → Yields file q (TreeAt Γ file (Γ .limits .depth) q) (reading.evidence Γ file (Γ .limits .depth) flow) =
+      λ q. past-yields (evidence-past Γ file (Γ .limits .depth) flow q) in
       yields-here (yields-here (yields-here
       (start _ (λ c a s m b t n e u k p v. record { program = s; pre = t; post = u; evidence = v })
       ▹ program) ▹ members) ▹ members) ▹ evidence
 
-  pub parts-yields : YieldsBy file 1 PartsTo (parts limits file)
+  pub parts-yields : YieldsBy file 1 PartsTo (parts Γ file)
   unfolding parts
   parts-yields = reader-yields .yields
 
   -- a refusal 3, 4 or 5
-  pub parts-fault : (n p : ℕ) → parts limits file ≡ fault n p → 1 ≤ wordCount file → FaultAt file 1 n p
+  pub parts-fault : (n p : ℕ) → parts Γ file ≡ fault n p → 1 ≤ wordCount file → FaultAt file 1 n p
   parts-fault n p e = subst (λ x. YieldsBy file 1 PartsTo x) e parts-yields
 
-  pub parts-stand : (f : File) (p : ℕ) → PartsTo f p → parts limits file ≡ read f p
+  pub parts-stand : (f : File) (p : ℕ) → PartsTo f p → parts Γ file ≡ read f p
   unfolding parts
   parts-stand f p h =
       let law : Back reader 1 f p =
-      begun refl ⊲ command-stands file (limits .depth) (f .program) 1 (f .preAt) (h .program) ⊲ there _
-      ⊲ set-stands file limits (limits .depth) (f .pre) (f .preAt) (f .postAt) (h .pre) ⊲ there _
-      ⊲ set-stands file limits (limits .depth) (f .post) (f .postAt) (f .evidenceAt) (h .post) ⊲ there _
-      ⊲ flow-stands file limits (limits .depth) (f .evidence) (f .evidenceAt) p (h .evidence) in
+      begun refl ⊲ command-stands file (Γ .limits .depth) (f .program) 1 (f .preAt) (h .program) ⊲ there _
+      ⊲ set-stands file Γ (Γ .limits .depth) (f .pre) (f .preAt) (f .postAt) (h .pre) ⊲ there _
+      ⊲ set-stands file Γ (Γ .limits .depth) (f .post) (f .postAt) (f .evidenceAt) (h .post) ⊲ there _
+      ⊲ evidence-stands Γ file (Γ .limits .depth) (f .evidence) (f .evidenceAt) p (h .evidence) in
       law .back
 
   -- what refusals 2 to 7 leave of a file
   pub record FileRead (f : File) (p : ℕ) : Type 0 where
-    pub spelled : FileSpelled limits file f
-    pub steady : firstUnsteady limits file (wordCount file) 0 ≡ none
+    pub spelled : FileSpelled Γ file f
+    pub steady : firstUnsteady Γ file (wordCount file) 0 ≡ none
     pub end : p ≡ wordCount file
 
   parts-inside : (f : File) (p : ℕ) → PartsTo f p → p ≤ wordCount file
   parts-inside f p h =
       let s = h .evidence .stand in
-      stands-inside file (f .evidenceAt) (flowPart limits (f .evidence) .spelling) p s (omega (arith, s .0))
+      stands-inside file (f .evidenceAt) (treePart Γ (f .evidence) .spelling) p s
+      (omega (arith, head-inside Γ file (f .evidence) (Γ .limits .depth) (f .evidenceAt) p (h .evidence)))
 
   parts-spelled : (f : File) (p : ℕ) → PartsTo f p → numberAt file 0 ≡ 63 * 67108864 + wordCount file →
-      p ≡ wordCount file → FileSpelled limits file f
+      p ≡ wordCount file → FileSpelled Γ file f
   parts-spelled f p h e k =
-      let l = fileParts limits f in
-      let s = chain-stands {file = file} l (limits .depth) 1 p
+      let l = fileParts Γ f in
+      let s = chain-stands {file = file} l (Γ .limits .depth) 1 p
       (f .preAt, h .program, (f .postAt, h .pre, (f .evidenceAt, h .post, (p, h .evidence, refl)))) in
       record {
         count = e;
@@ -113,24 +115,24 @@ module _ (limits : Limits) (file : List ℕ) where
 
   -- 7
   steady-read : (f : File) (p : ℕ) →
-      (firstUnsteady limits file (wordCount file) 0 ≡ none → FileRead f p) →
-      IfRead FileRead (steadyFile limits file f p)
+      (firstUnsteady Γ file (wordCount file) 0 ≡ none → FileRead f p) →
+      IfRead FileRead (steadyFile Γ file f p)
   unfolding steadyFile
-  steady-read f p k = go (firstUnsteady limits file (wordCount file) 0) refl
+  steady-read f p k = go (firstUnsteady Γ file (wordCount file) 0) refl
     where
-      go : (o : Option ℕ) → firstUnsteady limits file (wordCount file) 0 ≡ o →
+      go : (o : Option ℕ) → firstUnsteady Γ file (wordCount file) 0 ≡ o →
           IfRead FileRead (elim o [ none ↦ read f p | some at ↦ fault 7 at ])
       go none e = k e
       go (some at) e = tt
 
   -- 6
   finish-read : (f : File) (p : ℕ) → numberAt file 0 ≡ 63 * 67108864 + wordCount file →
-      PartsTo f p → IfRead FileRead (finish limits file f p)
+      PartsTo f p → IfRead FileRead (finish Γ file f p)
   unfolding finish
   finish-read f p e h = go (ltb p (wordCount file)) refl
     where
       go : (t : Bool) → ltb p (wordCount file) ≡ t →
-          IfRead FileRead (elim t [ true ↦ fault 6 p | false ↦ steadyFile limits file f p ])
+          IfRead FileRead (elim t [ true ↦ fault 6 p | false ↦ steadyFile Γ file f p ])
       go true t = tt
       go false t =
           let k = ltb-false p (wordCount file) t in
@@ -140,55 +142,55 @@ module _ (limits : Limits) (file : List ℕ) where
 
   -- 3 to 7
   parts-read : (x : Reading File) → numberAt file 0 ≡ 63 * 67108864 + wordCount file →
-      YieldsBy file 1 PartsTo x → IfRead FileRead (onRead x (finish limits file))
+      YieldsBy file 1 PartsTo x → IfRead FileRead (onRead x (finish Γ file))
   parts-read (read f p) e h = finish-read f p e (h .1)
   parts-read (fault n p) e h = tt
 
   -- 2 to 7
-  words-read : IfRead FileRead (wordsRead limits file)
+  words-read : IfRead FileRead (wordsRead Γ file)
   unfolding wordsRead
   words-read = go (eqb (numberAt file 0) (63 * 67108864 + wordCount file)) refl
     where
       go : (t : Bool) → eqb (numberAt file 0) (63 * 67108864 + wordCount file) ≡ t →
-          IfRead FileRead (elim t [ true ↦ onRead (parts limits file) (finish limits file) | false ↦ fault 2 0 ])
-      go true e = parts-read (parts limits file) (eqb-true _ _ e) parts-yields
+          IfRead FileRead (elim t [ true ↦ onRead (parts Γ file) (finish Γ file) | false ↦ fault 2 0 ])
+      go true e = parts-read (parts Γ file) (eqb-true _ _ e) parts-yields
       go false e = tt
 
-  pub file-spelled : (f : File) (p : ℕ) → wordsRead limits file ≡ read f p → FileRead f p
+  pub file-spelled : (f : File) (p : ℕ) → wordsRead Γ file ≡ read f p → FileRead f p
   file-spelled f p e = subst (λ x. IfRead FileRead x) e words-read
 
   -- the parts at the places that a file has for them
-  placed : (f : File) (p a b c : ℕ) → FileSpelled limits file f →
-      PartStands file (commandPart (f .program)) (limits .depth) 1 a →
-      PartStands file (setPart limits (f .pre)) (limits .depth) a b →
-      PartStands file (setPart limits (f .post)) (limits .depth) b c →
-      PartStands file (flowPart limits (f .evidence)) (limits .depth) c p → PartsTo f p
+  placed : (f : File) (p a b c : ℕ) → FileSpelled Γ file f →
+      PartStands file (commandPart (f .program)) (Γ .limits .depth) 1 a →
+      PartStands file (setPart Γ (f .pre)) (Γ .limits .depth) a b →
+      PartStands file (setPart Γ (f .post)) (Γ .limits .depth) b c →
+      PartStands file (treePart Γ (f .evidence)) (Γ .limits .depth) c p → PartsTo f p
   placed f p a b c h s t u v =
       let i : a ≡ f .preAt = spelled s .1 ∙ sym (h .preStarts) in
       let j : b ≡ f .postAt = spelled t .1 ∙ ap (λ q. q + length (setWords (f .pre))) i ∙ sym (h .postStarts) in
       let k : c ≡ f .evidenceAt =
       spelled u .1 ∙ ap (λ q. q + length (setWords (f .post))) j ∙ sym (h .evidenceStarts) in
       record {
-        program = subst (λ q. PartStands file (commandPart (f .program)) (limits .depth) 1 q) i s;
-        pre = subst₂ (λ q r. PartStands file (setPart limits (f .pre)) (limits .depth) q r) i j t;
-        post = subst₂ (λ q r. PartStands file (setPart limits (f .post)) (limits .depth) q r) j k u;
-        evidence = subst (λ q. PartStands file (flowPart limits (f .evidence)) (limits .depth) q p) k v;
+        program = subst (λ q. PartStands file (commandPart (f .program)) (Γ .limits .depth) 1 q) i s;
+        pre = subst₂ (λ q r. PartStands file (setPart Γ (f .pre)) (Γ .limits .depth) q r) i j t;
+        post = subst₂ (λ q r. PartStands file (setPart Γ (f .post)) (Γ .limits .depth) q r) j k u;
+        evidence = subst (λ q. PartStands file (treePart Γ (f .evidence)) (Γ .limits .depth) q p) k v;
       }
 
-  spelled-parts : (f : File) → FileSpelled limits file f → PartsTo f (wordCount file)
+  spelled-parts : (f : File) → FileSpelled Γ file f → PartsTo f (wordCount file)
   spelled-parts f h =
-      let l = fileParts limits f in
-      let x = stands-chain {file = file} l (limits .depth) 1 _ (stands-from (joined l) (h .spelled) (h .fits)) in
-      let v = subst (λ q. PartStands file (flowPart limits (f .evidence)) (limits .depth) (x .2 .2 .0) q)
+      let l = fileParts Γ f in
+      let x = stands-chain {file = file} l (Γ .limits .depth) 1 _ (stands-from (joined l) (h .spelled) (h .fits)) in
+      let v = subst (λ q. PartStands file (treePart Γ (f .evidence)) (Γ .limits .depth) (x .2 .2 .0) q)
       (x .2 .2 .2 .2 ∙ sym (h .whole)) (x .2 .2 .2 .1) in
       placed f (wordCount file) (x .0) (x .2 .0) (x .2 .2 .0) h (x .1) (x .2 .1) (x .2 .2 .1) v
 
-  finish-back : (f : File) → firstUnsteady limits file (wordCount file) 0 ≡ none →
-      finish limits file f (wordCount file) ≡ read f (wordCount file)
+  finish-back : (f : File) → firstUnsteady Γ file (wordCount file) 0 ≡ none →
+      finish Γ file f (wordCount file) ≡ read f (wordCount file)
   unfolding finish steadyFile
   finish-back f e = rw (le-ltb (wordCount file) (wordCount file) (omega arith), finish) (rw (e, steadyFile) refl)
 
-  pub file-back : (f : File) (p : ℕ) → FileRead f p → wordsRead limits file ≡ read f p
+  pub file-back : (f : File) (p : ℕ) → FileRead f p → wordsRead Γ file ≡ read f p
   unfolding wordsRead
   file-back f p h =
       rw (eq-eqb _ _ (h .spelled .count), wordsRead)

@@ -15,12 +15,12 @@ use lib.Dec.{eqb, ltb}
 use lib.ListN.{length}
 use Rattle.language.specs.Syntax.{Command}
 use Rattle.rules.specs.Assertion.{Members}
-use Rattle.rules.specs.Context.{Limits}
-use Rattle.rules.specs.Evidence.{FlowEvidence}
+use Rattle.rules.specs.Context.{Context}
+use Rattle.rules.specs.Evidence.{flow, FlowEvidence}
 use Rattle.layout.specs.Bytes.{wordsOf, wordCount, numberAt}
 use Rattle.layout.specs.Reading.{Reading, read, fault, Reader, onRead, leaf, _⊛_}
 use Rattle.layout.specs.Read.{command, set}
-use Rattle.layout.specs.ReadEvidence.{flowEvidence}
+use Rattle.layout.specs.ReadEvidence.{evidence}
 use Rattle.layout.specs.For.{firstUnsteady}
 
 pub record File : Type 0 where
@@ -41,26 +41,26 @@ abbrev pub here : Reader ℕ
 here at = read at at
 
 -- each part is outermost
-unfoldable pub parts : Limits → List ℕ → Reading File
-parts limits file =
-    let d = limits .depth in
-    (leaf made ⊛ command file d ⊛ here ⊛ set limits file d ⊛ here ⊛ set limits file d ⊛ here
-    ⊛ flowEvidence limits file d) 1
+unfoldable pub parts : Context → List ℕ → Reading File
+parts Γ file =
+    let d = Γ .limits .depth in
+    (leaf made ⊛ command file d ⊛ here ⊛ set Γ file d ⊛ here ⊛ set Γ file d ⊛ here
+    ⊛ evidence Γ file d flow) 1
 
 -- refusal 7: a `for` that is not well formed
-unfoldable pub steadyFile : Limits → List ℕ → File → ℕ → Reading File
-steadyFile limits file f p =
-    elim (firstUnsteady limits file (wordCount file) 0) [ none ↦ read f p | some at ↦ fault 7 at ]
+unfoldable pub steadyFile : Context → List ℕ → File → ℕ → Reading File
+steadyFile Γ file f p =
+    elim (firstUnsteady Γ file (wordCount file) 0) [ none ↦ read f p | some at ↦ fault 7 at ]
 
 -- refusal 6: words follow the evidence; then 7
-unfoldable pub finish : Limits → List ℕ → File → ℕ → Reading File
-finish limits file f p = elim (ltb p (wordCount file)) [ true ↦ fault 6 p | false ↦ steadyFile limits file f p ]
+unfoldable pub finish : Context → List ℕ → File → ℕ → Reading File
+finish Γ file f p = elim (ltb p (wordCount file)) [ true ↦ fault 6 p | false ↦ steadyFile Γ file f p ]
 
 -- refusal 2: word 0 is not 63:n; then 3 to 7
-unfoldable pub wordsRead : Limits → List ℕ → Reading File
-wordsRead limits file =
+unfoldable pub wordsRead : Context → List ℕ → Reading File
+wordsRead Γ file =
     elim (eqb (numberAt file 0) (63 * 67108864 + wordCount file)) [
-      | true ↦ onRead (parts limits file) (finish limits file)
+      | true ↦ onRead (parts Γ file) (finish Γ file)
       | false ↦ fault 2 0
     ]
 
@@ -68,5 +68,5 @@ wordsRead limits file =
 abbrev pub badLength : List ℕ → Bool
 badLength bytes = eqb (length bytes) 0 || (ltb 32768 (length bytes) || not (eqb (length bytes % 4) 0))
 
-unfoldable pub fileOf : Limits → List ℕ → Reading File
-fileOf limits bytes = elim (badLength bytes) [ true ↦ fault 1 0 | false ↦ wordsRead limits (wordsOf bytes) ]
+unfoldable pub fileOf : Context → List ℕ → Reading File
+fileOf Γ bytes = elim (badLength bytes) [ true ↦ fault 1 0 | false ↦ wordsRead Γ (wordsOf bytes) ]

@@ -9,21 +9,21 @@ use Prim.Native.Nat.{ℕ, _+_}
 use lib.IntN.{pos}
 use lib.ListN.{length}
 use Rattle.rules.specs.Words.{word, commandWords}
-use Rattle.rules.specs.Context.{Limits}
+use Rattle.rules.specs.Context.{Context}
 use Rattle.layout.specs.Bytes.{wordCount, numberAt}
 use Rattle.layout.specs.Spelling.{encode, SpelledAt, setWords}
-use Rattle.layout.specs.EvidenceWords.{Part, commandPart, setPart, flowPart, joined, EachFits}
+use Rattle.layout.specs.EvidenceWords.{Part, commandPart, setPart, treePart, joined, EachFits}
 use Rattle.layout.specs.File.{File}
 
-abbrev pub fileParts : Limits → File → List Part
-fileParts limits f =
-    commandPart (f .program) ∷ setPart limits (f .pre) ∷ setPart limits (f .post) ∷ flowPart limits (f .evidence) ∷ []
+abbrev pub fileParts : Context → File → List Part
+fileParts Γ f =
+    commandPart (f .program) ∷ setPart Γ (f .pre) ∷ setPart Γ (f .post) ∷ treePart Γ (f .evidence) ∷ []
 
-pub record FileSpelled (limits : Limits) (file : List ℕ) (f : File) : Type 0 where
+pub record FileSpelled (Γ : Context) (file : List ℕ) (f : File) : Type 0 where
   pub count : numberAt file 0 ≡ encode (word 63 (pos (wordCount file)))
-  pub spelled : SpelledAt file 1 (joined (fileParts limits f))
-  pub whole : wordCount file ≡ 1 + length (joined (fileParts limits f))
-  pub fits : EachFits (fileParts limits f) (limits .depth) 1
+  pub spelled : SpelledAt file 1 (joined (fileParts Γ f))
+  pub whole : wordCount file ≡ 1 + length (joined (fileParts Γ f))
+  pub fits : EachFits (fileParts Γ f) (Γ .limits .depth) 1
   pub preStarts : f .preAt ≡ 1 + length (commandWords (f .program))
   pub postStarts : f .postAt ≡ f .preAt + length (setWords (f .pre))
   pub evidenceStarts : f .evidenceAt ≡ f .postAt + length (setWords (f .post))

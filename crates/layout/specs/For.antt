@@ -10,7 +10,7 @@ use Prim.Native.Nat.{ℕ, zero, suc}
 use lib.Dec.{eqb}
 use Rattle.language.specs.Syntax.{Command}
 use Rattle.language.specs.Modifies.{scalarOf, modifies}
-use Rattle.rules.specs.Context.{Limits}
+use Rattle.rules.specs.Context.{Context}
 use Rattle.rules.specs.Condition.{onFor}
 use Rattle.layout.specs.Bytes.{kindAt}
 use Rattle.layout.specs.Reading.{Reading, read, fault}
@@ -26,11 +26,11 @@ unsteady (read c p) = onFor c false λ q m c₁. not (steady q m c₁)
 unsteady (fault n p) = false
 
 -- in a file that was read, the words of kind 31 are its `for`s, those of its program and those that evidence carries
-unfoldable pub unsteadyAt : Limits → List ℕ → ℕ → Bool
-unsteadyAt limits file at =
-    elim (eqb (kindAt file at) 31) [ true ↦ unsteady (command file (limits .depth) at) | false ↦ false ]
+unfoldable pub unsteadyAt : Context → List ℕ → ℕ → Bool
+unsteadyAt Γ file at =
+    elim (eqb (kindAt file at) 31) [ true ↦ unsteady (command file (Γ .limits .depth) at) | false ↦ false ]
 
-unfoldable pub firstUnsteady : Limits → List ℕ → ℕ → ℕ → Option ℕ
-firstUnsteady limits file zero at = none
-firstUnsteady limits file (suc n) at =
-    elim (unsteadyAt limits file at) [ true ↦ some at | false ↦ firstUnsteady limits file n (suc at) ]
+unfoldable pub firstUnsteady : Context → List ℕ → ℕ → ℕ → Option ℕ
+firstUnsteady Γ file zero at = none
+firstUnsteady Γ file (suc n) at =
+    elim (unsteadyAt Γ file at) [ true ↦ some at | false ↦ firstUnsteady Γ file n (suc at) ]

@@ -15,7 +15,7 @@ use Rattle.language.specs.Syntax.{Sort, Arithmetic, Boolean, Array, Expr, const
 use Rattle.language.specs.Syntax.{compare, truth, and, or, neg, array, zeros, update, toScalar, toArray}
 use Rattle.language.specs.Syntax.{Command, skip, sequence, assert, assign, ifElse, while, for}
 use Rattle.rules.specs.Assertion.{Member, Members, member}
-use Rattle.rules.specs.Context.{Limits}
+use Rattle.rules.specs.Context.{Context}
 use Rattle.layout.specs.Bytes.{kindAt, signed}
 use Rattle.layout.specs.Reading.{Reader, leaf, _⊛_, several, noLevel, wordDue, allow, upTo, onOption}
 
@@ -93,7 +93,7 @@ consequentAt file d at = (leaf (λ e φ. member φ e) ⊛ expression file d (sor
 abbrev pub memberAt : List ℕ → ℕ → Reader Member
 memberAt file d = leaf (λ φ f. f φ) ⊛ expression file d Boolean ⊛ consequentAt file d
 
-unfoldable pub set : Limits → List ℕ → ℕ → Reader Members
-set limits file zero at = noLevel file at
-set limits file (suc d) at =
-    wordDue file (λ _ k p. allow k ((32, upTo (limits .members) p (several p (memberAt file d))) ∷ [])) at
+unfoldable pub set : Context → List ℕ → ℕ → Reader Members
+set Γ file zero at = noLevel file at
+set Γ file (suc d) at =
+    wordDue file (λ _ k p. allow k ((32, upTo (Γ .limits .members) p (several p (memberAt file d))) ∷ [])) at

@@ -16,7 +16,7 @@ use Rattle.language.specs.Syntax.{array, zeros, update, toScalar, toArray}
 use Rattle.language.specs.Syntax.{Command, skip, sequence, assert, assign, ifElse, while, for}
 use Rattle.rules.specs.Words.{Word, word, forWord, words}
 use Rattle.rules.specs.Assertion.{Member, Members}
-use Rattle.rules.specs.Context.{Limits}
+use Rattle.rules.specs.Context.{Context}
 use Rattle.layout.specs.Bytes.{wordCount, numberAt}
 
 -- two's complement in 26 bits
@@ -78,6 +78,6 @@ FitsMembers [] d = Unit {0}
 FitsMembers (m ∷ p) d = (FitsExpression (m .antecedent) d × FitsExpression (m .consequent) d) × FitsMembers p d
 
 -- the count of members is within the limit and is a payload
-unfoldable pub FitsSet : Limits → Members → ℕ → Type 0
-FitsSet limits p zero = ⊥
-FitsSet limits p (suc d) = ((length p ≤ limits .members) × (length p < 67108864)) × FitsMembers p d
+unfoldable pub FitsSet : Context → Members → ℕ → Type 0
+FitsSet Γ p zero = ⊥
+FitsSet Γ p (suc d) = ((length p ≤ Γ .limits .members) × (length p < 67108864)) × FitsMembers p d

@@ -9,7 +9,7 @@
 use mathlib.Core.List.{List, []}
 use Prim.Native.Nat.{ℕ, _+_, _*_, _-_}
 use lib.ListN.{take, drop}
-use Rattle.rules.specs.Context.{Limits, Context}
+use Rattle.rules.specs.Context.{Context}
 use Rattle.rules.specs.Judge.{Verdict, accepted, refused, judgeFlow}
 use Rattle.layout.specs.Reading.{Reading, read, fault}
 use Rattle.layout.specs.File.{File, fileOf}
@@ -18,8 +18,8 @@ abbrev pub judged : Context → Reading File → Verdict
 judged Γ (read f p) = judgeFlow Γ (f .evidence) (f .pre) (f .program) (f .post)
 judged Γ (fault n p) = refused n p
 
-unfoldable pub verdictOf : Limits → List ℕ → Verdict
-verdictOf limits bytes = judged (record { limits = limits }) (fileOf limits bytes)
+unfoldable pub verdictOf : Context → List ℕ → Verdict
+verdictOf Γ bytes = judged Γ (fileOf Γ bytes)
 
 -- the bytes of the words from place a up to place b
 abbrev pub bytesBetween : List ℕ → ℕ → ℕ → List ℕ
@@ -31,29 +31,29 @@ partOf none (accepted n) (read f p) part = part f
 partOf none (accepted n) (fault k p) part = none
 partOf none (refused k i) r part = none
 
-unfoldable pub precondition : Limits → List ℕ → List ℕ
-precondition limits bytes =
-    partOf [] (verdictOf limits bytes) (fileOf limits bytes) λ f. bytesBetween bytes (f .preAt) (f .postAt)
+unfoldable pub precondition : Context → List ℕ → List ℕ
+precondition Γ bytes =
+    partOf [] (verdictOf Γ bytes) (fileOf Γ bytes) λ f. bytesBetween bytes (f .preAt) (f .postAt)
 
-unfoldable pub postcondition : Limits → List ℕ → List ℕ
-postcondition limits bytes =
-    partOf [] (verdictOf limits bytes) (fileOf limits bytes) λ f. bytesBetween bytes (f .postAt) (f .evidenceAt)
+unfoldable pub postcondition : Context → List ℕ → List ℕ
+postcondition Γ bytes =
+    partOf [] (verdictOf Γ bytes) (fileOf Γ bytes) λ f. bytesBetween bytes (f .postAt) (f .evidenceAt)
 
 -- the places of a part as one number, first × 65,536 + the place past its last word; 0 if the file is refused
 abbrev pub packedPlaces : ℕ → ℕ → ℕ
 packedPlaces first past = first * 65536 + past
 
-unfoldable pub programPlaces : Limits → List ℕ → ℕ
-programPlaces limits bytes =
-    partOf 0 (verdictOf limits bytes) (fileOf limits bytes) λ f. packedPlaces 1 (f .preAt)
+unfoldable pub programPlaces : Context → List ℕ → ℕ
+programPlaces Γ bytes =
+    partOf 0 (verdictOf Γ bytes) (fileOf Γ bytes) λ f. packedPlaces 1 (f .preAt)
 
-unfoldable pub preconditionPlaces : Limits → List ℕ → ℕ
-preconditionPlaces limits bytes =
-    partOf 0 (verdictOf limits bytes) (fileOf limits bytes) λ f. packedPlaces (f .preAt) (f .postAt)
+unfoldable pub preconditionPlaces : Context → List ℕ → ℕ
+preconditionPlaces Γ bytes =
+    partOf 0 (verdictOf Γ bytes) (fileOf Γ bytes) λ f. packedPlaces (f .preAt) (f .postAt)
 
-unfoldable pub postconditionPlaces : Limits → List ℕ → ℕ
-postconditionPlaces limits bytes =
-    partOf 0 (verdictOf limits bytes) (fileOf limits bytes) λ f. packedPlaces (f .postAt) (f .evidenceAt)
+unfoldable pub postconditionPlaces : Context → List ℕ → ℕ
+postconditionPlaces Γ bytes =
+    partOf 0 (verdictOf Γ bytes) (fileOf Γ bytes) λ f. packedPlaces (f .postAt) (f .evidenceAt)
 
 -- number × 65,536 + place, or the count
 abbrev pub packed : Verdict → ℕ

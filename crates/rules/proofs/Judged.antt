@@ -11,18 +11,18 @@ use Rattle.rules.specs.Assertion.{Members}
 use Rattle.rules.specs.Context.{Context}
 use Rattle.rules.specs.Sets.{operands, setIdentifiers}
 use Rattle.rules.specs.Tests.{same}
-use Rattle.rules.specs.Evidence.{PreEvidence, pre20, pre21, pre22, pre23, pre24, pre25, pre26, pre27, pre28}
-use Rattle.rules.specs.Evidence.{pre29, pre30, SetEvidence, set13, set14, set15, set16, set17, set18, set19}
-use Rattle.rules.specs.Evidence.{FlowEvidence, flow1, flow2, flow3, flow4, flow5, flow6, flow7, flow8, flow9}
-use Rattle.rules.specs.Evidence.{flow10, flow11, flow12, flow13, flow14}
+use Rattle.rules.specs.Evidence.{FlowEvidence, SetEvidence, PreEvidence, by, assertion, command, members, child}
+use Rattle.rules.specs.Evidence.{done, _&_, flow1, flow2, flow3, flow4, flow5, flow6, flow7, flow8, flow9, flow10}
+use Rattle.rules.specs.Evidence.{flow11, flow12, flow13, flow14, set13, set14, set15, set16, set17, set18, set19}
+use Rattle.rules.specs.Evidence.{pre20, pre21, pre22, pre23, pre24, pre25, pre26, pre27, pre28, pre29, pre30}
 use Rattle.rules.specs.Derivation.{Necessary, rule-20, rule-21, rule-22, rule-23, rule-24, rule-25, rule-26}
 use Rattle.rules.specs.Derivation.{rule-27, rule-28, rule-29, rule-30, Follows, set-rule-13, set-rule-14}
 use Rattle.rules.specs.Derivation.{set-rule-15, set-rule-16, set-rule-17, set-rule-18, set-rule-19, Flow}
 use Rattle.rules.specs.Derivation.{rule-1, rule-2, rule-3, rule-4, rule-5, rule-6, rule-7, rule-8, rule-9}
 use Rattle.rules.specs.Derivation.{rule-10, rule-11, rule-12, rule-13, rule-14}
 use Rattle.rules.specs.Condition.{Result, passes, fails, tooLarge, test, byForm, onEmpty, onOne, onSome}
-use Rattle.rules.specs.Judge.{Verdict, accepted, refused, oneMore, _also_, judgeWord, judgeLeaf}
-use Rattle.rules.specs.Judge.{judgePre, judgeSet, judgeFlow}
+use Rattle.rules.specs.Judge.{Verdict, accepted, refused, oneMore, _also_, Step, step, leaf, misfit, judgeWord}
+use Rattle.rules.specs.Judge.{preRule, setRule, flowRule, judge, judgePre, judgeSet, judgeFlow}
 use Rattle.rules.proofs.Decides.{sameWords-decides, sameAntecedent-decides, sameConsequent-decides}
 use Rattle.rules.proofs.Decides.{stands-decides, within-decides, same-decides, unmodified-decides}
 use Rattle.rules.proofs.Decides.{isEmpty-decides}
@@ -35,9 +35,17 @@ abbrev pub Accepts : Verdict → Type 0
 Accepts (accepted n) = Unit {0}
 Accepts (refused k i) = ⊥
 
+-- a word at place i whose rule comes to a step that is accepted
+abbrev Word : ℕ → Step → Type 0
+Word i s = Accepts (judgeWord i s)
+
+misfits : (i : ℕ) → Word i misfit → ⊥
+unfolding judgeWord
+misfits i h = h
+
 -- what the acceptance of a word says, and what it takes
 module _ {R : Type 0} where
-  word-is : (i : ℕ) (r : Result) (v : Verdict) → Accepts (judgeWord i r v) → (Passes r → Accepts v → R) → R
+  word-is : (i : ℕ) (r : Result) (v : Verdict) → Accepts (judgeWord i (step r v)) → (Passes r → Accepts v → R) → R
   unfolding judgeWord oneMore
   word-is i passes (accepted n) h k = k tt tt
   word-is i passes (refused j l) h k = absurd h
@@ -50,14 +58,14 @@ module _ {R : Type 0} where
   also-is (accepted m) (refused j l) h k = absurd h
   also-is (refused j l) w h k = absurd h
 
-word-accepts : (i : ℕ) (r : Result) (v : Verdict) → Passes r → Accepts v → Accepts (judgeWord i r v)
+word-accepts : (i : ℕ) (r : Result) (v : Verdict) → Passes r → Accepts v → Accepts (judgeWord i (step r v))
 unfolding judgeWord oneMore
 word-accepts i passes (accepted n) g h = tt
 word-accepts i passes (refused j l) g h = h
 word-accepts i fails v g h = g
 word-accepts i tooLarge v g h = g
 
-leaf-accepts : (i : ℕ) (r : Result) → Passes r → Accepts (judgeLeaf i r)
+leaf-accepts : (i : ℕ) (r : Result) → Passes r → Accepts (judgeWord i (leaf r))
 leaf-accepts i r h = word-accepts i r (accepted 0) h tt
 
 also-accepts : (v w : Verdict) → Accepts v → Accepts w → Accepts (v also w)
@@ -69,48 +77,48 @@ also-accepts (refused j l) w g h = g
 module _ (Γ : Context) where
   necessary-sound : (k : PreEvidence) (φ : Expr Boolean) (c : Command) (φ′ : Expr Boolean) →
       Accepts (judgePre Γ k φ c φ′) → Necessary Γ k φ c φ′
-  unfolding judgePre
-  necessary-sound (pre20 i φ₁ φ₂ k l) φ c φ′ h =
-      if-is Accepts _ (λ h. h) (λ c. Necessary Γ (pre20 i φ₁ φ₂ k l) φ c φ′) c _ h λ b c₁ c₂ h.
+  unfolding judge preRule
+  necessary-sound (by pre20 i (assertion φ₁ & assertion φ₂ & child k & child l & done)) φ c φ′ h =
+      if-is (Word i) _ (misfits i) (λ c. Necessary Γ (by pre20 i (assertion φ₁ & assertion φ₂ & child k & child l & done)) φ c φ′) c _ h λ b c₁ c₂ h.
       word-is i _ _ h λ g h. also-is _ _ h λ u v.
       rule-20 (test-passes (sameAntecedent-decides φ _) .sound g) (necessary-sound k φ₁ c₁ φ′ u)
       (necessary-sound l φ₂ c₂ φ′ v)
-  necessary-sound (pre21 i φ₀ k) φ c φ′ h =
-      while-is Accepts _ (λ h. h) (λ c. Necessary Γ (pre21 i φ₀ k) φ c φ′) c _ h λ b c₁ h.
+  necessary-sound (by pre21 i (assertion φ₀ & child k & done)) φ c φ′ h =
+      while-is (Word i) _ (misfits i) (λ c. Necessary Γ (by pre21 i (assertion φ₀ & child k & done)) φ c φ′) c _ h λ b c₁ h.
       word-is i _ _ h λ g u.
       let both = then-passes (implication-passes Γ _ φ) (implication-passes Γ _ φ) .sound g in
       rule-21 (both .0) (both .1) (necessary-sound k φ₀ c₁ φ u)
-  necessary-sound (pre22 i) φ c φ′ h =
-      skip-is Accepts _ (λ h. h) (λ c. Necessary Γ (pre22 i) φ c φ′) c _ h λ h.
+  necessary-sound (by pre22 i done) φ c φ′ h =
+      skip-is (Word i) _ (misfits i) (λ c. Necessary Γ (by pre22 i done) φ c φ′) c _ h λ h.
       word-is i _ _ h λ g u. rule-22 (test-passes (sameAntecedent-decides φ φ′) .sound g)
-  necessary-sound (pre23 i φ₁ k l) φ c φ′ h =
-      sequence-is Accepts _ (λ h. h) (λ c. Necessary Γ (pre23 i φ₁ k l) φ c φ′) c _ h λ c₁ c₂ h.
+  necessary-sound (by pre23 i (assertion φ₁ & child k & child l & done)) φ c φ′ h =
+      sequence-is (Word i) _ (misfits i) (λ c. Necessary Γ (by pre23 i (assertion φ₁ & child k & child l & done)) φ c φ′) c _ h λ c₁ c₂ h.
       word-is i _ _ h λ g h. also-is _ _ h λ u v.
       rule-23 (necessary-sound k φ c₁ φ₁ u) (necessary-sound l φ₁ c₂ φ′ v)
-  necessary-sound (pre24 i) φ c φ′ h =
-      scalar-is Accepts _ (λ h. h) (λ c. Necessary Γ (pre24 i) φ c φ′) c _ h λ x e h.
+  necessary-sound (by pre24 i done) φ c φ′ h =
+      scalar-is (Word i) _ (misfits i) (λ c. Necessary Γ (by pre24 i done) φ c φ′) c _ h λ x e h.
       word-is i _ _ h λ g u. rule-24 (test-passes (sameAntecedent-decides φ _) .sound g)
-  necessary-sound (pre25 i) φ c φ′ h =
-      array-is Accepts _ (λ h. h) (λ c. Necessary Γ (pre25 i) φ c φ′) c _ h λ a e h.
+  necessary-sound (by pre25 i done) φ c φ′ h =
+      array-is (Word i) _ (misfits i) (λ c. Necessary Γ (by pre25 i done) φ c φ′) c _ h λ a e h.
       word-is i _ _ h λ g u. rule-25 (test-passes (sameAntecedent-decides φ _) .sound g)
-  necessary-sound (pre26 i) φ c φ′ h =
-      assert-is Accepts _ (λ h. h) (λ c. Necessary Γ (pre26 i) φ c φ′) c _ h λ b h.
+  necessary-sound (by pre26 i done) φ c φ′ h =
+      assert-is (Word i) _ (misfits i) (λ c. Necessary Γ (by pre26 i done) φ c φ′) c _ h λ b h.
       word-is i _ _ h λ g u. rule-26 (test-passes (sameAntecedent-decides φ _) .sound g)
-  necessary-sound (pre27 i) φ c φ′ h = word-is i _ _ h λ g u.
+  necessary-sound (by pre27 i done) φ c φ′ h = word-is i _ _ h λ g u.
       let both = then-passes (test-passes (sameAntecedent-decides φ φ′))
       (test-passes (unmodified-decides (identifiers φ) c)) .sound g in
       rule-27 (both .0) (both .1)
-  necessary-sound (pre28 i φ₁ k) φ c φ′ h = word-is i _ _ h λ g u.
+  necessary-sound (by pre28 i (assertion φ₁ & child k & done)) φ c φ′ h = word-is i _ _ h λ g u.
       rule-28 (implication-passes Γ φ₁ φ .sound g) (necessary-sound k φ₁ c φ′ u)
-  necessary-sound (pre29 i) φ c φ′ h = word-is i _ _ h λ g u.
+  necessary-sound (by pre29 i done) φ c φ′ h = word-is i _ _ h λ g u.
       rule-29 (test-passes (sameAntecedent-decides φ _) .sound g)
-  necessary-sound (pre30 i d k) φ c φ′ h =
-      for-is Accepts _ (λ h. h) (λ c. Necessary Γ (pre30 i d k) φ c φ′) c _ h λ q m c₁ h.
+  necessary-sound (by pre30 i (command d & child k & done)) φ c φ′ h =
+      for-is (Word i) _ (misfits i) (λ c. Necessary Γ (by pre30 i (command d & child k & done)) φ c φ′) c _ h λ q m c₁ h.
       word-is i _ _ h λ g u. rule-30 (test-passes (sameWords-decides _ _) .sound g) (necessary-sound k φ d φ′ u)
 
   necessary-complete : {k : PreEvidence} {φ : Expr Boolean} {c : Command} {φ′ : Expr Boolean} →
       Necessary Γ k φ c φ′ → Accepts (judgePre Γ k φ c φ′)
-  unfolding judgePre byForm
+  unfolding judge preRule byForm
   necessary-complete (rule-20 {i = i} g u v) =
       word-accepts i _ _ (test-passes (sameAntecedent-decides _ _) .complete g)
       (also-accepts _ _ (necessary-complete u) (necessary-complete v))
@@ -134,34 +142,34 @@ module _ (Γ : Context) where
       word-accepts i _ _ (test-passes (sameWords-decides _ _) .complete g) (necessary-complete u)
 
   follows-sound : (k : SetEvidence) (p q : Members) → Accepts (judgeSet Γ k p q) → Follows Γ k p q
-  unfolding judgeSet
-  follows-sound (set13 i) p q h = word-is i _ _ h λ g u. set-rule-13 (test-passes (within-decides q p) .sound g)
-  follows-sound (set14 i) p q h =
-      empty-is Accepts _ (λ h. h) (λ p. Follows Γ (set14 i) p q) p _ h λ h.
+  unfolding judge setRule
+  follows-sound (by set13 i done) p q h = word-is i _ _ h λ g u. set-rule-13 (test-passes (within-decides q p) .sound g)
+  follows-sound (by set14 i done) p q h =
+      empty-is (Word i) _ (misfits i) (λ p. Follows Γ (by set14 i done) p q) p _ h λ h.
       word-is i _ _ h λ g u. set-rule-14 (eachImpliesFalse-passes Γ q .sound g)
-  follows-sound (set15 i) p q h =
-      empty-is Accepts _ (λ h. h) (λ p. Follows Γ (set15 i) p q) p _ h λ h.
-      one-is Accepts _ (λ h. h) (λ q. Follows Γ (set15 i) [] q) q _ h λ n h.
+  follows-sound (by set15 i done) p q h =
+      empty-is (Word i) _ (misfits i) (λ p. Follows Γ (by set15 i done) p q) p _ h λ h.
+      one-is (Word i) _ (misfits i) (λ q. Follows Γ (by set15 i done) [] q) q _ h λ n h.
       word-is i _ _ h λ g u. set-rule-15 (test-passes (isEmpty-decides _) .sound g)
-  follows-sound (set16 i s s′ t t′ k l) p q h = word-is i _ _ h λ g h. also-is _ _ h λ u v.
+  follows-sound (by set16 i (members s & members s′ & members t & members t′ & child k & child l & done)) p q h = word-is i _ _ h λ g h. also-is _ _ h λ u v.
       let both = then-passes (test-passes (same-decides p _)) (test-passes (same-decides q _)) .sound g in
       set-rule-16 (both .0) (both .1) (follows-sound k s s′ u) (follows-sound l t t′ v)
-  follows-sound (set17 i s s′ t k l) p q h = word-is i _ _ h λ g h. also-is _ _ h λ u v.
+  follows-sound (by set17 i (members s & members s′ & members t & child k & child l & done)) p q h = word-is i _ _ h λ g h. also-is _ _ h λ u v.
       set-rule-17 (test-passes (same-decides p _) .sound g) (follows-sound k s s′ u) (follows-sound l t q v)
-  follows-sound (set18 i) p q h =
-      one-is Accepts _ (λ h. h) (λ p. Follows Γ (set18 i) p q) p _ h λ m h.
-      one-is Accepts _ (λ h. h) (λ q. Follows Γ (set18 i) (m ∷ []) q) q _ h λ n h.
+  follows-sound (by set18 i done) p q h =
+      one-is (Word i) _ (misfits i) (λ p. Follows Γ (by set18 i done) p q) p _ h λ m h.
+      one-is (Word i) _ (misfits i) (λ q. Follows Γ (by set18 i done) (m ∷ []) q) q _ h λ n h.
       word-is i _ _ h λ g u.
       let both = then-passes (test-passes (sameConsequent-decides (m .consequent) (n .consequent)))
       (implication-passes Γ _ _) .sound g in
       set-rule-18 (both .0) (both .1)
-  follows-sound (set19 i) p q h =
-      one-is Accepts _ (λ h. h) (λ q. Follows Γ (set19 i) p q) q _ h λ n h.
-      some-is Accepts _ (λ h. h) (operands (n .antecedent) (n .consequent)) _ h λ r e h.
+  follows-sound (by set19 i done) p q h =
+      one-is (Word i) _ (misfits i) (λ q. Follows Γ (by set19 i done) p q) q _ h λ n h.
+      some-is (Word i) _ (misfits i) (operands (n .antecedent) (n .consequent)) _ h λ r e h.
       word-is i _ _ h λ g u. set-rule-19 e (test-passes (same-decides p r) .sound g)
 
   follows-complete : {k : SetEvidence} {p q : Members} → Follows Γ k p q → Accepts (judgeSet Γ k p q)
-  unfolding judgeSet onEmpty onOne onSome
+  unfolding judge setRule onEmpty onOne onSome
   follows-complete (set-rule-13 {i = i} {p = p} {q = q} g) =
       leaf-accepts i _ (test-passes (within-decides q p) .complete g)
   follows-complete (set-rule-14 {i = i} {q = q} g) = leaf-accepts i _ (eachImpliesFalse-passes Γ q .complete g)
@@ -177,67 +185,67 @@ module _ (Γ : Context) where
       leaf-accepts i _
       (then-passes (test-passes (sameConsequent-decides e e′)) (implication-passes Γ _ _) .complete (g, h))
   follows-complete (set-rule-19 {i = i} {p = p} e g) =
-      subst (λ o. Accepts (onSome o (refused 8 i) (λ r. judgeLeaf i (test (same p r))))) (sym e)
+      subst (λ o. Word i (onSome o misfit (λ r. leaf (test (same p r))))) (sym e)
       (leaf-accepts i _ (test-passes (same-decides _ _) .complete g))
 
   flow-sound : (k : FlowEvidence) (p : Members) (c : Command) (q : Members) →
       Accepts (judgeFlow Γ k p c q) → Flow Γ k p c q
-  unfolding judgeFlow
-  flow-sound (flow1 i) p c q h =
-      skip-is Accepts _ (λ h. h) (λ c. Flow Γ (flow1 i) p c q) c _ h λ h.
+  unfolding judge flowRule
+  flow-sound (by flow1 i done) p c q h =
+      skip-is (Word i) _ (misfits i) (λ c. Flow Γ (by flow1 i done) p c q) c _ h λ h.
       word-is i _ _ h λ g u. rule-1 (test-passes (same-decides p q) .sound g)
-  flow-sound (flow2 i m k l) p c q h =
-      sequence-is Accepts _ (λ h. h) (λ c. Flow Γ (flow2 i m k l) p c q) c _ h λ c₁ c₂ h.
+  flow-sound (by flow2 i (members m & child k & child l & done)) p c q h =
+      sequence-is (Word i) _ (misfits i) (λ c. Flow Γ (by flow2 i (members m & child k & child l & done)) p c q) c _ h λ c₁ c₂ h.
       word-is i _ _ h λ g h. also-is _ _ h λ u v. rule-2 (flow-sound k p c₁ m u) (flow-sound l m c₂ q v)
-  flow-sound (flow3 i) p c q h =
-      scalar-is Accepts _ (λ h. h) (λ c. Flow Γ (flow3 i) p c q) c _ h λ x e h.
+  flow-sound (by flow3 i done) p c q h =
+      scalar-is (Word i) _ (misfits i) (λ c. Flow Γ (by flow3 i done) p c q) c _ h λ x e h.
       word-is i _ _ h λ g u. rule-3 (test-passes (same-decides p _) .sound g)
-  flow-sound (flow4 i) p c q h =
-      array-is Accepts _ (λ h. h) (λ c. Flow Γ (flow4 i) p c q) c _ h λ a e h.
+  flow-sound (by flow4 i done) p c q h =
+      array-is (Word i) _ (misfits i) (λ c. Flow Γ (by flow4 i done) p c q) c _ h λ a e h.
       word-is i _ _ h λ g u. rule-4 (test-passes (same-decides p _) .sound g)
-  flow-sound (flow5 i) p c q h =
-      assert-is Accepts _ (λ h. h) (λ c. Flow Γ (flow5 i) p c q) c _ h λ b h.
+  flow-sound (by flow5 i done) p c q h =
+      assert-is (Word i) _ (misfits i) (λ c. Flow Γ (by flow5 i done) p c q) c _ h λ b h.
       word-is i _ _ h λ g u. rule-5 (test-passes (same-decides p _) .sound g)
-  flow-sound (flow6 i s t φ₀ k l n) p c q h =
-      if-is Accepts _ (λ h. h) (λ d. c ≡ d → Flow Γ (flow6 i s t φ₀ k l n) p d q) c _ h (λ b c₁ c₂ h e.
-      one-is Accepts _ (λ h. h) (λ r. q ≡ r → Flow Γ (flow6 i s t φ₀ k l n) p (ifElse b c₁ c₂) r) q _ h (λ m h e′.
+  flow-sound (by flow6 i (members s & members t & assertion φ₀ & child k & child l & child n & done)) p c q h =
+      if-is (Word i) _ (misfits i) (λ d. c ≡ d → Flow Γ (by flow6 i (members s & members t & assertion φ₀ & child k & child l & child n & done)) p d q) c _ h (λ b c₁ c₂ h e.
+      one-is (Word i) _ (misfits i) (λ r. q ≡ r → Flow Γ (by flow6 i (members s & members t & assertion φ₀ & child k & child l & child n & done)) p (ifElse b c₁ c₂) r) q _ h (λ m h e′.
       word-is i _ _ h λ g h. also-is _ _ h λ u h. also-is _ _ h λ v w.
       rule-6 (test-passes (same-decides p _) .sound g)
       (subst (Flow Γ k s c₁) e′ (flow-sound k s c₁ q u)) (subst (Flow Γ l t c₂) e′ (flow-sound l t c₂ q v))
       (subst (λ d. Necessary Γ n φ₀ d (m .antecedent)) e (necessary-sound n φ₀ c (m .antecedent) w))) refl) refl
-  flow-sound (flow7 i m n k) p c q h = word-is i _ _ h λ g h. also-is _ _ h λ u v.
+  flow-sound (by flow7 i (members m & child n & child k & done)) p c q h = word-is i _ _ h λ g h. also-is _ _ h λ u v.
       rule-7 (follows-sound n p m u) (flow-sound k m c q v)
-  flow-sound (flow8 i m k n) p c q h = word-is i _ _ h λ g h. also-is _ _ h λ u v.
+  flow-sound (by flow8 i (members m & child k & child n & done)) p c q h = word-is i _ _ h λ g h. also-is _ _ h λ u v.
       rule-8 (flow-sound k p c m u) (follows-sound n m q v)
-  flow-sound (flow9 i s s′ t t′ k l) p c q h = word-is i _ _ h λ g h. also-is _ _ h λ u v.
+  flow-sound (by flow9 i (members s & members s′ & members t & members t′ & child k & child l & done)) p c q h = word-is i _ _ h λ g h. also-is _ _ h λ u v.
       let both = then-passes (test-passes (same-decides p _)) (test-passes (same-decides q _)) .sound g in
       rule-9 (both .0) (both .1) (flow-sound k s c s′ u) (flow-sound l t c t′ v)
-  flow-sound (flow10 i) p c q h = word-is i _ _ h λ g u.
+  flow-sound (by flow10 i done) p c q h = word-is i _ _ h λ g u.
       let both = then-passes (test-passes (same-decides p q))
       (test-passes (unmodified-decides (setIdentifiers q) c)) .sound g in
       rule-10 (both .0) (both .1)
-  flow-sound (flow11 i n) p c q h =
-      one-is Accepts _ (λ h. h) (λ p. Flow Γ (flow11 i n) p c q) p _ h λ m h.
-      one-is Accepts _ (λ h. h) (λ q. Flow Γ (flow11 i n) (m ∷ []) c q) q _ h λ m′ h.
+  flow-sound (by flow11 i (child n & done)) p c q h =
+      one-is (Word i) _ (misfits i) (λ p. Flow Γ (by flow11 i (child n & done)) p c q) p _ h λ m h.
+      one-is (Word i) _ (misfits i) (λ q. Flow Γ (by flow11 i (child n & done)) (m ∷ []) c q) q _ h λ m′ h.
       word-is i _ _ h λ g u.
       let both = then-passes (test-passes (sameConsequent-decides (m .consequent) (m′ .consequent)))
       (test-passes (unmodified-decides (identifiers (m .consequent)) c)) .sound g in
       rule-11 (both .0) (both .1) (necessary-sound n _ c _ u)
-  flow-sound (flow12 i s s′ φ φ′ k n) p c q h = word-is i _ _ h λ g h. also-is _ _ h λ u v.
+  flow-sound (by flow12 i (members s & members s′ & assertion φ & assertion φ′ & child k & child n & done)) p c q h = word-is i _ _ h λ g h. also-is _ _ h λ u v.
       let both = then-passes (test-passes (same-decides p _)) (test-passes (same-decides q _)) .sound g in
       rule-12 (both .0) (both .1) (flow-sound k s c s′ u) (necessary-sound n φ c φ′ v)
-  flow-sound (flow13 i k) p c q h =
-      while-is Accepts _ (λ h. h) (λ c. Flow Γ (flow13 i k) p c q) c _ h λ b c₁ h.
+  flow-sound (by flow13 i (child k & done)) p c q h =
+      while-is (Word i) _ (misfits i) (λ c. Flow Γ (by flow13 i (child k & done)) p c q) c _ h λ b c₁ h.
       word-is i _ _ h λ g u.
       let both = then-passes (test-passes (same-decides p q)) (test-passes (stands-decides _ p)) .sound g in
       rule-13 (both .0) (both .1) (flow-sound k p c₁ q u)
-  flow-sound (flow14 i d k) p c q h =
-      for-is Accepts _ (λ h. h) (λ c. Flow Γ (flow14 i d k) p c q) c _ h λ v m c₁ h.
+  flow-sound (by flow14 i (command d & child k & done)) p c q h =
+      for-is (Word i) _ (misfits i) (λ c. Flow Γ (by flow14 i (command d & child k & done)) p c q) c _ h λ v m c₁ h.
       word-is i _ _ h λ g u. rule-14 (test-passes (sameWords-decides _ _) .sound g) (flow-sound k p d q u)
 
   flow-complete : {k : FlowEvidence} {p q : Members} {c : Command} →
       Flow Γ k p c q → Accepts (judgeFlow Γ k p c q)
-  unfolding judgeFlow byForm onOne
+  unfolding judge flowRule byForm onOne
   flow-complete (rule-1 {i = i} g) = leaf-accepts i _ (test-passes (same-decides _ _) .complete g)
   flow-complete (rule-2 {i = i} u v) = word-accepts i _ _ tt (also-accepts _ _ (flow-complete u) (flow-complete v))
   flow-complete (rule-3 {i = i} g) = leaf-accepts i _ (test-passes (same-decides _ _) .complete g)

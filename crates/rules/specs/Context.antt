@@ -1,7 +1,7 @@
--- The limits of document 01, and what a file is judged under.
+-- The limits of document 01, and what a file is read and judged under.
 -- Trusted. Assumes nothing.
---     Limits, standard    the most comparisons of an implication, the most depth, the most members of a set
---     Context             what a file is judged under: the limits
+--     Limits, Context    the most comparisons of an implication, the most depth, the most members of a set; the context
+--     standard           document 01's
 use Prim.Native.Nat.{ℕ}
 
 pub record Limits : Type 0 where
@@ -9,8 +9,8 @@ pub record Limits : Type 0 where
   pub depth : ℕ
   pub members : ℕ
 
-unfoldable pub standard : Limits
-standard = record { comparisons = 10; depth = 128; members = 64 }
-
 pub record Context : Type 0 where
   pub limits : Limits
+
+unfoldable pub standard : Context
+standard = record { limits = record { comparisons = 10; depth = 128; members = 64 } }

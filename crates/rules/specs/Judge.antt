@@ -1,11 +1,16 @@
--- Evidence judged in file order (document 01, "Judging order" 8 and 9). Each clause is a rule of "Rules".
+-- Evidence judged in file order (document 01, "Judging order" 8 and 9). Each clause is a rule of "Rules": its conditions
+-- as they are tried, and its children against their goals.
 -- Trusted. Assumes nothing.
---     Verdict                            accepted, with a count of evidence words; or refused, with number and place
---     oneMore, _also_                    the count with one word more; children in order
---     judgeWord, judgeLeaf               an evidence word: its conditions, then its children; with no children
---     judgePre, judgeSet, judgeFlow      evidence of kinds 35, 34 and 33 against a goal
+--     Verdict                         accepted, with a count of evidence words; or refused, with number and place
+--     _also_                          children in order
+--     Step, misfit, leaf              what a rule comes to: its conditions' result, and its children's verdict
+--     judgeWord                       an evidence word by what its rule comes to: the one place of 8 and 9
+--     Judge, GivenItems, Given        how evidence is judged against a goal; what a rule is given of its parts
+--     preRule, setRule, flowRule      the rules
+--     judge                           evidence against a goal
+--     judgePre, judgeSet, judgeFlow   the same by kind
 use mathlib.Core.Bool.{true}
-use mathlib.Core.List.{_++_}
+use mathlib.Core.List.{List, [], _∷_, _++_}
 use Prim.Native.Nat.{ℕ, suc, _+_}
 use Rattle.language.specs.Syntax.{Boolean, Expr, truth, and, or, neg, toScalar, toArray, Command}
 use Rattle.language.specs.Runs.{meaning}
@@ -16,10 +21,13 @@ use Rattle.rules.specs.Context.{Context}
 use Rattle.rules.specs.Replace.{replacement, replace, replaceMembers}
 use Rattle.rules.specs.Sets.{under, without, operands, setIdentifiers}
 use Rattle.rules.specs.Tests.{sameAntecedent, sameConsequent, stands, within, same, unmodified, isEmpty}
-use Rattle.rules.specs.Evidence.{PreEvidence, pre20, pre21, pre22, pre23, pre24, pre25, pre26, pre27, pre28}
-use Rattle.rules.specs.Evidence.{pre29, pre30, SetEvidence, set13, set14, set15, set16, set17, set18, set19}
-use Rattle.rules.specs.Evidence.{FlowEvidence, flow1, flow2, flow3, flow4, flow5, flow6, flow7, flow8, flow9}
-use Rattle.rules.specs.Evidence.{flow10, flow11, flow12, flow13, flow14}
+use Rattle.rules.specs.Evidence as evidence
+use Rattle.rules.specs.Evidence.{Judgement, Item, assertionItem, commandItem, membersItem, childItem, Rule}
+use Rattle.rules.specs.Evidence.{Standing, item, items, Tree, by, assertion, command, members, child, done, _&_}
+use Rattle.rules.specs.Evidence.{FlowEvidence, SetEvidence, PreEvidence, flow1, flow2, flow3, flow4, flow5, flow6}
+use Rattle.rules.specs.Evidence.{flow7, flow8, flow9, flow10, flow11, flow12, flow13, flow14, set13, set14, set15}
+use Rattle.rules.specs.Evidence.{set16, set17, set18, set19, pre20, pre21, pre22, pre23, pre24, pre25, pre26}
+use Rattle.rules.specs.Evidence.{pre27, pre28, pre29, pre30}
 use Rattle.rules.specs.Condition.{Result, passes, fails, tooLarge, test, _then_, implication, eachImpliesFalse}
 use Rattle.rules.specs.Condition.{onSkip, onSequence, onAssert, onScalar, onArray, onIf, onWhile, onFor}
 use Rattle.rules.specs.Condition.{onEmpty, onOne, onSome}
@@ -28,87 +36,147 @@ pub data Verdict : Type 0 where
   accepted : ℕ → Verdict
   refused : ℕ → ℕ → Verdict
 
-unfoldable pub oneMore : Verdict → Verdict
-oneMore (accepted n) = accepted (suc n)
-oneMore (refused k i) = refused k i
-
 infixr 15 _also_
 unfoldable pub _also_ : Verdict → Verdict → Verdict
 accepted m also accepted n = accepted (m + n)
 accepted m also refused k i = refused k i
 refused k i also v = refused k i
 
+pub data Step : Type 0 where
+  step : Result → Verdict → Step
+
+-- the command or a set does not have the form that the rule asks for
+abbrev pub misfit : Step
+misfit = step fails (accepted 0)
+
+-- a rule with no children
+abbrev pub leaf : Result → Step
+leaf r = step r (accepted 0)
+
+-- the count with one word more
+unfoldable pub oneMore : Verdict → Verdict
+oneMore (accepted n) = accepted (suc n)
+oneMore (refused k i) = refused k i
+
 -- an evidence word at place i
-unfoldable pub judgeWord : ℕ → Result → Verdict → Verdict
-judgeWord i passes v = oneMore v
-judgeWord i fails v = refused 8 i
-judgeWord i tooLarge v = refused 9 i
+unfoldable pub judgeWord : ℕ → Step → Verdict
+judgeWord i (step passes v) = oneMore v
+judgeWord i (step fails v) = refused 8 i
+judgeWord i (step tooLarge v) = refused 9 i
 
--- a word with no children
-abbrev pub judgeLeaf : ℕ → Result → Verdict
-judgeLeaf i r = judgeWord i r (accepted 0)
+-- goals: (P, C, Q) of flow, (P, Q) of sets, (φ, C, φ') of preconditions
+abbrev pub Judge : Judgement → Type 0
+Judge evidence.flow = Members → Command → Members → Verdict
+Judge evidence.implication = Members → Members → Verdict
+Judge evidence.precondition = Expr Boolean → Command → Expr Boolean → Verdict
 
-unfoldable pub judgePre : Context → PreEvidence → Expr Boolean → Command → Expr Boolean → Verdict
-judgePre Γ (pre20 i φ₁ φ₂ k l) φ c φ′ = onIf c (refused 8 i) λ b c₁ c₂.
-    judgeWord i (test (sameAntecedent φ (or (and φ₁ b) (and φ₂ (neg b)))))
-    (judgePre Γ k φ₁ c₁ φ′ also judgePre Γ l φ₂ c₂ φ′)
-judgePre Γ (pre21 i φ₀ k) φ c φ′ = onWhile c (refused 8 i) λ b c₁.
-    judgeWord i (implication Γ (and φ₀ b) φ then implication Γ (and φ′ (neg b)) φ) (judgePre Γ k φ₀ c₁ φ)
-judgePre Γ (pre22 i) φ c φ′ = onSkip c (refused 8 i) (judgeLeaf i (test (sameAntecedent φ φ′)))
-judgePre Γ (pre23 i φ₁ k l) φ c φ′ = onSequence c (refused 8 i) λ c₁ c₂.
-    judgeWord i passes (judgePre Γ k φ c₁ φ₁ also judgePre Γ l φ₁ c₂ φ′)
-judgePre Γ (pre24 i) φ c φ′ = onScalar c (refused 8 i) λ x e.
-    judgeLeaf i (test (sameAntecedent φ (replace φ′ (replacement (toScalar x e)))))
-judgePre Γ (pre25 i) φ c φ′ = onArray c (refused 8 i) λ a e.
-    judgeLeaf i (test (sameAntecedent φ (replace φ′ (replacement (toArray a e)))))
-judgePre Γ (pre26 i) φ c φ′ = onAssert c (refused 8 i) λ b. judgeLeaf i (test (sameAntecedent φ (and φ′ b)))
-judgePre Γ (pre27 i) φ c φ′ = judgeLeaf i (test (sameAntecedent φ φ′) then test (unmodified (identifiers φ) c))
-judgePre Γ (pre28 i φ₁ k) φ c φ′ = judgeWord i (implication Γ φ₁ φ) (judgePre Γ k φ₁ c φ′)
-judgePre Γ (pre29 i) φ c φ′ = judgeLeaf i (test (sameAntecedent φ (truth true)))
-judgePre Γ (pre30 i d k) φ c φ′ = onFor c (refused 8 i) λ q m c₁.
-    judgeWord i (test (sameWords (commandWords d) (commandWords (meaning q m c₁)))) (judgePre Γ k φ d φ′)
+abbrev pub GivenItem : Item → Type 0
+GivenItem assertionItem = Expr Boolean
+GivenItem commandItem = Command
+GivenItem membersItem = Members
+GivenItem (childItem j) = Judge j
 
-unfoldable pub judgeSet : Context → SetEvidence → Members → Members → Verdict
-judgeSet Γ (set13 i) p q = judgeLeaf i (test (within q p))
-judgeSet Γ (set14 i) p q = onEmpty p (refused 8 i) (judgeLeaf i (eachImpliesFalse Γ q))
-judgeSet Γ (set15 i) p q = onEmpty p (refused 8 i) (onOne q (refused 8 i) λ n.
-    judgeLeaf i (test (isEmpty (identifiers (n .consequent)))))
-judgeSet Γ (set16 i s s′ t t′ k l) p q =
-    judgeWord i (test (same p (s ++ t)) then test (same q (s′ ++ t′))) (judgeSet Γ k s s′ also judgeSet Γ l t t′)
-judgeSet Γ (set17 i s s′ t k l) p q =
-    judgeWord i (test (same p (without t s′ ++ s))) (judgeSet Γ k s s′ also judgeSet Γ l t q)
-judgeSet Γ (set18 i) p q = onOne p (refused 8 i) λ m. onOne q (refused 8 i) λ n.
-    judgeLeaf i (test (sameConsequent (m .consequent) (n .consequent))
+abbrev pub GivenItems : List Item → Type 0
+GivenItems [] = Unit {0}
+GivenItems (x ∷ l) = GivenItem x × GivenItems l
+
+-- what takes these, and gives an R
+abbrev pub Takes : List Item → Type 0 → Type 0
+Takes [] R = R
+Takes (x ∷ l) R = GivenItem x → Takes l R
+
+abbrev pub applied : {R : Type 0} (l : List Item) → Takes l R → GivenItems l → R
+applied [] f g = f
+applied (x ∷ l) f g = applied l (f (g .0)) (g .1)
+
+abbrev pub Given : Standing → Type 0
+Given (evidence.evidence j) = Judge j
+Given (item x) = GivenItem x
+Given (items l) = GivenItems l
+
+unfoldable pub preRule :
+    Context → {n : ℕ} {l : List Item} → Rule evidence.precondition n l → Takes l (Expr Boolean → Command → Expr Boolean → Step)
+preRule Γ pre20 = λ φ₁ φ₂ k l φ c φ′. onIf c misfit λ b c₁ c₂.
+    step (test (sameAntecedent φ (or (and φ₁ b) (and φ₂ (neg b)))))
+    (k φ₁ c₁ φ′ also l φ₂ c₂ φ′)
+preRule Γ pre21 = λ φ₀ k φ c φ′. onWhile c misfit λ b c₁.
+    step (implication Γ (and φ₀ b) φ then implication Γ (and φ′ (neg b)) φ) (k φ₀ c₁ φ)
+preRule Γ pre22 = λ φ c φ′. onSkip c misfit (leaf (test (sameAntecedent φ φ′)))
+preRule Γ pre23 = λ φ₁ k l φ c φ′. onSequence c misfit λ c₁ c₂.
+    step passes (k φ c₁ φ₁ also l φ₁ c₂ φ′)
+preRule Γ pre24 = λ φ c φ′. onScalar c misfit λ x e.
+    leaf (test (sameAntecedent φ (replace φ′ (replacement (toScalar x e)))))
+preRule Γ pre25 = λ φ c φ′. onArray c misfit λ a e.
+    leaf (test (sameAntecedent φ (replace φ′ (replacement (toArray a e)))))
+preRule Γ pre26 = λ φ c φ′. onAssert c misfit λ b. leaf (test (sameAntecedent φ (and φ′ b)))
+preRule Γ pre27 = λ φ c φ′. leaf (test (sameAntecedent φ φ′) then test (unmodified (identifiers φ) c))
+preRule Γ pre28 = λ φ₁ k φ c φ′. step (implication Γ φ₁ φ) (k φ₁ c φ′)
+preRule Γ pre29 = λ φ c φ′. leaf (test (sameAntecedent φ (truth true)))
+preRule Γ pre30 = λ d k φ c φ′. onFor c misfit λ q m c₁.
+    step (test (sameWords (commandWords d) (commandWords (meaning q m c₁)))) (k φ d φ′)
+
+unfoldable pub setRule : Context → {n : ℕ} {l : List Item} → Rule evidence.implication n l → Takes l (Members → Members → Step)
+setRule Γ set13 = λ p q. leaf (test (within q p))
+setRule Γ set14 = λ p q. onEmpty p misfit (leaf (eachImpliesFalse Γ q))
+setRule Γ set15 = λ p q. onEmpty p misfit (onOne q misfit λ n.
+    leaf (test (isEmpty (identifiers (n .consequent)))))
+setRule Γ set16 = λ s s′ t t′ k l p q.
+    step (test (same p (s ++ t)) then test (same q (s′ ++ t′))) (k s s′ also l t t′)
+setRule Γ set17 = λ s s′ t k l p q.
+    step (test (same p (without t s′ ++ s))) (k s s′ also l t q)
+setRule Γ set18 = λ p q. onOne p misfit λ m. onOne q misfit λ n.
+    leaf (test (sameConsequent (m .consequent) (n .consequent))
     then implication Γ (n .antecedent) (m .antecedent))
-judgeSet Γ (set19 i) p q = onOne q (refused 8 i) λ n.
-    onSome (operands (n .antecedent) (n .consequent)) (refused 8 i) λ r. judgeLeaf i (test (same p r))
+setRule Γ set19 = λ p q. onOne q misfit λ n.
+    onSome (operands (n .antecedent) (n .consequent)) misfit λ r. leaf (test (same p r))
 
-unfoldable pub judgeFlow : Context → FlowEvidence → Members → Command → Members → Verdict
-judgeFlow Γ (flow1 i) p c q = onSkip c (refused 8 i) (judgeLeaf i (test (same p q)))
-judgeFlow Γ (flow2 i m k l) p c q = onSequence c (refused 8 i) λ c₁ c₂.
-    judgeWord i passes (judgeFlow Γ k p c₁ m also judgeFlow Γ l m c₂ q)
-judgeFlow Γ (flow3 i) p c q = onScalar c (refused 8 i) λ x e.
-    judgeLeaf i (test (same p (replaceMembers q (replacement (toScalar x e)))))
-judgeFlow Γ (flow4 i) p c q = onArray c (refused 8 i) λ a e.
-    judgeLeaf i (test (same p (replaceMembers q (replacement (toArray a e)))))
-judgeFlow Γ (flow5 i) p c q = onAssert c (refused 8 i) λ b. judgeLeaf i (test (same p (under q b)))
-judgeFlow Γ (flow6 i s t φ₀ k l n) p c q = onIf c (refused 8 i) λ b c₁ c₂. onOne q (refused 8 i) λ m.
-    judgeWord i (test (same p (under s b ++ (under t (neg b) ++ one φ₀ b))))
-    (judgeFlow Γ k s c₁ q also judgeFlow Γ l t c₂ q also judgePre Γ n φ₀ c (m .antecedent))
-judgeFlow Γ (flow7 i m n k) p c q = judgeWord i passes (judgeSet Γ n p m also judgeFlow Γ k m c q)
-judgeFlow Γ (flow8 i m k n) p c q = judgeWord i passes (judgeFlow Γ k p c m also judgeSet Γ n m q)
-judgeFlow Γ (flow9 i s s′ t t′ k l) p c q =
-    judgeWord i (test (same p (s ++ t)) then test (same q (s′ ++ t′)))
-    (judgeFlow Γ k s c s′ also judgeFlow Γ l t c t′)
-judgeFlow Γ (flow10 i) p c q = judgeLeaf i (test (same p q) then test (unmodified (setIdentifiers q) c))
-judgeFlow Γ (flow11 i n) p c q = onOne p (refused 8 i) λ m. onOne q (refused 8 i) λ m′.
-    judgeWord i
+unfoldable pub flowRule :
+    Context → {n : ℕ} {l : List Item} → Rule evidence.flow n l → Takes l (Members → Command → Members → Step)
+flowRule Γ flow1 = λ p c q. onSkip c misfit (leaf (test (same p q)))
+flowRule Γ flow2 = λ m k l p c q. onSequence c misfit λ c₁ c₂.
+    step passes (k p c₁ m also l m c₂ q)
+flowRule Γ flow3 = λ p c q. onScalar c misfit λ x e.
+    leaf (test (same p (replaceMembers q (replacement (toScalar x e)))))
+flowRule Γ flow4 = λ p c q. onArray c misfit λ a e.
+    leaf (test (same p (replaceMembers q (replacement (toArray a e)))))
+flowRule Γ flow5 = λ p c q. onAssert c misfit λ b. leaf (test (same p (under q b)))
+flowRule Γ flow6 = λ s t φ₀ k l n p c q. onIf c misfit λ b c₁ c₂. onOne q misfit λ m.
+    step (test (same p (under s b ++ (under t (neg b) ++ one φ₀ b))))
+    (k s c₁ q also l t c₂ q also n φ₀ c (m .antecedent))
+flowRule Γ flow7 = λ m n k p c q. step passes (n p m also k m c q)
+flowRule Γ flow8 = λ m k n p c q. step passes (k p c m also n m q)
+flowRule Γ flow9 = λ s s′ t t′ k l p c q.
+    step (test (same p (s ++ t)) then test (same q (s′ ++ t′)))
+    (k s c s′ also l t c t′)
+flowRule Γ flow10 = λ p c q. leaf (test (same p q) then test (unmodified (setIdentifiers q) c))
+flowRule Γ flow11 = λ n p c q. onOne p misfit λ m. onOne q misfit λ m′.
+    step
     (test (sameConsequent (m .consequent) (m′ .consequent)) then test (unmodified (identifiers (m .consequent)) c))
-    (judgePre Γ n (m .antecedent) c (m′ .antecedent))
-judgeFlow Γ (flow12 i s s′ φ φ′ k n) p c q =
-    judgeWord i (test (same p (under s φ)) then test (same q (under s′ φ′)))
-    (judgeFlow Γ k s c s′ also judgePre Γ n φ c φ′)
-judgeFlow Γ (flow13 i k) p c q = onWhile c (refused 8 i) λ b c₁.
-    judgeWord i (test (same p q) then test (stands (member (truth true) b) p)) (judgeFlow Γ k p c₁ q)
-judgeFlow Γ (flow14 i d k) p c q = onFor c (refused 8 i) λ v m c₁.
-    judgeWord i (test (sameWords (commandWords d) (commandWords (meaning v m c₁)))) (judgeFlow Γ k p d q)
+    (n (m .antecedent) c (m′ .antecedent))
+flowRule Γ flow12 = λ s s′ φ φ′ k n p c q.
+    step (test (same p (under s φ)) then test (same q (under s′ φ′)))
+    (k s c s′ also n φ c φ′)
+flowRule Γ flow13 = λ k p c q. onWhile c misfit λ b c₁.
+    step (test (same p q) then test (stands (member (truth true) b) p)) (k p c₁ q)
+flowRule Γ flow14 = λ d k p c q. onFor c misfit λ v m c₁.
+    step (test (sameWords (commandWords d) (commandWords (meaning v m c₁)))) (k p d q)
+
+unfoldable pub judge : Context → {s : Standing} → Tree s → Given s
+judge Γ (by {j = evidence.flow} {l = l} r i t) = λ p c q. judgeWord i (applied l (flowRule Γ r) (judge Γ t) p c q)
+judge Γ (by {j = evidence.implication} {l = l} r i t) = λ p q. judgeWord i (applied l (setRule Γ r) (judge Γ t) p q)
+judge Γ (by {j = evidence.precondition} {l = l} r i t) = λ φ c φ′. judgeWord i (applied l (preRule Γ r) (judge Γ t) φ c φ′)
+judge Γ (assertion φ) = φ
+judge Γ (command c) = c
+judge Γ (members p) = p
+judge Γ (child k) = judge Γ k
+judge Γ done = tt
+judge Γ (x & t) = (judge Γ x, judge Γ t)
+
+abbrev pub judgePre : Context → PreEvidence → Expr Boolean → Command → Expr Boolean → Verdict
+judgePre Γ k = judge Γ k
+
+abbrev pub judgeSet : Context → SetEvidence → Members → Members → Verdict
+judgeSet Γ k = judge Γ k
+
+abbrev pub judgeFlow : Context → FlowEvidence → Members → Command → Members → Verdict
+judgeFlow Γ k = judge Γ k
