@@ -5,7 +5,7 @@
 --     onto, on, off, more, idle        a part after another, as a reader and as a walk; no part
 --     level-walk, due-walk             walks of `noLevel` and `wordDue`
 --     GoesBy                           a walk goes by the word that is due
---     expression-goes, command-goes, set-goes, pre-goes, implication-goes, flow-goes
+--     arithmetic-goes, boolean-goes, array-goes, command-goes, set-goes, pre-goes, implication-goes, flow-goes
 --                                      so do those of the readers
 --     stop, arm, none-arm              as the code has them: a refusal, a word that is allowed, a word that is not
 use mathlib.Core.Path.{_≡_, refl, sym, _∙_, ap}
@@ -23,11 +23,11 @@ use Rattle.rules.specs.Context.{Limits}
 use Rattle.rules.specs.Evidence.{PreEvidence, SetEvidence, FlowEvidence}
 use Rattle.layout.specs.Bytes.{wordCount, kindAt, payloadAt}
 use Rattle.layout.specs.Reading.{Reading, read, fault, Reader, onRead, _⊛_, noLevel, allowed, wordDue}
-use Rattle.layout.specs.Read.{expressionWord, expression, command, memberAt, set}
+use Rattle.layout.specs.Read.{expression, command, memberAt, set}
 use Rattle.layout.specs.ReadEvidence.{preEvidence, setEvidence, flowEvidence}
 use Rattle.words.specs.Decode.{arithmeticOf, booleanOf, arrayOf, commandOf, evidenceOf}
-use Rattle.words.specs.Meaning.{expressionMeaning, commandMeaning, setMeaning, preMeaning, implicationMeaning}
-use Rattle.words.specs.Meaning.{flowMeaning}
+use Rattle.words.specs.Meaning.{arithmeticMeaning, booleanMeaning, arrayMeaning, commandMeaning}
+use Rattle.words.specs.Meaning.{setMeaning, preMeaning, implicationMeaning, flowMeaning}
 use Rattle.words.specs.declared.Word.{Word}
 use Rattle.words.proofs.Tables.{arithmetic-of, boolean-of, array-of, command-of, set-of, pre-of, implication-of}
 use Rattle.words.proofs.Tables.{flow-of}
@@ -120,13 +120,13 @@ level-walk A file at f = go (ltb at (wordCount file))
     go false = refl
 
 pub due-walk :
-    {A : Type 0} (file : List ℕ) (d at : ℕ) (step : ℕ → ℕ → ℕ → Option (Reader A)) (of : ℕ → ℕ → Word)
-    (meaning : ℕ → Word → Option (Reader A)) →
+    {A W : Type 0} (file : List ℕ) (d at : ℕ) (step : ℕ → ℕ → ℕ → Option (Reader A)) (of : ℕ → ℕ → W)
+    (meaning : ℕ → W → Option (Reader A)) →
     step at (kindAt file at) (payloadAt file at) ≡ meaning d (of (kindAt file at) (payloadAt file at)) →
     walkOf (wordDue file step at)
     ≡ onDue (dueOf file (suc d) at) (λ k p q b. walkOf (after (meaning b (of k p)) at q))
 unfolding wordDue dueOf
-due-walk {A} file d at step of meaning e = go (ltb at (wordCount file))
+due-walk {A} {W} file d at step of meaning e = go (ltb at (wordCount file))
   where
     go : (t : Bool) →
         walkOf {A = A} (elim t [
@@ -142,32 +142,39 @@ due-walk {A} file d at step of meaning e = go (ltb at (wordCount file))
 
 -- `walk` goes by the word that is due: what it decodes to gives the parts that follow it
 pub record GoesBy
-    {A : Type 0} (walk : Walk) (file : List ℕ) (d at : ℕ) (of : ℕ → ℕ → Word) (meaning : ℕ → Word → Option (Reader A))
+    {A W : Type 0} (walk : Walk) (file : List ℕ) (d at : ℕ) (of : ℕ → ℕ → W) (meaning : ℕ → W → Option (Reader A))
     : Type 0 where
   pub goes : walk ≡ onDue (dueOf file d at) (λ k p q b. walkOf (after (meaning b (of k p)) at q))
 
--- the group of words of a sort
-abbrev pub expressionOf : Sort → ℕ → ℕ → Word
-expressionOf Arithmetic k p = arithmeticOf k p
-expressionOf Boolean k p = booleanOf k p
-expressionOf Array k p = arrayOf k p
-
-expression-of : (part : (j : Sort) → Reader (Expr j)) (j : Sort) (k p : ℕ) →
-    expressionWord part j k p ≡ expressionMeaning part j (expressionOf j k p)
-expression-of part Arithmetic k p = arithmetic-of part k p
-expression-of part Boolean k p = boolean-of part k p
-expression-of part Array k p = array-of part k p
-
 module _ (file : List ℕ) where
-  pub expression-goes : (d : ℕ) (j : Sort) (at : ℕ) →
-      GoesBy (walkOf (expression file d j at)) file d at (expressionOf j)
-      (λ b w. expressionMeaning (expression file b) j w)
+  pub arithmetic-goes : (d at : ℕ) →
+      GoesBy (walkOf (expression file d Arithmetic at)) file d at arithmeticOf (λ b w. arithmeticMeaning (expression file b) w)
   unfolding expression
-  expression-goes zero j at = record { goes = level-walk (Expr j) file at _ }
-  expression-goes (suc d) j at = record {
+  arithmetic-goes zero at = record { goes = level-walk (Expr Arithmetic) file at _ }
+  arithmetic-goes (suc d) at = record {
     goes =
-        due-walk file d at _ (expressionOf j) (λ b w. expressionMeaning (expression file b) j w)
-        (expression-of (expression file d) j (kindAt file at) (payloadAt file at));
+        due-walk file d at _ arithmeticOf (λ b w. arithmeticMeaning (expression file b) w)
+        (arithmetic-of (expression file d) (kindAt file at) (payloadAt file at));
+  }
+
+  pub boolean-goes : (d at : ℕ) →
+      GoesBy (walkOf (expression file d Boolean at)) file d at booleanOf (λ b w. booleanMeaning (expression file b) w)
+  unfolding expression
+  boolean-goes zero at = record { goes = level-walk (Expr Boolean) file at _ }
+  boolean-goes (suc d) at = record {
+    goes =
+        due-walk file d at _ booleanOf (λ b w. booleanMeaning (expression file b) w)
+        (boolean-of (expression file d) (kindAt file at) (payloadAt file at));
+  }
+
+  pub array-goes : (d at : ℕ) →
+      GoesBy (walkOf (expression file d Array at)) file d at arrayOf (λ b w. arrayMeaning (expression file b) w)
+  unfolding expression
+  array-goes zero at = record { goes = level-walk (Expr Array) file at _ }
+  array-goes (suc d) at = record {
+    goes =
+        due-walk file d at _ arrayOf (λ b w. arrayMeaning (expression file b) w)
+        (array-of (expression file d) (kindAt file at) (payloadAt file at));
   }
 
   pub command-goes : (d at : ℕ) →
@@ -235,19 +242,19 @@ module _ (file : List ℕ) where
 
 -- ---- as the code has them: r is what `word_due` returned, v the decoded word
 module _
-    {A : Type 0} {walk : Walk} {file : List ℕ} {d at : ℕ} {of : ℕ → ℕ → Word} {meaning : ℕ → Word → Option (Reader A)}
+    {A W : Type 0} {walk : Walk} {file : List ℕ} {d at : ℕ} {of : ℕ → ℕ → W} {meaning : ℕ → W → Option (Reader A)}
     (law : GoesBy walk file d at of meaning) {r : Due} (due : r ≡ dueOf file d at)
   where
     pub stop : {n p : ℕ} → r ≡ Stop n p → Refused n p ≡ walk
     stop e =
         ap (λ (y : Due). onDue y (λ k p q b. walkOf (after (meaning b (of k p)) at q))) (sym e ∙ due) ∙ sym (law .goes)
 
-    pub arm : {k p q b : ℕ} {v u : Word} {x : Walk} → r ≡ There k p q b → v ≡ of k p → v ≡ u →
+    pub arm : {k p q b : ℕ} {v u : W} {x : Walk} → r ≡ There k p q b → v ≡ of k p → v ≡ u →
         x ≡ walkOf (after (meaning b u) at q) → x ≡ walk
     arm {q} {b} e word g h =
-        h ∙ ap (λ (y : Word). walkOf (after (meaning b y) at q)) (sym g ∙ word)
+        h ∙ ap (λ (y : W). walkOf (after (meaning b y) at q)) (sym g ∙ word)
         ∙ ap (λ (y : Due). onDue y (λ k p q b. walkOf (after (meaning b (of k p)) at q))) (sym e ∙ due)
         ∙ sym (law .goes)
 
-    pub none-arm : {k p q b : ℕ} {v : Word} → r ≡ There k p q b → v ≡ of k p → meaning b v ≡ none → Refused 5 at ≡ walk
+    pub none-arm : {k p q b : ℕ} {v : W} → r ≡ There k p q b → v ≡ of k p → meaning b v ≡ none → Refused 5 at ≡ walk
     none-arm {q} e word g = arm e word refl (ap (λ (o : Option (Reader A)). walkOf (after o at q)) (sym g))

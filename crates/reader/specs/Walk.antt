@@ -1,6 +1,6 @@
 -- Walks: where a reading of the layout goes on, or its refusal; and the word that is due at a place.
--- Working: `expression-goes`, `command-goes`, `set-goes`, `pre-goes`, `implication-goes` and `flow-goes` of proofs/Walks tie
--- them to the layout's readers.
+-- Working: `arithmetic-goes`, `boolean-goes`, `array-goes`, `command-goes`, `set-goes`, `pre-goes`, `implication-goes` and
+-- `flow-goes` of proofs/Walks tie them to the layout's readers.
 --     limitsOf, sortMeant    the definitions' limits and sorts
 --     walkOf, onward         the place past what was read; a walk from where another goes on
 --     dueOf, onDue           the word that is due, with refusals 3 and 4; a walk by it

@@ -2,12 +2,9 @@
 use super::Due;
 use super::Sort;
 use super::Walk;
-use super::expression::read_arithmetic;
-use super::expression::read_array;
 use super::expression::read_operand;
 use super::word::word_due;
 use words::CommandWord;
-use words::Word;
 use words::decode::command_word;
 ghost use mathlib.Core.Path.{_≡_};
 ghost use Rattle.layout.specs.Read.{command};
@@ -22,27 +19,31 @@ pub fn read_command(w: &[u32], at: usize, left: usize) -> Walk
         Due::There(kind, payload, next, below) => {
             let word = command_word(kind, payload);
             match word {
-                Word::Command(c) => match c {
-                    CommandWord::Skip => Walk::Next(next),
-                    CommandWord::Sequence => read_body(
-                        w,
-                        read_body(w, Walk::Next(next), below),
-                        below,
-                    ),
-                    CommandWord::Assert => read_operand(Sort::Boolean, w, Walk::Next(next), below),
-                    CommandWord::AssignScalar(_) => read_arithmetic(w, next, below),
-                    CommandWord::AssignArray(_) => read_array(w, next, below),
-                    CommandWord::If => {
-                        let test = read_operand(Sort::Boolean, w, Walk::Next(next), below);
-                        read_body(w, read_body(w, test, below), below)
-                    }
-                    CommandWord::While => {
-                        let test = read_operand(Sort::Boolean, w, Walk::Next(next), below);
-                        read_body(w, test, below)
-                    }
-                    CommandWord::For(_, _) => read_body(w, Walk::Next(next), below),
-                },
-                _ => Walk::Refused(5, at),
+                CommandWord::Skip => Walk::Next(next),
+                CommandWord::Sequence => read_body(w, read_body(w, Walk::Next(next), below), below),
+                CommandWord::Assert => read_operand(Sort::Boolean, w, Walk::Next(next), below),
+                CommandWord::AssignScalar(_) => read_operand(
+                    Sort::Arithmetic,
+                    w,
+                    Walk::Next(next),
+                    below,
+                ),
+                CommandWord::AssignArray(_) => read_operand(
+                    Sort::Array,
+                    w,
+                    Walk::Next(next),
+                    below,
+                ),
+                CommandWord::If => {
+                    let test = read_operand(Sort::Boolean, w, Walk::Next(next), below);
+                    read_body(w, read_body(w, test, below), below)
+                }
+                CommandWord::While => {
+                    let test = read_operand(Sort::Boolean, w, Walk::Next(next), below);
+                    read_body(w, test, below)
+                }
+                CommandWord::For(_, _) => read_body(w, Walk::Next(next), below),
+                CommandWord::Other => Walk::Refused(5, at),
             }
         }
     }

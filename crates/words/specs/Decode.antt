@@ -1,18 +1,26 @@
--- What a word stands for, by kind and payload (document 01, "Layout"). A word that the lists do not allow is `Other`.
--- Working: `expression-word`, `command-word`, `set-word`, `pre-word`, `implication-word` and `flow-word` of
+-- What a word stands for in its group, by kind and payload (document 01, "Layout"). A word that the group's list does not
+-- allow is `Other`.
+-- Working: `arithmetic-of`, `boolean-of`, `array-of`, `command-of`, `set-of`, `pre-of`, `implication-of` and `flow-of` of
 -- proofs/Tables tie it to the layout's tables. Assumes nothing.
---     arithmeticOf, booleanOf, arrayOf, commandOf    by group: kinds up to 4, 12, 18 and 31
+--     arithmeticOf, booleanOf, arrayOf, commandOf    kinds 1 to 4, 8 to 12, 16 to 18 and 24 to 31
 --     flowOf, setOf, preOf, evidenceOf               kinds 33, 34 and 35; kinds from 32 on
---     kindOf, decodeOf                               by kind and payload; of a number
 use mathlib.Core.Bool.{true, false, cond}
 use Prim.Native.Nat.{ℕ, _/_, _%_}
 use lib.Dec.{eqb, leb}
 use Rattle.layout.specs.Bytes.{signed}
 use Rattle.words.specs.declared.Operator.the-variants.{Plus, Minus, Times}
 use Rattle.words.specs.declared.Comparison.the-variants.{Equal, Less, AtMost}
+use Rattle.words.specs.declared.ArithmeticWord.{ArithmeticWord}
+use Rattle.words.specs.declared.ArithmeticWord.the-variants as arithmetic
 use Rattle.words.specs.declared.ArithmeticWord.the-variants.{Constant, Scalar, Operation, Select}
+use Rattle.words.specs.declared.BooleanWord.{BooleanWord}
+use Rattle.words.specs.declared.BooleanWord.the-variants as boolean
 use Rattle.words.specs.declared.BooleanWord.the-variants.{Compare, Truth, And, Or, Not}
+use Rattle.words.specs.declared.ArrayWord.{ArrayWord}
+use Rattle.words.specs.declared.ArrayWord.the-variants as array
 use Rattle.words.specs.declared.ArrayWord.the-variants.{Identifier, Zeros, Update}
+use Rattle.words.specs.declared.CommandWord.{CommandWord}
+use Rattle.words.specs.declared.CommandWord.the-variants as command
 use Rattle.words.specs.declared.CommandWord.the-variants.{Skip, Sequence, Assert, AssignScalar, AssignArray, If}
 use Rattle.words.specs.declared.CommandWord.the-variants.{While, For}
 use Rattle.words.specs.declared.FlowRule.the-variants.{Flow1, Flow2, Flow3, Flow4, Flow5, Flow6, Flow7, Flow8}
@@ -23,59 +31,54 @@ use Rattle.words.specs.declared.PreRule.the-variants.{Pre20, Pre21, Pre2
 use Rattle.words.specs.declared.PreRule.the-variants.{Pre28}
 use Rattle.words.specs.declared.PreRule.the-variants.{Pre29, Pre30}
 use Rattle.words.specs.declared.Word.{Word}
-use Rattle.words.specs.declared.Word.the-variants.{Arithmetic, Boolean, Array, Command, Set, Flow, Implication}
-use Rattle.words.specs.declared.Word.the-variants.{Precondition, Other}
+use Rattle.words.specs.declared.Word.the-variants.{Set, Flow, Implication, Precondition, Other}
 
 -- a payload up to a bound
-abbrev pub within : ℕ → ℕ → Word → Word
-within n p w = cond (leb p n) w Other
+abbrev pub within : {A : Type 0} → ℕ → ℕ → A → A → A
+within n p w other = cond (leb p n) w other
 
-abbrev pub operatorWord : ℕ → Word
+abbrev pub operatorWord : ℕ → ArithmeticWord
 operatorWord p =
-    cond (eqb p 0) (Arithmetic (Operation Plus))
-    (cond (eqb p 1) (Arithmetic (Operation Minus))
-    (cond (eqb p 2) (Arithmetic (Operation Times)) Other))
+    cond (eqb p 0) (Operation Plus) (cond (eqb p 1) (Operation Minus) (cond (eqb p 2) (Operation Times) arithmetic.Other))
 
-abbrev pub comparisonWord : ℕ → Word
+abbrev pub comparisonWord : ℕ → BooleanWord
 comparisonWord p =
-    cond (eqb p 0) (Boolean (Compare Equal))
-    (cond (eqb p 1) (Boolean (Compare Less))
-    (cond (eqb p 2) (Boolean (Compare AtMost)) Other))
+    cond (eqb p 0) (Compare Equal) (cond (eqb p 1) (Compare Less) (cond (eqb p 2) (Compare AtMost) boolean.Other))
 
-abbrev pub truthWord : ℕ → Word
-truthWord p = cond (eqb p 0) (Boolean (Truth false)) (cond (eqb p 1) (Boolean (Truth true)) Other)
+abbrev pub truthWord : ℕ → BooleanWord
+truthWord p = cond (eqb p 0) (Truth false) (cond (eqb p 1) (Truth true) boolean.Other)
 
-unfoldable pub arithmeticOf : ℕ → ℕ → Word
+unfoldable pub arithmeticOf : ℕ → ℕ → ArithmeticWord
 arithmeticOf k p =
-    cond (eqb k 1) (Arithmetic (Constant (signed p)))
-    (cond (eqb k 2) (within 31 p (Arithmetic (Scalar p)))
+    cond (eqb k 1) (Constant (signed p))
+    (cond (eqb k 2) (within 31 p (Scalar p) arithmetic.Other)
     (cond (eqb k 3) (operatorWord p)
-    (cond (eqb k 4) (within 0 p (Arithmetic Select)) Other)))
+    (cond (eqb k 4) (within 0 p Select arithmetic.Other) arithmetic.Other)))
 
-unfoldable pub booleanOf : ℕ → ℕ → Word
+unfoldable pub booleanOf : ℕ → ℕ → BooleanWord
 booleanOf k p =
     cond (eqb k 8) (comparisonWord p)
     (cond (eqb k 9) (truthWord p)
-    (cond (eqb k 10) (within 0 p (Boolean And))
-    (cond (eqb k 11) (within 0 p (Boolean Or))
-    (cond (eqb k 12) (within 0 p (Boolean Not)) Other))))
+    (cond (eqb k 10) (within 0 p And boolean.Other)
+    (cond (eqb k 11) (within 0 p Or boolean.Other)
+    (cond (eqb k 12) (within 0 p Not boolean.Other) boolean.Other))))
 
-unfoldable pub arrayOf : ℕ → ℕ → Word
+unfoldable pub arrayOf : ℕ → ℕ → ArrayWord
 arrayOf k p =
-    cond (eqb k 16) (within 31 p (Array (Identifier p)))
-    (cond (eqb k 17) (within 0 p (Array Zeros))
-    (cond (eqb k 18) (within 0 p (Array Update)) Other))
+    cond (eqb k 16) (within 31 p (Identifier p) array.Other)
+    (cond (eqb k 17) (within 0 p Zeros array.Other)
+    (cond (eqb k 18) (within 0 p Update array.Other) array.Other))
 
-unfoldable pub commandOf : ℕ → ℕ → Word
+unfoldable pub commandOf : ℕ → ℕ → CommandWord
 commandOf k p =
-    cond (eqb k 24) (within 0 p (Command Skip))
-    (cond (eqb k 25) (within 0 p (Command Sequence))
-    (cond (eqb k 26) (within 0 p (Command Assert))
-    (cond (eqb k 27) (within 31 p (Command (AssignScalar p)))
-    (cond (eqb k 28) (within 31 p (Command (AssignArray p)))
-    (cond (eqb k 29) (within 0 p (Command If))
-    (cond (eqb k 30) (within 0 p (Command While))
-    (cond (eqb k 31) (within 1023 p (Command (For (p % 32) (p / 32)))) Other)))))))
+    cond (eqb k 24) (within 0 p Skip command.Other)
+    (cond (eqb k 25) (within 0 p Sequence command.Other)
+    (cond (eqb k 26) (within 0 p Assert command.Other)
+    (cond (eqb k 27) (within 31 p (AssignScalar p) command.Other)
+    (cond (eqb k 28) (within 31 p (AssignArray p) command.Other)
+    (cond (eqb k 29) (within 0 p If command.Other)
+    (cond (eqb k 30) (within 0 p While command.Other)
+    (cond (eqb k 31) (within 1023 p (For (p % 32) (p / 32)) command.Other) command.Other)))))))
 
 unfoldable pub flowOf : ℕ → Word
 flowOf p =
@@ -124,13 +127,3 @@ evidenceOf k p =
     (cond (eqb k 33) (flowOf p)
     (cond (eqb k 34) (setOf p)
     (cond (eqb k 35) (preOf p) Other)))
-
-unfoldable pub kindOf : ℕ → ℕ → Word
-kindOf k p =
-    cond (leb k 4) (arithmeticOf k p)
-    (cond (leb k 12) (booleanOf k p)
-    (cond (leb k 18) (arrayOf k p)
-    (cond (leb k 31) (commandOf k p) (evidenceOf k p))))
-
-unfoldable pub decodeOf : ℕ → Word
-decodeOf n = kindOf (n / 67108864) (n % 67108864)

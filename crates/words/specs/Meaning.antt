@@ -3,7 +3,7 @@
 -- Working: `arithmetic-of`, `boolean-of`, `array-of`, `command-of`, `set-of`, `pre-of`, `implication-of` and `flow-of`
 -- of proofs/Tables tie each to the layout's table. Assumes nothing.
 --     operatorMeant, comparisonMeant                                          of the enums
---     arithmeticMeaning, booleanMeaning, arrayMeaning, expressionMeaning      of expressions
+--     arithmeticMeaning, booleanMeaning, arrayMeaning                         of expressions
 --     commandMeaning, setMeaning                                              of commands and sets
 --     preMeaning, implicationMeaning, flowMeaning                             of evidence
 use mathlib.Core.Option.{Option, none, some}
@@ -24,12 +24,16 @@ use Rattle.words.specs.declared.Operator.the-variants.{Plus, Minus, Time
 use Rattle.words.specs.declared.Comparison.{Comparison}
 use Rattle.words.specs.declared.Comparison.the-variants.{Equal, Less, AtMost}
 use Rattle.words.specs.declared.ArithmeticWord.{ArithmeticWord}
+use Rattle.words.specs.declared.ArithmeticWord.the-variants as arithmetic
 use Rattle.words.specs.declared.ArithmeticWord.the-variants.{Constant, Scalar, Operation, Select}
 use Rattle.words.specs.declared.BooleanWord.{BooleanWord}
+use Rattle.words.specs.declared.BooleanWord.the-variants as boolean
 use Rattle.words.specs.declared.BooleanWord.the-variants.{Compare, Truth, And, Or, Not}
 use Rattle.words.specs.declared.ArrayWord.{ArrayWord}
+use Rattle.words.specs.declared.ArrayWord.the-variants as array
 use Rattle.words.specs.declared.ArrayWord.the-variants.{Identifier, Zeros, Update}
 use Rattle.words.specs.declared.CommandWord.{CommandWord}
+use Rattle.words.specs.declared.CommandWord.the-variants as command
 use Rattle.words.specs.declared.CommandWord.the-variants.{Skip, Sequence, Assert, AssignScalar, AssignArray, If}
 use Rattle.words.specs.declared.CommandWord.the-variants.{While, For}
 use Rattle.words.specs.declared.FlowRule.{FlowRule}
@@ -43,8 +47,7 @@ use Rattle.words.specs.declared.PreRule.the-variants.{Pre20, Pre21, Pre2
 use Rattle.words.specs.declared.PreRule.the-variants.{Pre28}
 use Rattle.words.specs.declared.PreRule.the-variants.{Pre29, Pre30}
 use Rattle.words.specs.declared.Word.{Word}
-use Rattle.words.specs.declared.Word.the-variants.{Arithmetic, Boolean, Array, Command, Set, Flow, Implication}
-use Rattle.words.specs.declared.Word.the-variants.{Precondition, Other}
+use Rattle.words.specs.declared.Word.the-variants.{Set, Flow, Implication, Precondition, Other}
 
 abbrev pub operatorMeant : Operator → syntax.Operator
 operatorMeant Plus = syntax.plus
@@ -58,91 +61,42 @@ comparisonMeant AtMost = syntax.atMost
 
 -- `part j` reads an operand of sort j
 module _ (part : (j : Sort) → Reader (Expr j)) where
-  abbrev pub arithmeticParts : ArithmeticWord → Reader (Expr syntax.Arithmetic)
-  arithmeticParts (Constant z) = leaf (constant z)
-  arithmeticParts (Scalar x) = leaf (scalar x)
-  arithmeticParts (Operation o) = leaf (operation (operatorMeant o)) ⊛ part syntax.Arithmetic ⊛ part syntax.Arithmetic
-  arithmeticParts Select = leaf select ⊛ part syntax.Array ⊛ part syntax.Arithmetic
+  abbrev pub arithmeticMeaning : ArithmeticWord → Option (Reader (Expr syntax.Arithmetic))
+  arithmeticMeaning (Constant z) = some (leaf (constant z))
+  arithmeticMeaning (Scalar x) = some (leaf (scalar x))
+  arithmeticMeaning (Operation o) = some (leaf (operation (operatorMeant o)) ⊛ part syntax.Arithmetic ⊛ part syntax.Arithmetic)
+  arithmeticMeaning Select = some (leaf select ⊛ part syntax.Array ⊛ part syntax.Arithmetic)
+  arithmeticMeaning arithmetic.Other = none
 
-  abbrev pub booleanParts : BooleanWord → Reader (Expr syntax.Boolean)
-  booleanParts (Compare r) = leaf (compare (comparisonMeant r)) ⊛ part syntax.Arithmetic ⊛ part syntax.Arithmetic
-  booleanParts (Truth t) = leaf (truth t)
-  booleanParts And = leaf and ⊛ part syntax.Boolean ⊛ part syntax.Boolean
-  booleanParts Or = leaf or ⊛ part syntax.Boolean ⊛ part syntax.Boolean
-  booleanParts Not = leaf neg ⊛ part syntax.Boolean
+  abbrev pub booleanMeaning : BooleanWord → Option (Reader (Expr syntax.Boolean))
+  booleanMeaning (Compare r) = some (leaf (compare (comparisonMeant r)) ⊛ part syntax.Arithmetic ⊛ part syntax.Arithmetic)
+  booleanMeaning (Truth t) = some (leaf (truth t))
+  booleanMeaning And = some (leaf and ⊛ part syntax.Boolean ⊛ part syntax.Boolean)
+  booleanMeaning Or = some (leaf or ⊛ part syntax.Boolean ⊛ part syntax.Boolean)
+  booleanMeaning Not = some (leaf neg ⊛ part syntax.Boolean)
+  booleanMeaning boolean.Other = none
 
-  abbrev pub arrayParts : ArrayWord → Reader (Expr syntax.Array)
-  arrayParts (Identifier a) = leaf (array a)
-  arrayParts Zeros = leaf zeros
-  arrayParts Update = leaf update ⊛ part syntax.Array ⊛ part syntax.Arithmetic ⊛ part syntax.Arithmetic
-
-  abbrev pub arithmeticMeaning : Word → Option (Reader (Expr syntax.Arithmetic))
-  arithmeticMeaning (Arithmetic a) = some (arithmeticParts a)
-  arithmeticMeaning (Boolean b) = none
-  arithmeticMeaning (Array a) = none
-  arithmeticMeaning (Command c) = none
-  arithmeticMeaning (Set k) = none
-  arithmeticMeaning (Flow r) = none
-  arithmeticMeaning (Implication r) = none
-  arithmeticMeaning (Precondition r) = none
-  arithmeticMeaning Other = none
-
-  abbrev pub booleanMeaning : Word → Option (Reader (Expr syntax.Boolean))
-  booleanMeaning (Arithmetic a) = none
-  booleanMeaning (Boolean b) = some (booleanParts b)
-  booleanMeaning (Array a) = none
-  booleanMeaning (Command c) = none
-  booleanMeaning (Set k) = none
-  booleanMeaning (Flow r) = none
-  booleanMeaning (Implication r) = none
-  booleanMeaning (Precondition r) = none
-  booleanMeaning Other = none
-
-  abbrev pub arrayMeaning : Word → Option (Reader (Expr syntax.Array))
-  arrayMeaning (Arithmetic a) = none
-  arrayMeaning (Boolean b) = none
-  arrayMeaning (Array a) = some (arrayParts a)
-  arrayMeaning (Command c) = none
-  arrayMeaning (Set k) = none
-  arrayMeaning (Flow r) = none
-  arrayMeaning (Implication r) = none
-  arrayMeaning (Precondition r) = none
-  arrayMeaning Other = none
-
-  abbrev pub expressionMeaning : (j : Sort) → Word → Option (Reader (Expr j))
-  expressionMeaning syntax.Arithmetic w = arithmeticMeaning w
-  expressionMeaning syntax.Boolean w = booleanMeaning w
-  expressionMeaning syntax.Array w = arrayMeaning w
+  abbrev pub arrayMeaning : ArrayWord → Option (Reader (Expr syntax.Array))
+  arrayMeaning (Identifier a) = some (leaf (array a))
+  arrayMeaning Zeros = some (leaf zeros)
+  arrayMeaning Update = some (leaf update ⊛ part syntax.Array ⊛ part syntax.Arithmetic ⊛ part syntax.Arithmetic)
+  arrayMeaning array.Other = none
 
 -- `part j` reads an operand, `body` a command
 module _ (part : (j : Sort) → Reader (Expr j)) (body : Reader syntax.Command) where
-  abbrev pub commandParts : CommandWord → Reader syntax.Command
-  commandParts Skip = leaf skip
-  commandParts Sequence = leaf sequence ⊛ body ⊛ body
-  commandParts Assert = leaf assert ⊛ part syntax.Boolean
-  commandParts (AssignScalar x) = leaf (λ e. assign (toScalar x e)) ⊛ part syntax.Arithmetic
-  commandParts (AssignArray a) = leaf (λ e. assign (toArray a e)) ⊛ part syntax.Array
-  commandParts If = leaf ifElse ⊛ part syntax.Boolean ⊛ body ⊛ body
-  commandParts While = leaf while ⊛ part syntax.Boolean ⊛ body
-  commandParts (For q m) = leaf (for q m) ⊛ body
-
-  abbrev pub commandMeaning : Word → Option (Reader syntax.Command)
-  commandMeaning (Arithmetic a) = none
-  commandMeaning (Boolean b) = none
-  commandMeaning (Array a) = none
-  commandMeaning (Command c) = some (commandParts c)
-  commandMeaning (Set k) = none
-  commandMeaning (Flow r) = none
-  commandMeaning (Implication r) = none
-  commandMeaning (Precondition r) = none
-  commandMeaning Other = none
+  abbrev pub commandMeaning : CommandWord → Option (Reader syntax.Command)
+  commandMeaning Skip = some (leaf skip)
+  commandMeaning Sequence = some (leaf sequence ⊛ body ⊛ body)
+  commandMeaning Assert = some (leaf assert ⊛ part syntax.Boolean)
+  commandMeaning (AssignScalar x) = some (leaf (λ e. assign (toScalar x e)) ⊛ part syntax.Arithmetic)
+  commandMeaning (AssignArray a) = some (leaf (λ e. assign (toArray a e)) ⊛ part syntax.Array)
+  commandMeaning If = some (leaf ifElse ⊛ part syntax.Boolean ⊛ body ⊛ body)
+  commandMeaning While = some (leaf while ⊛ part syntax.Boolean ⊛ body)
+  commandMeaning (For q m) = some (leaf (for q m) ⊛ body)
+  commandMeaning command.Other = none
 
 -- a set of so many members at most, each read by `one`
 abbrev pub setMeaning : ℕ → Reader Member → Word → Option (Reader Members)
-setMeaning most one (Arithmetic a) = none
-setMeaning most one (Boolean b) = none
-setMeaning most one (Array a) = none
-setMeaning most one (Command c) = none
 setMeaning most one (Set k) = upTo most k (several k one)
 setMeaning most one (Flow r) = none
 setMeaning most one (Implication r) = none
@@ -165,10 +119,6 @@ module _ (b : Reader (Expr syntax.Boolean)) (c : Reader syntax.Command) (n : Rea
   preParts Pre30 = leaf (pre30 i) ⊛ c ⊛ n
 
   abbrev pub preMeaning : Word → Option (Reader PreEvidence)
-  preMeaning (Arithmetic a) = none
-  preMeaning (Boolean b) = none
-  preMeaning (Array a) = none
-  preMeaning (Command c) = none
   preMeaning (Set k) = none
   preMeaning (Flow r) = none
   preMeaning (Implication r) = none
@@ -186,10 +136,6 @@ module _ (m : Reader Members) (s : Reader SetEvidence) (i : ℕ) where
   implicationParts Set19 = leaf (set19 i)
 
   abbrev pub implicationMeaning : Word → Option (Reader SetEvidence)
-  implicationMeaning (Arithmetic a) = none
-  implicationMeaning (Boolean b) = none
-  implicationMeaning (Array a) = none
-  implicationMeaning (Command c) = none
   implicationMeaning (Set k) = none
   implicationMeaning (Flow r) = none
   implicationMeaning (Implication r) = some (implicationParts r)
@@ -217,10 +163,6 @@ module _
     flowParts Flow14 = leaf (flow14 i) ⊛ c ⊛ f
 
     abbrev pub flowMeaning : Word → Option (Reader FlowEvidence)
-    flowMeaning (Arithmetic a) = none
-    flowMeaning (Boolean b) = none
-    flowMeaning (Array a) = none
-    flowMeaning (Command c) = none
     flowMeaning (Set k) = none
     flowMeaning (Flow r) = some (flowParts r)
     flowMeaning (Implication r) = none

@@ -1,4 +1,4 @@
-// What a word stands for, by its kind and its payload.
+// What a word stands for in its group, by its kind and its payload.
 use super::ArithmeticWord;
 use super::ArrayWord;
 use super::BooleanWord;
@@ -38,9 +38,9 @@ use super::kinds::ZEROS;
 ghost use mathlib.Core.Path.{_≡_};
 ghost use Prim.Native.Nat.{_/_, _%_};
 ghost use Rattle.layout.specs.Bytes.{signed as signedOf};
-ghost use Rattle.words.specs.Decode.{within, operatorWord, comparisonWord, truthWord, arithmeticOf, booleanOf};
+ghost use Rattle.words.specs.Decode.{operatorWord, comparisonWord, truthWord, arithmeticOf, booleanOf};
 ghost use Rattle.words.specs.Decode.{arrayOf, commandOf};
-ghost use Rattle.words.specs.Decode.{flowOf, setOf, preOf, evidenceOf, decodeOf};
+ghost use Rattle.words.specs.Decode.{flowOf, setOf, preOf, evidenceOf};
 
 pub fn kind(word: u32) -> u32
     ensures { λ r. ⌜ r ≡ word / 67108864 ⌝ }
@@ -62,114 +62,187 @@ pub fn signed(payload: u32) -> i64
     if payload < 33554432 { p } else { p - PAYLOADS }
 }
 
-fn operator_word(payload: u32) -> Word
+fn operator_word(payload: u32) -> ArithmeticWord
     ensures { λ r. ⌜ r ≡ operatorWord payload ⌝ }
 {
     match payload {
-        0 => Word::Arithmetic(ArithmeticWord::Operation(Operator::Plus)),
-        1 => Word::Arithmetic(ArithmeticWord::Operation(Operator::Minus)),
-        2 => Word::Arithmetic(ArithmeticWord::Operation(Operator::Times)),
-        _ => Word::Other,
+        0 => ArithmeticWord::Operation(Operator::Plus),
+        1 => ArithmeticWord::Operation(Operator::Minus),
+        2 => ArithmeticWord::Operation(Operator::Times),
+        _ => ArithmeticWord::Other,
     }
 }
 
-fn comparison_word(payload: u32) -> Word
+fn comparison_word(payload: u32) -> BooleanWord
     ensures { λ r. ⌜ r ≡ comparisonWord payload ⌝ }
 {
     match payload {
-        0 => Word::Boolean(BooleanWord::Compare(Comparison::Equal)),
-        1 => Word::Boolean(BooleanWord::Compare(Comparison::Less)),
-        2 => Word::Boolean(BooleanWord::Compare(Comparison::AtMost)),
-        _ => Word::Other,
+        0 => BooleanWord::Compare(Comparison::Equal),
+        1 => BooleanWord::Compare(Comparison::Less),
+        2 => BooleanWord::Compare(Comparison::AtMost),
+        _ => BooleanWord::Other,
     }
 }
 
-fn truth_word(payload: u32) -> Word
+fn truth_word(payload: u32) -> BooleanWord
     ensures { λ r. ⌜ r ≡ truthWord payload ⌝ }
 {
     match payload {
-        0 => Word::Boolean(BooleanWord::Truth(false)),
-        1 => Word::Boolean(BooleanWord::Truth(true)),
-        _ => Word::Other,
+        0 => BooleanWord::Truth(false),
+        1 => BooleanWord::Truth(true),
+        _ => BooleanWord::Other,
     }
 }
 
-// A word whose payload is at most a bound.
-fn bounded(word: Word, payload: u32, most: u32) -> Word
-    ensures { λ r. ⌜ r ≡ within most payload word ⌝ }
-{
-    if payload <= most { word } else { Word::Other }
-}
-
 // Kinds 1 to 4. A reader that is due a word of one group asks for that group alone.
-pub fn arithmetic_word(kind: u32, payload: u32) -> Word
+pub fn arithmetic_word(kind: u32, payload: u32) -> ArithmeticWord
     ensures { λ r. ⌜ r ≡ arithmeticOf kind payload ⌝ }
 {
     match kind {
-        CONSTANT => Word::Arithmetic(ArithmeticWord::Constant(signed(payload))),
-        SCALAR => bounded(
-            Word::Arithmetic(ArithmeticWord::Scalar(payload)),
-            payload,
-            31,
-        ),
+        CONSTANT => ArithmeticWord::Constant(signed(payload)),
+        SCALAR => {
+            if payload <= 31 {
+                ArithmeticWord::Scalar(payload)
+            } else {
+                ArithmeticWord::Other
+            }
+        }
         OPERATOR => operator_word(payload),
-        SELECT => bounded(Word::Arithmetic(ArithmeticWord::Select), payload, 0),
-        _ => Word::Other,
+        SELECT => {
+            if payload == 0 {
+                ArithmeticWord::Select
+            } else {
+                ArithmeticWord::Other
+            }
+        }
+        _ => ArithmeticWord::Other,
     }
 }
 
 // Kinds 8 to 12.
-pub fn boolean_word(kind: u32, payload: u32) -> Word
+pub fn boolean_word(kind: u32, payload: u32) -> BooleanWord
     ensures { λ r. ⌜ r ≡ booleanOf kind payload ⌝ }
 {
     match kind {
         COMPARISON => comparison_word(payload),
         TRUTH => truth_word(payload),
-        AND => bounded(Word::Boolean(BooleanWord::And), payload, 0),
-        OR => bounded(Word::Boolean(BooleanWord::Or), payload, 0),
-        NOT => bounded(Word::Boolean(BooleanWord::Not), payload, 0),
-        _ => Word::Other,
+        AND => {
+            if payload == 0 {
+                BooleanWord::And
+            } else {
+                BooleanWord::Other
+            }
+        }
+        OR => {
+            if payload == 0 {
+                BooleanWord::Or
+            } else {
+                BooleanWord::Other
+            }
+        }
+        NOT => {
+            if payload == 0 {
+                BooleanWord::Not
+            } else {
+                BooleanWord::Other
+            }
+        }
+        _ => BooleanWord::Other,
     }
 }
 
 // Kinds 16 to 18.
-pub fn array_word(kind: u32, payload: u32) -> Word
+pub fn array_word(kind: u32, payload: u32) -> ArrayWord
     ensures { λ r. ⌜ r ≡ arrayOf kind payload ⌝ }
 {
     match kind {
-        ARRAY => bounded(Word::Array(ArrayWord::Identifier(payload)), payload, 31),
-        ZEROS => bounded(Word::Array(ArrayWord::Zeros), payload, 0),
-        UPDATE => bounded(Word::Array(ArrayWord::Update), payload, 0),
-        _ => Word::Other,
+        ARRAY => {
+            if payload <= 31 {
+                ArrayWord::Identifier(payload)
+            } else {
+                ArrayWord::Other
+            }
+        }
+        ZEROS => {
+            if payload == 0 {
+                ArrayWord::Zeros
+            } else {
+                ArrayWord::Other
+            }
+        }
+        UPDATE => {
+            if payload == 0 {
+                ArrayWord::Update
+            } else {
+                ArrayWord::Other
+            }
+        }
+        _ => ArrayWord::Other,
     }
 }
 
 // Kinds 24 to 31.
-pub fn command_word(kind: u32, payload: u32) -> Word
+pub fn command_word(kind: u32, payload: u32) -> CommandWord
     ensures { λ r. ⌜ r ≡ commandOf kind payload ⌝ }
 {
     match kind {
-        SKIP => bounded(Word::Command(CommandWord::Skip), payload, 0),
-        SEQUENCE => bounded(Word::Command(CommandWord::Sequence), payload, 0),
-        ASSERT => bounded(Word::Command(CommandWord::Assert), payload, 0),
-        TO_SCALAR => bounded(
-            Word::Command(CommandWord::AssignScalar(payload)),
-            payload,
-            31,
-        ),
-        TO_ARRAY => bounded(
-            Word::Command(CommandWord::AssignArray(payload)),
-            payload,
-            31,
-        ),
-        IF => bounded(Word::Command(CommandWord::If), payload, 0),
-        WHILE => bounded(Word::Command(CommandWord::While), payload, 0),
-        FOR => bounded(
-            Word::Command(CommandWord::For(payload % 32, payload / 32)),
-            payload,
-            1023,
-        ),
-        _ => Word::Other,
+        SKIP => {
+            if payload == 0 {
+                CommandWord::Skip
+            } else {
+                CommandWord::Other
+            }
+        }
+        SEQUENCE => {
+            if payload == 0 {
+                CommandWord::Sequence
+            } else {
+                CommandWord::Other
+            }
+        }
+        ASSERT => {
+            if payload == 0 {
+                CommandWord::Assert
+            } else {
+                CommandWord::Other
+            }
+        }
+        TO_SCALAR => {
+            if payload <= 31 {
+                CommandWord::AssignScalar(payload)
+            } else {
+                CommandWord::Other
+            }
+        }
+        TO_ARRAY => {
+            if payload <= 31 {
+                CommandWord::AssignArray(payload)
+            } else {
+                CommandWord::Other
+            }
+        }
+        IF => {
+            if payload == 0 {
+                CommandWord::If
+            } else {
+                CommandWord::Other
+            }
+        }
+        WHILE => {
+            if payload == 0 {
+                CommandWord::While
+            } else {
+                CommandWord::Other
+            }
+        }
+        FOR => {
+            if payload <= 1023 {
+                CommandWord::For(payload % 32, payload / 32)
+            } else {
+                CommandWord::Other
+            }
+        }
+        _ => CommandWord::Other,
     }
 }
 
@@ -240,25 +313,4 @@ pub fn evidence_word(kind: u32, payload: u32) -> Word
         PRECONDITION => pre_word(payload),
         _ => Word::Other,
     }
-}
-
-// What a word stands for.
-pub fn decode(word: u32) -> Word
-    ensures { λ r. ⌜ r ≡ decodeOf word ⌝ }
-{
-    let k = kind(word);
-    let p = payload(word);
-    if k <= 4 {
-        return arithmetic_word(k, p);
-    }
-    if k <= 12 {
-        return boolean_word(k, p);
-    }
-    if k <= 18 {
-        return array_word(k, p);
-    }
-    if k <= 31 {
-        return command_word(k, p);
-    }
-    evidence_word(k, p)
 }

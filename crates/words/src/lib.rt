@@ -15,12 +15,13 @@ pub enum Comparison {
     AtMost,
 }
 
-// Kinds 1 to 4; a constant's payload is signed.
+// Kinds 1 to 4; a constant's payload is signed. A word that is not of a group is its Other.
 pub enum ArithmeticWord {
     Constant(i64),
     Scalar(u32),
     Operation(Operator),
     Select,
+    Other,
 }
 
 // Kinds 8 to 12.
@@ -30,6 +31,7 @@ pub enum BooleanWord {
     And,
     Or,
     Not,
+    Other,
 }
 
 // Kinds 16 to 18.
@@ -37,6 +39,7 @@ pub enum ArrayWord {
     Identifier(u32),
     Zeros,
     Update,
+    Other,
 }
 
 // Kinds 24 to 31; a `for` has its scalar q, then its bound m.
@@ -49,6 +52,7 @@ pub enum CommandWord {
     If,
     While,
     For(u32, u32),
+    Other,
 }
 
 // Kind 33, by rule.
@@ -95,12 +99,8 @@ pub enum PreRule {
     Pre30,
 }
 
-// A word by its group. A set has its number of members, which the limits bound; what stands for nothing is Other.
+// Kinds 32 to 35. A set has its number of members, which the limits bound; any other word is Other.
 pub enum Word {
-    Arithmetic(ArithmeticWord),
-    Boolean(BooleanWord),
-    Array(ArrayWord),
-    Command(CommandWord),
     Set(u32),
     Flow(FlowRule),
     Implication(SetRule),

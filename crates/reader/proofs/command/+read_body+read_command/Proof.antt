@@ -3,13 +3,10 @@
 -- Assumes nothing.
 use borrow.Author.Needs.{needs}
 use native.Mathlib.Omega.{arith}
-use mathlib.Core.Path.{refl, _∙_, ap}
+use mathlib.Core.Path.{refl, ap}
 use Prim.Native.Nat.{ℕ, _<_, _+_, _*_}
-use Rattle.layout.specs.Read.{expression, command}
-use Rattle.words.specs.declared.Word.the-variants as Word
-use Rattle.reader.proofs.Walks.{onto, command-goes, stop, arm, none-arm}
+use Rattle.reader.proofs.Walks.{onto, command-goes, stop, arm}
 use Rattle.reader.proofs.Forward.{wordsLeft, word-left, expression-left, command-left}
-use Rattle.reader.proofs.Rest.{not-command}
 use borrow.Fn.Kinds.{In}
 use borrow.Fn.PlainCycle.{Measures, is, falls, and}
 use Rattle.reader.proofs.command.read_body.Reads as read-body
@@ -19,8 +16,6 @@ use Rattle.reader.proofs.command.read_command.Reads as read-command
 use Rattle.reader.proofs.command.read_command.Kinds as read-command-kinds
 use Rattle.reader.proofs.command.+read_body+read_command.Lts-read_command as read-command-lts
 use Rattle.reader.specs.declared.Walk.the-variants.{Next}
-use Rattle.reader.proofs.expression.read_arithmetic.Reads as read-arithmetic-reads
-use Rattle.reader.proofs.expression.read_array.Reads as read-array-reads
 use Rattle.reader.proofs.expression.read_operand.Reads as read-operand-reads
 use Rattle.reader.proofs.word.word_due.Reads as word-due-reads
 use Rattle.words.proofs.decode.command_word.Reads as command-word-reads
@@ -74,10 +69,6 @@ pub +read-body+read-command-spec : {M : Type 1} → statement M
       read-body.Post,
       read-operand-reads.Asked,
       read-operand-reads.Learnt,
-      read-arithmetic-reads.Asked,
-      read-arithmetic-reads.Learnt,
-      read-array-reads.Asked,
-      read-array-reads.Learnt,
     )
     (read-command-at t)
     read-command.Post
@@ -87,11 +78,10 @@ pub +read-body+read-command-spec : {M : Type 1} → statement M
     (λ c κs. search needs)
     (λ c. search needs)
     (λ c. search needs)
-    (λ c. search needs)
-    (λ c κs. let m = c .before .before .before .before .before .before .before in
+    (λ c κs. let m = c .before .before .before .before in
     let h = word-left _ _ _ (m .before .before .word-due .ensures) (m .d2 .given .1) in
     omega arith)
-    (λ c κs. let m = c .before .before .before .before .before .before .before .before in
+    (λ c κs. let m = c .before .before .before .before .before in
     let h = word-left _ _ _ (m .before .before .word-due .ensures) (m .d2 .given .1) in
     let f = command-left h _ (c .read-body .ensures) in
     omega arith)
@@ -103,91 +93,89 @@ pub +read-body+read-command-spec : {M : Type 1} → statement M
     (λ c κs. search needs)
     (λ c. search needs)
     (λ c κs. search needs)
-    (λ c κs. let m = c .before .before .before .before .before .before .before .before in
+    (λ c κs. let m = c .before .before .before .before .before in
     let h = word-left _ _ _ (m .before .before .word-due .ensures) (m .d2 .given .1) in
-    let f = expression-left h _ _ (c .read-operand2 .ensures) in
+    let f = expression-left h _ _ (c .read-operand4 .ensures) in
     omega arith)
-    (λ c κs. let m = c .before .before .before .before .before .before .before .before .before in
+    (λ c κs. let m = c .before .before .before .before .before .before in
     let h = word-left _ _ _ (m .before .before .word-due .ensures) (m .d2 .given .1) in
-    let f = expression-left h _ _ (c .before .read-operand2 .ensures) in
+    let f = expression-left h _ _ (c .before .read-operand4 .ensures) in
     let g = command-left f _ (c .read-body3 .ensures) in
     omega arith)
     (λ c. search needs)
     (λ c κs. search needs)
-    (λ c κs. let m = c .before .before .before .before .before .before .before .before in
+    (λ c κs. let m = c .before .before .before .before .before in
     let h = word-left _ _ _ (m .before .before .word-due .ensures) (m .d2 .given .1) in
-    let f = expression-left h _ _ (c .read-operand3 .ensures) in
+    let f = expression-left h _ _ (c .read-operand5 .ensures) in
     omega arith)
     (λ c. search needs)
-    (λ c κs. let m = c .before .before .before .before .before .before .before in
+    (λ c κs. let m = c .before .before .before .before in
     let h = word-left _ _ _ (m .before .before .word-due .ensures) (m .d2 .given .1) in
     omega arith)
+    (λ c. search needs)
     (λ c. let m = c .before in
     let a = m .before .before .before .before .args in
     stop (command-goes (a .w .now) (a .left) (a .at)) (m .before .before .word-due .ensures)
     (m .d .given .1))
     (λ c. let e = c in
-    let m = e .before .before .before .before .before .before .before in
+    let m = e .before .before .before .before in
     let a = m .before .before .before .before .args in
     arm (command-goes (a .w .now) (a .left) (a .at)) (m .before .before .word-due .ensures)
-    (m .d2 .given .1) (e .before .before .before .before .before .command-word .ensures)
-    (e .before .before .before .word .given .1 ∙ ap Word.Command (e .enum-told .given .1))
+    (m .d2 .given .1) (e .before .before .command-word .ensures)
+    (e .enum-told .given .1)
     refl)
     (λ c. let e = c .before .before in
-    let m = e .before .before .before .before .before .before .before in
+    let m = e .before .before .before .before in
     let a = m .before .before .before .before .args in
     arm (command-goes (a .w .now) (a .left) (a .at)) (m .before .before .word-due .ensures)
-    (m .d2 .given .1) (e .before .before .before .before .before .command-word .ensures)
-    (e .before .before .before .word .given .1 ∙ ap Word.Command (e .enum-told2 .given .1))
+    (m .d2 .given .1) (e .before .before .command-word .ensures)
+    (e .enum-told2 .given .1)
     (onto _ _ _ (c .read-body2 .ensures) (onto _ _ _ (c .before .read-body .ensures) refl)))
     (λ c. let e = c .before in
-    let m = e .before .before .before .before .before .before .before in
+    let m = e .before .before .before .before in
     let a = m .before .before .before .before .args in
     arm (command-goes (a .w .now) (a .left) (a .at)) (m .before .before .word-due .ensures)
-    (m .d2 .given .1) (e .before .before .before .before .before .command-word .ensures)
-    (e .before .before .before .word .given .1 ∙ ap Word.Command (e .enum-told3 .given .1))
+    (m .d2 .given .1) (e .before .before .command-word .ensures)
+    (e .enum-told3 .given .1)
     (onto _ _ _ (c .read-operand .ensures) refl))
     (λ c. let e = c .before in
-    let m = e .before .before .before .before .before .before .before in
+    let m = e .before .before .before .before in
     let a = m .before .before .before .before .args in
     arm (command-goes (a .w .now) (a .left) (a .at)) (m .before .before .word-due .ensures)
-    (m .d2 .given .1) (e .before .before .before .before .before .command-word .ensures)
-    (e .before .before .before .word .given .1 ∙ ap Word.Command (e .enum-told4 .given .1))
-    (onto _ _ _ {s = Next (m .d2 .given .0 .1 .1 .0)} (c .read-arithmetic .ensures) refl))
+    (m .d2 .given .1) (e .before .before .command-word .ensures)
+    (e .enum-told4 .given .1)
+    (onto _ _ _ (c .read-operand2 .ensures) refl))
     (λ c. let e = c .before in
-    let m = e .before .before .before .before .before .before .before in
+    let m = e .before .before .before .before in
     let a = m .before .before .before .before .args in
     arm (command-goes (a .w .now) (a .left) (a .at)) (m .before .before .word-due .ensures)
-    (m .d2 .given .1) (e .before .before .before .before .before .command-word .ensures)
-    (e .before .before .before .word .given .1 ∙ ap Word.Command (e .enum-told5 .given .1))
-    (onto _ _ _ {s = Next (m .d2 .given .0 .1 .1 .0)} (c .read-array .ensures) refl))
+    (m .d2 .given .1) (e .before .before .command-word .ensures)
+    (e .enum-told5 .given .1)
+    (onto _ _ _ (c .read-operand3 .ensures) refl))
     (λ c. let e = c .before .before .before in
-    let m = e .before .before .before .before .before .before .before in
+    let m = e .before .before .before .before in
     let a = m .before .before .before .before .args in
     arm (command-goes (a .w .now) (a .left) (a .at)) (m .before .before .word-due .ensures)
-    (m .d2 .given .1) (e .before .before .before .before .before .command-word .ensures)
-    (e .before .before .before .word .given .1 ∙ ap Word.Command (e .enum-told6 .given .1))
+    (m .d2 .given .1) (e .before .before .command-word .ensures)
+    (e .enum-told6 .given .1)
     (onto _ _ _ (c .read-body4 .ensures)
     (onto _ _ _ (c .before .read-body3 .ensures)
-    (onto _ _ _ (c .before .before .read-operand2 .ensures) refl))))
+    (onto _ _ _ (c .before .before .read-operand4 .ensures) refl))))
     (λ c. let e = c .before .before in
-    let m = e .before .before .before .before .before .before .before in
+    let m = e .before .before .before .before in
     let a = m .before .before .before .before .args in
     arm (command-goes (a .w .now) (a .left) (a .at)) (m .before .before .word-due .ensures)
-    (m .d2 .given .1) (e .before .before .before .before .before .command-word .ensures)
-    (e .before .before .before .word .given .1 ∙ ap Word.Command (e .enum-told7 .given .1))
-    (onto _ _ _ (c .read-body5 .ensures) (onto _ _ _ (c .before .read-operand3 .ensures) refl)))
+    (m .d2 .given .1) (e .before .before .command-word .ensures)
+    (e .enum-told7 .given .1)
+    (onto _ _ _ (c .read-body5 .ensures) (onto _ _ _ (c .before .read-operand5 .ensures) refl)))
     (λ c. let e = c .before in
-    let m = e .before .before .before .before .before .before .before in
+    let m = e .before .before .before .before in
     let a = m .before .before .before .before .args in
     arm (command-goes (a .w .now) (a .left) (a .at)) (m .before .before .word-due .ensures)
-    (m .d2 .given .1) (e .before .before .before .before .before .command-word .ensures)
-    (e .before .before .before .word .given .1 ∙ ap Word.Command (e .enum-told8 .given .1))
+    (m .d2 .given .1) (e .before .before .command-word .ensures)
+    (e .enum-told8 .given .1)
     (onto _ _ _ (c .read-body6 .ensures) refl))
-    (λ c. let m = c .before .before .before in
+    (λ c. let m = c .before .before .before .before in
     let a = m .before .before .before .before .args in
-    let b = m .d2 .given .0 .1 .1 .1 .0 in
-    none-arm (command-goes (a .w .now) (a .left) (a .at)) (m .before .before .word-due .ensures)
-    (m .d2 .given .1) (c .before .command-word .ensures)
-    (not-command (expression (a .w .now) b) (command (a .w .now) b) (c .before .command-word .result)
-    (c .match2 .keys2)))
+    arm (command-goes (a .w .now) (a .left) (a .at)) (m .before .before .word-due .ensures)
+    (m .d2 .given .1) (c .before .before .command-word .ensures) (c .enum-told9 .given .1) refl)

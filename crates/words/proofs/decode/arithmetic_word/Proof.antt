@@ -1,12 +1,12 @@
--- `words::decode::arithmetic_word` meets its contract: an arm by its key, the last by all that the number is not.
+-- `words::decode::arithmetic_word` meets its contract: an arm by its key and its test, the last by all that the number is not.
 -- Assumes nothing.
-use borrow.Author.Needs.{needs}
-use borrow.Author.Tests.{ne-eqb}
 use mathlib.Core.Path.{_∙_, ap}
 use mir.Facts.{toZ-ofZ}
 use lib.IntN.{ℤ}
 use Rattle.words.specs.declared.ArithmeticWord.the-variants.{Constant}
-use Rattle.words.specs.declared.Word.the-variants.{Arithmetic}
+use native.Mathlib.Omega.{arith}
+use borrow.Author.Needs.{needs}
+use borrow.Author.Tests.{le-leb, lt-leb, ne-eqb}
 use Rattle.words.specs.Decode.{arithmeticOf}
 use Rattle.words.proofs.decode.arithmetic_word.Statement.{statement}
 use Rattle.words.proofs.decode.arithmetic_word.Tie as tie
@@ -18,13 +18,13 @@ arithmetic-word-spec =
     (tie.spec
     (λ c κs. search needs)
     (λ c κs. search needs)
-    (λ c κs. search needs)
-    (λ c κs. search needs)
     (λ c. rw (c .before .match .keys1)
-    (ap (λ (z : ℤ). Arithmetic (Constant z)) (toZ-ofZ (record { sfits = c .signed .ok }) ∙ c .signed .ensures)))
-    (λ c. rw (c .before .match .keys2) (c .bounded .ensures))
+    (ap (λ (z : ℤ). Constant z) (toZ-ofZ (record { sfits = c .signed .ok }) ∙ c .signed .ensures)))
+    (λ c. rw (c .before .match .keys2, le-leb _ _ (c .if1 .taken)))
+    (λ c. rw (c .before .match .keys2, lt-leb _ _ (c .if1 .left)))
     (λ c. rw (c .before .match .keys3) (c .operator-word .ensures))
-    (λ c. rw (c .before .match .keys4) (c .bounded2 .ensures))
+    (λ c. rw (c .before .match .keys4, c .if2 .taken))
+    (λ c. let h = c .if2 .left in rw (c .before .match .keys4, lt-leb (c .before .before .args .payload) 0 (omega arith)))
     (λ c. let r = c .match .rest in simp (
       ne-eqb _ _ (r .1),
       ne-eqb _ _ (r .0 .1),

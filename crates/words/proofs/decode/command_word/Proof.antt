@@ -1,7 +1,7 @@
--- `words::decode::command_word` meets its contract: an arm by its key, the last by all that the number is not.
+-- `words::decode::command_word` meets its contract: an arm by its key and its test, the last by all that the number is not.
 -- Assumes nothing.
-use borrow.Author.Needs.{needs}
-use borrow.Author.Tests.{ne-eqb}
+use native.Mathlib.Omega.{arith}
+use borrow.Author.Tests.{le-leb, lt-leb, ne-eqb}
 use Rattle.words.specs.Decode.{commandOf}
 use Rattle.words.proofs.decode.command_word.Statement.{statement}
 use Rattle.words.proofs.decode.command_word.Tie as tie
@@ -11,22 +11,22 @@ unfolding commandOf
 command-word-spec =
     tie.close
     (tie.spec
-    (λ c κs. search needs)
-    (λ c κs. search needs)
-    (λ c κs. search needs)
-    (λ c κs. search needs)
-    (λ c κs. search needs)
-    (λ c κs. search needs)
-    (λ c κs. search needs)
-    (λ c κs. search needs)
-    (λ c. rw (c .before .match .keys1) (c .bounded .ensures))
-    (λ c. rw (c .before .match .keys2) (c .bounded2 .ensures))
-    (λ c. rw (c .before .match .keys3) (c .bounded3 .ensures))
-    (λ c. rw (c .before .match .keys4) (c .bounded4 .ensures))
-    (λ c. rw (c .before .match .keys5) (c .bounded5 .ensures))
-    (λ c. rw (c .before .match .keys6) (c .bounded6 .ensures))
-    (λ c. rw (c .before .match .keys7) (c .bounded7 .ensures))
-    (λ c. rw (c .before .match .keys8) (c .bounded8 .ensures))
+    (λ c. rw (c .before .match .keys1, c .if1 .taken))
+    (λ c. let h = c .if1 .left in rw (c .before .match .keys1, lt-leb (c .before .before .args .payload) 0 (omega arith)))
+    (λ c. rw (c .before .match .keys2, c .if2 .taken))
+    (λ c. let h = c .if2 .left in rw (c .before .match .keys2, lt-leb (c .before .before .args .payload) 0 (omega arith)))
+    (λ c. rw (c .before .match .keys3, c .if3 .taken))
+    (λ c. let h = c .if3 .left in rw (c .before .match .keys3, lt-leb (c .before .before .args .payload) 0 (omega arith)))
+    (λ c. rw (c .before .match .keys4, le-leb _ _ (c .if4 .taken)))
+    (λ c. rw (c .before .match .keys4, lt-leb _ _ (c .if4 .left)))
+    (λ c. rw (c .before .match .keys5, le-leb _ _ (c .if5 .taken)))
+    (λ c. rw (c .before .match .keys5, lt-leb _ _ (c .if5 .left)))
+    (λ c. rw (c .before .match .keys6, c .if6 .taken))
+    (λ c. let h = c .if6 .left in rw (c .before .match .keys6, lt-leb (c .before .before .args .payload) 0 (omega arith)))
+    (λ c. rw (c .before .match .keys7, c .if7 .taken))
+    (λ c. let h = c .if7 .left in rw (c .before .match .keys7, lt-leb (c .before .before .args .payload) 0 (omega arith)))
+    (λ c. rw (c .before .match .keys8, le-leb _ _ (c .if8 .taken)))
+    (λ c. rw (c .before .match .keys8, lt-leb _ _ (c .if8 .left)))
     (λ c. let r = c .match .rest in simp (
       ne-eqb _ _ (r .1),
       ne-eqb _ _ (r .0 .1),

@@ -1,0 +1,22 @@
+-- `reader::operand::boolean_operands` meets its contract, word by word.
+-- Assumes nothing.
+use borrow.Author.Needs.{needs}
+use Rattle.reader.proofs.operand.boolean_operands.Statement.{statement}
+use Rattle.reader.proofs.operand.boolean_operands.Tie as tie
+
+pub boolean-operands-spec : {M : Type 1} → statement M
+boolean-operands-spec =
+    tie.close
+    (tie.spec
+    (λ c. search needs)
+    (λ c. search needs)
+    (λ c. search needs)
+    (λ c. search needs)
+    (λ c. search needs)
+    (λ c. search needs)
+    (λ c. rw (c .enum-told .given .1))
+    (λ c. rw (c .enum-told2 .given .1))
+    (λ c. rw (c .enum-told3 .given .1))
+    (λ c. rw (c .enum-told4 .given .1))
+    (λ c. rw (c .enum-told5 .given .1))
+    (λ c. rw (c .enum-told6 .given .1)))
