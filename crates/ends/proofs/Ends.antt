@@ -12,7 +12,7 @@ use Rattle.language.specs.Syntax.{array, zeros, update, toScalar, toArray}
 use Rattle.language.specs.Syntax.{Command, skip, sequence, assert, assign, ifElse, while, for}
 use Rattle.rules.specs.Words.{Word, words, commandWords}
 use Rattle.rules.specs.Assertion.{Members}
-use Rattle.rules.specs.Context.{Limits}
+use Rattle.rules.specs.Context.{Context}
 use Rattle.layout.specs.Spelling.{FitsExpression, FitsCommand, membersWords, setWords, FitsMembers, FitsSet}
 use Rattle.layout.specs.Standing.{Stands}
 use Rattle.layout.proofs.Stands.{parted}
@@ -158,9 +158,9 @@ module _ (file : List ℕ) where
       (next (expression-sized d (m .antecedent) at r x)
       (next (expression-sized d (m .consequent) r q y) (members-run d l q p z)))
 
-  pub set-sized : (limits : Limits) (d : ℕ) (m : Members) (at p : ℕ) →
-      Stands file (setWords m) (FitsSet limits m d) at p → Sized at p
+  pub set-sized : (Γ : Context) (d : ℕ) (m : Members) (at p : ℕ) →
+      Stands file (setWords m) (FitsSet Γ m d) at p → Sized at p
   unfolding FitsSet countOf
-  set-sized limits zero m at p s = absurd (s .fit)
-  set-sized limits (suc d) m at p s =
+  set-sized Γ zero m at p s = absurd (s .fit)
+  set-sized Γ (suc d) m at p s =
       by-word (2 * length m) s (s .fit .0 .1) refl (members-run d m (at + 1) p (less-fit (rest s)))

@@ -20,6 +20,6 @@ module _ {file before filled after : List ℕ} (f : Filled file before filled) (
     long = omega (arith, m .blocks .room);
     expression-end = λ e d at p s. by-size (expression-sized file d e at p s);
     command-end = λ c d at p s. by-size (command-sized file d c at p s);
-    set-end = λ limits q d at p s. by-size (set-sized file limits d q at p s);
+    set-end = λ Γ q d at p s. by-size (set-sized file Γ d q at p s);
     blocks = m .blocks;
   }

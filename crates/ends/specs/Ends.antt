@@ -8,7 +8,7 @@ use Prim.Native.Nat.{ℕ, _≤_}
 use lib.ListN.{length, getD}
 use Rattle.language.specs.Syntax.{Sort, Expr, Command}
 use Rattle.rules.specs.Assertion.{Members}
-use Rattle.rules.specs.Context.{Limits}
+use Rattle.rules.specs.Context.{Context}
 use Rattle.layout.specs.EvidenceWords.{expressionPart, commandPart, setPart}
 use Rattle.layout.specs.Standing.{PartStands}
 use Rattle.ends.specs.Blocks.{Blocks}
@@ -18,6 +18,6 @@ pub record EndsOf (file ends : List ℕ) : Type 0 where
   pub expression-end : {k : Sort} (e : Expr k) (d at p : ℕ) →
       PartStands file (expressionPart e) d at p → getD ends at 0 ≡ p
   pub command-end : (c : Command) (d at p : ℕ) → PartStands file (commandPart c) d at p → getD ends at 0 ≡ p
-  pub set-end : (limits : Limits) (m : Members) (d at p : ℕ) →
-      PartStands file (setPart limits m) d at p → getD ends at 0 ≡ p
+  pub set-end : (Γ : Context) (m : Members) (d at p : ℕ) →
+      PartStands file (setPart Γ m) d at p → getD ends at 0 ≡ p
   pub blocks : Blocks file ends

@@ -11,7 +11,7 @@ use Prim.Native.Nat.{ℕ, zero, suc, _+_, _*_, _<_, _≤_}
 use native.Mathlib.Omega.{arith}
 use borrow.Author.Tests.{eqb-true, ltb-true}
 use lib.Dec.{eqb, ltb}
-use Rattle.rules.specs.Context.{Limits}
+use Rattle.rules.specs.Context.{Context}
 use Rattle.layout.specs.Bytes.{wordsOf, wordCount, numberAt}
 use Rattle.layout.specs.Reading.{Reading, read, fault, onRead}
 use Rattle.layout.specs.For.{unsteadyAt, firstUnsteady}
@@ -25,33 +25,33 @@ abbrev pub FaultBy : ℕ → Reading File → Type 0
 FaultBy n (read f p) = Unit {0}
 FaultBy n (fault k p) = (k ≤ 9) × (p ≤ n)
 
-module _ (limits : Limits) (w : List ℕ) where
+module _ (Γ : Context) (w : List ℕ) where
   -- n places from `at` on
-  unsteady-inside : (n at p : ℕ) → firstUnsteady limits w n at ≡ some p → p < at + n
+  unsteady-inside : (n at p : ℕ) → firstUnsteady Γ w n at ≡ some p → p < at + n
   unfolding firstUnsteady
   unsteady-inside zero at p e = absurd (let z : _≡_ {A = ℕ} 0 1 = cc in omega arith)
-  unsteady-inside (suc n) at p e = go (unsteadyAt limits w at) e (unsteady-inside n (suc at) p)
+  unsteady-inside (suc n) at p e = go (unsteadyAt Γ w at) e (unsteady-inside n (suc at) p)
     where
-      go : (t : Bool) → elim t [ true ↦ some at | false ↦ firstUnsteady limits w n (suc at) ] ≡ some p →
-          (firstUnsteady limits w n (suc at) ≡ some p → p < suc at + n) → p < at + suc n
+      go : (t : Bool) → elim t [ true ↦ some at | false ↦ firstUnsteady Γ w n (suc at) ] ≡ some p →
+          (firstUnsteady Γ w n (suc at) ≡ some p → p < suc at + n) → p < at + suc n
       go true e h = let x : at ≡ p = cc in omega arith
       go false e h = let x = h e in omega arith
 
-  steady-fault : (f : File) (p : ℕ) → FaultBy (wordCount w) (steadyFile limits w f p)
+  steady-fault : (f : File) (p : ℕ) → FaultBy (wordCount w) (steadyFile Γ w f p)
   unfolding steadyFile
-  steady-fault f p = go (firstUnsteady limits w (wordCount w) 0) refl
+  steady-fault f p = go (firstUnsteady Γ w (wordCount w) 0) refl
     where
-      go : (o : Option ℕ) → firstUnsteady limits w (wordCount w) 0 ≡ o →
+      go : (o : Option ℕ) → firstUnsteady Γ w (wordCount w) 0 ≡ o →
           FaultBy (wordCount w) (elim o [ none ↦ read f p | some at ↦ fault 7 at ])
       go none e = tt
       go (some at) e = let h = unsteady-inside (wordCount w) 0 at e in (omega arith, omega arith)
 
-  finish-fault : (f : File) (p : ℕ) → FaultBy (wordCount w) (finish limits w f p)
+  finish-fault : (f : File) (p : ℕ) → FaultBy (wordCount w) (finish Γ w f p)
   unfolding finish
   finish-fault f p = go (ltb p (wordCount w)) refl
     where
       go : (t : Bool) → ltb p (wordCount w) ≡ t →
-          FaultBy (wordCount w) (elim t [ true ↦ fault 6 p | false ↦ steadyFile limits w f p ])
+          FaultBy (wordCount w) (elim t [ true ↦ fault 6 p | false ↦ steadyFile Γ w f p ])
       go true t = let h = ltb-true p (wordCount w) t in (omega arith, omega arith)
       go false t = steady-fault f p
 
@@ -60,18 +60,18 @@ module _ (limits : Limits) (w : List ℕ) where
   some-word [] e = absurd (omega arith)
   some-word (x ∷ l) e = omega arith
 
-  pub words-fault : FaultBy (wordCount w) (wordsRead limits w)
+  pub words-fault : FaultBy (wordCount w) (wordsRead Γ w)
   unfolding wordsRead
   words-fault = go (eqb (numberAt w 0) (63 * 67108864 + wordCount w)) refl
     where
-      all : (x : Reading File) → parts limits w ≡ x → 1 ≤ wordCount w →
-          FaultBy (wordCount w) (onRead x (finish limits w))
+      all : (x : Reading File) → parts Γ w ≡ x → 1 ≤ wordCount w →
+          FaultBy (wordCount w) (onRead x (finish Γ w))
       all (read f p) e h = finish-fault f p
-      all (fault n p) e h = let x = parts-fault limits w n p e h in (omega (arith, x .most), x .inside)
+      all (fault n p) e h = let x = parts-fault Γ w n p e h in (omega (arith, x .most), x .inside)
 
       go : (t : Bool) → eqb (numberAt w 0) (63 * 67108864 + wordCount w) ≡ t →
-          FaultBy (wordCount w) (elim t [ true ↦ onRead (parts limits w) (finish limits w) | false ↦ fault 2 0 ])
-      go true t = all (parts limits w) refl (some-word w (eqb-true _ _ t))
+          FaultBy (wordCount w) (elim t [ true ↦ onRead (parts Γ w) (finish Γ w) | false ↦ fault 2 0 ])
+      go true t = all (parts Γ w) refl (some-word w (eqb-true _ _ t))
       go false t = (omega arith, omega arith)
 
 small-fault : (m n : ℕ) (x : Reading File) → m ≤ n → FaultBy m x → FaultBy n x
@@ -84,14 +84,14 @@ few-words bytes h =
     let l = words-length bytes in
     omega arith
 
-module _ (limits : Limits) (bytes : List ℕ) where
-  pub file-fault : FaultBy 8192 (fileOf limits bytes)
+module _ (Γ : Context) (bytes : List ℕ) where
+  pub file-fault : FaultBy 8192 (fileOf Γ bytes)
   file-fault = go (badLength bytes) refl
     where
-      go : (t : Bool) → badLength bytes ≡ t → FaultBy 8192 (fileOf limits bytes)
+      go : (t : Bool) → badLength bytes ≡ t → FaultBy 8192 (fileOf Γ bytes)
       go true t =
-          subst (λ (x : Reading File). FaultBy 8192 x) (sym (bad-file limits bytes t)) (omega arith, omega arith)
+          subst (λ (x : Reading File). FaultBy 8192 x) (sym (bad-file Γ bytes t)) (omega arith, omega arith)
       go false t =
-          subst (λ (x : Reading File). FaultBy 8192 x) (sym (good-file limits bytes t))
-          (small-fault (wordCount (wordsOf bytes)) 8192 (wordsRead limits (wordsOf bytes)) (few-words bytes t)
-          (words-fault limits (wordsOf bytes)))
+          subst (λ (x : Reading File). FaultBy 8192 x) (sym (good-file Γ bytes t))
+          (small-fault (wordCount (wordsOf bytes)) 8192 (wordsRead Γ (wordsOf bytes)) (few-words bytes t)
+          (words-fault Γ (wordsOf bytes)))

@@ -20,7 +20,7 @@ use Rattle.ends.specs.Ends.{EndsOf}
 use Rattle.ends.specs.Sizes.{CanTable}
 use Rattle.reader.specs.Walk.{limitsOf}
 use Rattle.reader.specs.File.{placesOf, readOf}
-use Rattle.reader.specs.declared.Limits.{Limits}
+use Rattle.reader.specs.declared.Context.{Context}
 use Rattle.reader.specs.declared.Places.{Places}
 use Rattle.reader.specs.declared.Layout.{Layout}
 use Rattle.reader.specs.declared.Layout.the-variants as Layout
@@ -39,42 +39,42 @@ can-table r = record { room = r .room; small = omega (arith, r .size) }
 not-found : {A : Type 0} {n p : ℕ} {s : Places} → Layout.Refused n p ≡ Layout.Found s → A
 not-found e = absurd (let z : _≡_ {A = ℕ} 0 1 = cc in omega arith)
 
-module _ {limits : Limits} {w table : List ℕ} where
-  pub steady-tabled : {s : Places} → Found w limits s → EndsOf w table → (r : Steadiness) → FirstFound w r →
-      r ≡ Steady → Tabled w limits (Layout.Found s) table
+module _ {Γ : Context} {w table : List ℕ} where
+  pub steady-tabled : {s : Places} → Found w Γ s → EndsOf w table → (r : Steadiness) → FirstFound w r →
+      r ≡ Steady → Tabled w Γ (Layout.Found s) table
   steady-tabled {s} h k r f e =
-      let x = found-read (readOf (limitsOf limits) w) s (h .found) in
-      let none = steady-none (limitsOf limits) w (found-whole (limitsOf limits) w s (h .found))
+      let x = found-read (readOf (limitsOf Γ) w) s (h .found) in
+      let none = steady-none (limitsOf Γ) w (found-whole (limitsOf Γ) w s (h .found))
       (subst (λ (z : Steadiness). FirstFound w z) e f) in
       record {
         layout = ap Layout.Found (x .at)
-            ∙ sym (ap placesOf (words-steady (limitsOf limits) w (x .file) (x .end) (x .was-read) none));
+            ∙ sym (ap placesOf (words-steady (limitsOf Γ) w (x .file) (x .end) (x .was-read) none));
         ends-of = λ _ _. k;
       }
 
-  pub unsteady-tabled : {s : Places} → Found w limits s → (r : Steadiness) (at : ℕ) → FirstFound w r → r ≡ At at →
-      Tabled w limits (Layout.Refused 7 at) table
+  pub unsteady-tabled : {s : Places} → Found w Γ s → (r : Steadiness) (at : ℕ) → FirstFound w r → r ≡ At at →
+      Tabled w Γ (Layout.Refused 7 at) table
   unsteady-tabled {s} h r at f e =
-      let x = found-read (readOf (limitsOf limits) w) s (h .found) in
-      let some = steady-some (limitsOf limits) w at (found-whole (limitsOf limits) w s (h .found))
+      let x = found-read (readOf (limitsOf Γ) w) s (h .found) in
+      let some = steady-some (limitsOf Γ) w at (found-whole (limitsOf Γ) w s (h .found))
       (subst (λ (z : Steadiness). FirstFound w z) e f) in
       record {
-        layout = sym (ap placesOf (words-unsteady (limitsOf limits) w (x .file) (x .end) at (x .was-read) some));
+        layout = sym (ap placesOf (words-unsteady (limitsOf Γ) w (x .file) (x .end) at (x .was-read) some));
         ends-of = λ s z. not-found z;
       }
 
-  pub refused-tabled : (r : Layout) (n p : ℕ) → r ≡ placesOf (readOf (limitsOf limits) w) → r ≡ Layout.Refused n p →
-      Tabled w limits (Layout.Refused n p) table
+  pub refused-tabled : (r : Layout) (n p : ℕ) → r ≡ placesOf (readOf (limitsOf Γ) w) → r ≡ Layout.Refused n p →
+      Tabled w Γ (Layout.Refused n p) table
   refused-tabled r n p e h = record {
-    layout = sym (ap placesOf (words-refused (limitsOf limits) w n p (sym h ∙ e)));
+    layout = sym (ap placesOf (words-refused (limitsOf Γ) w n p (sym h ∙ e)));
     ends-of = λ s z. not-found z;
   }
 
 -- ---- refusal 1
-pub bad-read : {bytes words table : List ℕ} (limits : Limits) → badLength bytes ≡ true →
-    FileRead bytes limits (Layout.Refused 1 0) words table
-bad-read {bytes} limits h = record {
-  layout = sym (ap placesOf (bad-file (limitsOf limits) bytes h));
+pub bad-read : {bytes words table : List ℕ} (Γ : Context) → badLength bytes ≡ true →
+    FileRead bytes Γ (Layout.Refused 1 0) words table
+bad-read {bytes} Γ h = record {
+  layout = sym (ap placesOf (bad-file (limitsOf Γ) bytes h));
   size = λ s z. not-found z;
   from-words = λ s z. not-found z;
   loaded = λ s z. not-found z;
@@ -94,40 +94,40 @@ loaded-room c h l = record {
   room = let f = c .fits h in omega (arith, c .wide, l .count, l .few);
 }
 
-pub loaded-file : {bytes words table after table′ : List ℕ} {limits : Limits} {n : ℕ} {r : Layout} →
-    CanLoad bytes words table → badLength bytes ≡ false → Loaded bytes words after n → Tabled (take n after) limits r table′ →
-    FileRead bytes limits r after table′
-loaded-file {bytes} {after = after} {table′} {limits} {n} {r} c h l t =
+pub loaded-file : {bytes words table after table′ : List ℕ} {Γ : Context} {n : ℕ} {r : Layout} →
+    CanLoad bytes words table → badLength bytes ≡ false → Loaded bytes words after n → Tabled (take n after) Γ r table′ →
+    FileRead bytes Γ r after table′
+loaded-file {bytes} {after = after} {table′} {Γ} {n} {r} c h l t =
     let a = loaded-all c h l in
     let f = c .fits h in
     let whole : n ≡ length bytes / 4 = loaded-words l (omega arith) .0 in
     record {
-      layout = t .layout ∙ ap (λ z. placesOf (wordsRead (limitsOf limits) z)) (a .words)
-          ∙ sym (ap placesOf (good-file (limitsOf limits) bytes h));
+      layout = t .layout ∙ ap (λ z. placesOf (wordsRead (limitsOf Γ) z)) (a .words)
+          ∙ sym (ap placesOf (good-file (limitsOf Γ) bytes h));
       size = λ s e. good-length bytes h;
-      from-words = λ s e. good-file (limitsOf limits) bytes h;
+      from-words = λ s e. good-file (limitsOf Γ) bytes h;
       loaded = λ s e. subst (λ k. take k after ≡ wordsOf bytes) whole (a .words);
       inside = λ s e. subst (λ k. k ≤ length after) whole (a .inside);
       ends-of = λ s e. subst (λ z. EndsOf z table′) (a .words) (t .ends-of s e);
     }
 
 -- ---- the words of a file that refusals 1 to 7 let pass, as a caller has them
-pub record Words (bytes : List ℕ) (limits : Limits) (s : Places) (words table : List ℕ) : Type 0 where
+pub record Words (bytes : List ℕ) (Γ : Context) (s : Places) (words table : List ℕ) : Type 0 where
   pub count : length bytes / 4 ≡ length (take (length bytes / 4) words)
   pub inside : length bytes / 4 ≤ length words
   pub size : length (take (length bytes / 4) words) ≤ 8192
   pub ends-of : EndsOf (take (length bytes / 4) words) table
-  pub was-read : Layout.Found s ≡ placesOf (wordsRead (limitsOf limits) (take (length bytes / 4) words))
-  pub of-file : wordsRead (limitsOf limits) (take (length bytes / 4) words) ≡ fileOf (limitsOf limits) bytes
+  pub was-read : Layout.Found s ≡ placesOf (wordsRead (limitsOf Γ) (take (length bytes / 4) words))
+  pub of-file : wordsRead (limitsOf Γ) (take (length bytes / 4) words) ≡ fileOf (limitsOf Γ) bytes
 
-pub file-words : {bytes words table : List ℕ} {limits : Limits} {r : Layout} {s : Places} →
-    FileRead bytes limits r words table → r ≡ Layout.Found s → Words bytes limits s words table
-file-words {bytes} {words} {table} {limits} {r} {s} f e =
+pub file-words : {bytes words table : List ℕ} {Γ : Context} {r : Layout} {s : Places} →
+    FileRead bytes Γ r words table → r ≡ Layout.Found s → Words bytes Γ s words table
+file-words {bytes} {words} {table} {Γ} {r} {s} f e =
     let w = f .loaded s e in
     let long : length (take (length bytes / 4) words) ≡ length bytes / 4 = ap length w ∙ words-length bytes in
     let small = f .size s e in
-    let read : wordsRead (limitsOf limits) (take (length bytes / 4) words) ≡ fileOf (limitsOf limits) bytes =
-    ap (wordsRead (limitsOf limits)) w ∙ sym (f .from-words s e) in
+    let read : wordsRead (limitsOf Γ) (take (length bytes / 4) words) ≡ fileOf (limitsOf Γ) bytes =
+    ap (wordsRead (limitsOf Γ)) w ∙ sym (f .from-words s e) in
     record {
       count = sym long;
       inside = f .inside s e;

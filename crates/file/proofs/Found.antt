@@ -13,7 +13,7 @@ use Prim.Native.Nat.{ℕ, _≤_}
 use native.Mathlib.Omega.{arith}
 use borrow.Author.Tests.{eqb-true, ltb-false}
 use lib.Dec.{ltb}
-use Rattle.rules.specs.Context.{Limits}
+use Rattle.rules.specs.Context.{Context}
 use Rattle.layout.specs.Bytes.{wordCount}
 use Rattle.layout.specs.Reading.{Reading, read, fault, onRead}
 use Rattle.layout.specs.For.{firstUnsteady}
@@ -24,7 +24,8 @@ use Rattle.reader.specs.declared.Layout.the-variants as Layout
 use Rattle.reader.proofs.Whole.{words-read, refused-file}
 use Rattle.scan.specs.Steady.{WholeFile, FirstFound, steadinessOf}
 use Rattle.scan.specs.declared.steady.Steadiness.the-variants.{Steady, At}
-use Rattle.scan.proofs.Files.{FileStands, file-stands, whole-file}
+use Rattle.layout.proofs.WholeFile.{PartsTo, parts-stood}
+use Rattle.scan.proofs.Files.{whole-file}
 
 -- the file that was read at these places
 pub record ReadAt (x : Reading File) (s : Places) : Type 0 where
@@ -37,11 +38,11 @@ pub found-read : (x : Reading File) (s : Places) → Layout.Found s ≡ placesOf
 found-read (read f p) s e = record { file = f; end = p; was-read = refl; at = (cc) }
 found-read (fault n p) s e = absurd (let z : _≡_ {A = ℕ} 0 1 = cc in omega arith)
 
-module _ (limits : Limits) (w : List ℕ) where
+module _ (Γ : Context) (w : List ℕ) where
   -- refusals 2 to 6 let the words pass
   pub record FileAt (f : File) (p : ℕ) : Type 0 where
-    pub whole : WholeFile limits w
-    pub stands : FileStands limits w f p
+    pub whole : WholeFile Γ w
+    pub stands : PartsTo Γ w f p
 
   ended-read : (x : Reading File) (f : File) (p : ℕ) → onRead x (ended w) ≡ read f p →
       (x ≡ read f p) × (wordCount w ≤ p)
@@ -57,23 +58,23 @@ module _ (limits : Limits) (w : List ℕ) where
           (k, omega arith)
   ended-read (fault n q) f p h = absurd (let z : _≡_ {A = ℕ} 0 1 = cc in omega arith)
 
-  read-file : (f : File) (p : ℕ) → readOf limits w ≡ read f p → FileAt f p
+  read-file : (f : File) (p : ℕ) → readOf Γ w ≡ read f p → FileAt f p
   unfolding readOf
   read-file f p h = go (headed w) refl h
     where
       go : (t : Bool) → headed w ≡ t →
-          elim t [ true ↦ onRead (parts limits w) (ended w) | false ↦ fault 2 0 ] ≡ read f p → FileAt f p
+          elim t [ true ↦ onRead (parts Γ w) (ended w) | false ↦ fault 2 0 ] ≡ read f p → FileAt f p
       go true t k =
-          let e = ended-read (parts limits w) f p k in
+          let e = ended-read (parts Γ w) f p k in
           record {
-            whole = whole-file limits w f p (eqb-true _ _ t) (e .0) (e .1);
-            stands = file-stands limits w f p (e .0);
+            whole = whole-file Γ w f p (eqb-true _ _ t) (e .0) (e .1);
+            stands = parts-stood Γ w f p (e .0);
           }
       go false t k = absurd (let z : _≡_ {A = ℕ} 0 1 = cc in omega arith)
 
-  pub found-whole : (s : Places) → Layout.Found s ≡ placesOf (readOf limits w) → WholeFile limits w
+  pub found-whole : (s : Places) → Layout.Found s ≡ placesOf (readOf Γ w) → WholeFile Γ w
   found-whole s e =
-      let x = found-read (readOf limits w) s e in
+      let x = found-read (readOf Γ w) s e in
       read-file (x .file) (x .end) (x .was-read) .whole
 
   -- ---- refusal 7
@@ -85,36 +86,36 @@ module _ (limits : Limits) (w : List ℕ) where
   some-found none at e = absurd (let z : _≡_ {A = ℕ} 0 1 = cc in omega arith)
   some-found (some p) at e = cc
 
-  pub steady-none : WholeFile limits w → FirstFound w Steady → firstUnsteady limits w (wordCount w) 0 ≡ none
-  steady-none h e = none-found _ (e .place limits h)
+  pub steady-none : WholeFile Γ w → FirstFound w Steady → firstUnsteady Γ w (wordCount w) 0 ≡ none
+  steady-none h e = none-found _ (e .place Γ h)
 
-  pub steady-some : (at : ℕ) → WholeFile limits w → FirstFound w (At at) →
-      firstUnsteady limits w (wordCount w) 0 ≡ some at
-  steady-some at h e = some-found _ at (e .place limits h)
+  pub steady-some : (at : ℕ) → WholeFile Γ w → FirstFound w (At at) →
+      firstUnsteady Γ w (wordCount w) 0 ≡ some at
+  steady-some at h e = some-found _ at (e .place Γ h)
 
   -- ---- refusals 2 to 7
-  pub words-steady : (f : File) (p : ℕ) → readOf limits w ≡ read f p → firstUnsteady limits w (wordCount w) 0 ≡ none →
-      wordsRead limits w ≡ read f p
+  pub words-steady : (f : File) (p : ℕ) → readOf Γ w ≡ read f p → firstUnsteady Γ w (wordCount w) 0 ≡ none →
+      wordsRead Γ w ≡ read f p
   unfolding steadyFile
-  words-steady f p e h = words-read limits w ∙ rw e (rw (h, steadyFile) refl)
+  words-steady f p e h = words-read Γ w ∙ rw e (rw (h, steadyFile) refl)
 
-  pub words-unsteady : (f : File) (p at : ℕ) → readOf limits w ≡ read f p →
-      firstUnsteady limits w (wordCount w) 0 ≡ some at → wordsRead limits w ≡ fault 7 at
+  pub words-unsteady : (f : File) (p at : ℕ) → readOf Γ w ≡ read f p →
+      firstUnsteady Γ w (wordCount w) 0 ≡ some at → wordsRead Γ w ≡ fault 7 at
   unfolding steadyFile
-  words-unsteady f p at e h = words-read limits w ∙ rw e (rw (h, steadyFile) refl)
+  words-unsteady f p at e h = words-read Γ w ∙ rw e (rw (h, steadyFile) refl)
 
-  pub words-refused : (n p : ℕ) → Layout.Refused n p ≡ placesOf (readOf limits w) → wordsRead limits w ≡ fault n p
-  words-refused n p e = words-read limits w ∙ rw (refused-file (readOf limits w) n p e) refl
+  pub words-refused : (n p : ℕ) → Layout.Refused n p ≡ placesOf (readOf Γ w) → wordsRead Γ w ≡ fault n p
+  words-refused n p e = words-read Γ w ∙ rw (refused-file (readOf Γ w) n p e) refl
 
   -- a file that 2 to 7 let pass
-  steady-read : (x : Reading File) (f : File) (p : ℕ) → onRead x (steadyFile limits w) ≡ read f p → x ≡ read f p
+  steady-read : (x : Reading File) (f : File) (p : ℕ) → onRead x (steadyFile Γ w) ≡ read f p → x ≡ read f p
   unfolding steadyFile
-  steady-read (read g q) f p e = go (firstUnsteady limits w (wordCount w) 0) e
+  steady-read (read g q) f p e = go (firstUnsteady Γ w (wordCount w) 0) e
     where
       go : (o : Option ℕ) → elim o [ none ↦ read g q | some at ↦ fault 7 at ] ≡ read f p → read g q ≡ read f p
       go none h = h
       go (some at) h = absurd (let z : _≡_ {A = ℕ} 0 1 = cc in omega arith)
   steady-read (fault n q) f p e = absurd (let z : _≡_ {A = ℕ} 0 1 = cc in omega arith)
 
-  pub read-stands : (f : File) (p : ℕ) → wordsRead limits w ≡ read f p → FileStands limits w f p
-  read-stands f p e = read-file f p (steady-read (readOf limits w) f p (sym (words-read limits w) ∙ e)) .stands
+  pub read-stands : (f : File) (p : ℕ) → wordsRead Γ w ≡ read f p → PartsTo Γ w f p
+  read-stands f p e = read-file f p (steady-read (readOf Γ w) f p (sym (words-read Γ w) ∙ e)) .stands

@@ -14,7 +14,7 @@ use Rattle.layout.specs.File.{badLength, wordsRead, fileOf}
 use Rattle.ends.specs.Ends.{EndsOf}
 use Rattle.reader.specs.Walk.{limitsOf}
 use Rattle.reader.specs.File.{placesOf, readOf}
-use Rattle.reader.specs.declared.Limits.{Limits}
+use Rattle.reader.specs.declared.Context.{Context}
 use Rattle.reader.specs.declared.Places.{Places}
 use Rattle.reader.specs.declared.Layout.{Layout}
 use Rattle.reader.specs.declared.Layout.the-variants as Layout
@@ -23,11 +23,11 @@ pub record Room (file table : List ℕ) : Type 0 where
   pub size : length file ≤ 8192
   pub room : length file + 2 * (length file / 32) ≤ length table
 
-pub record Found (file : List ℕ) (limits : Limits) (s : Places) : Type 0 where
-  pub found : Layout.Found s ≡ placesOf (readOf (limitsOf limits) file)
+pub record Found (file : List ℕ) (Γ : Context) (s : Places) : Type 0 where
+  pub found : Layout.Found s ≡ placesOf (readOf (limitsOf Γ) file)
 
-pub record Tabled (file : List ℕ) (limits : Limits) (r : Layout) (table : List ℕ) : Type 0 where
-  pub layout : r ≡ placesOf (wordsRead (limitsOf limits) file)
+pub record Tabled (file : List ℕ) (Γ : Context) (r : Layout) (table : List ℕ) : Type 0 where
+  pub layout : r ≡ placesOf (wordsRead (limitsOf Γ) file)
   pub ends-of : (s : Places) → r ≡ Layout.Found s → EndsOf file table
 
 pub record CanLoad (bytes words table : List ℕ) : Type 0 where
@@ -35,11 +35,11 @@ pub record CanLoad (bytes words table : List ℕ) : Type 0 where
   pub wide : length words + 2 * (length words / 32) ≤ length table
 
 -- the words stand in front of the room that was lent for them
-pub record FileRead (bytes : List ℕ) (limits : Limits) (r : Layout) (words table : List ℕ) : Type 0 where
-  pub layout : r ≡ placesOf (fileOf (limitsOf limits) bytes)
+pub record FileRead (bytes : List ℕ) (Γ : Context) (r : Layout) (words table : List ℕ) : Type 0 where
+  pub layout : r ≡ placesOf (fileOf (limitsOf Γ) bytes)
   pub size : (s : Places) → r ≡ Layout.Found s → length bytes ≤ 32768
   pub from-words : (s : Places) → r ≡ Layout.Found s →
-      fileOf (limitsOf limits) bytes ≡ wordsRead (limitsOf limits) (wordsOf bytes)
+      fileOf (limitsOf Γ) bytes ≡ wordsRead (limitsOf Γ) (wordsOf bytes)
   pub loaded : (s : Places) → r ≡ Layout.Found s → take (length bytes / 4) words ≡ wordsOf bytes
   pub inside : (s : Places) → r ≡ Layout.Found s → length bytes / 4 ≤ length words
   pub ends-of : (s : Places) → r ≡ Layout.Found s → EndsOf (wordsOf bytes) table

@@ -66,6 +66,9 @@ module _ (Γ : Context) (file : List ℕ) where
   unfolding parts
   parts-yields = reader-yields .yields
 
+  pub parts-stood : (f : File) (p : ℕ) → parts Γ file ≡ read f p → PartsTo f p
+  parts-stood f p e = subst (λ x. YieldsBy file 1 PartsTo x) e parts-yields .1
+
   -- a refusal 3, 4 or 5
   pub parts-fault : (n p : ℕ) → parts Γ file ≡ fault n p → 1 ≤ wordCount file → FaultAt file 1 n p
   parts-fault n p e = subst (λ x. YieldsBy file 1 PartsTo x) e parts-yields
@@ -86,7 +89,7 @@ module _ (Γ : Context) (file : List ℕ) where
     pub steady : firstUnsteady Γ file (wordCount file) 0 ≡ none
     pub end : p ≡ wordCount file
 
-  parts-inside : (f : File) (p : ℕ) → PartsTo f p → p ≤ wordCount file
+  pub parts-inside : (f : File) (p : ℕ) → PartsTo f p → p ≤ wordCount file
   parts-inside f p h =
       let s = h .evidence .stand in
       stands-inside file (f .evidenceAt) (treePart Γ (f .evidence) .spelling) p s

@@ -17,7 +17,7 @@ use lib.ListN.{getD}
 use Rattle.language.specs.Syntax.{Command, for}
 use Rattle.language.specs.Modifies.{scalarOf, modifies}
 use Rattle.rules.specs.Words.{forWord, commandWords}
-use Rattle.rules.specs.Context.{Limits}
+use Rattle.rules.specs.Context.{Context}
 use Rattle.rules.specs.Condition.{byForm}
 use Rattle.layout.specs.Bytes.{wordCount, kindAt, payloadAt}
 use Rattle.layout.specs.Reading.{read}
@@ -52,17 +52,17 @@ unfolding byForm
 for-steady q m c p = refl
 
 module _ (file : List ℕ) (at : ℕ) where
-  not-for : (limits : Limits) → (kindAt file at ≡ 31 → ⊥) → unsteadyAt limits file at ≡ false
+  not-for : (Γ : Context) → (kindAt file at ≡ 31 → ⊥) → unsteadyAt Γ file at ≡ false
   unfolding unsteadyAt
-  not-for limits h = rw (ne-eqb (kindAt file at) 31 h, unsteadyAt) refl
+  not-for Γ h = rw (ne-eqb (kindAt file at) 31 h, unsteadyAt) refl
 
-  is-for : (limits : Limits) → kindAt file at ≡ 31 →
-      unsteadyAt limits file at ≡ unsteady (command file (limits .depth) at)
+  is-for : (Γ : Context) → kindAt file at ≡ 31 →
+      unsteadyAt Γ file at ≡ unsteady (command file (Γ .limits .depth) at)
   unfolding unsteadyAt
-  is-for limits h = rw (eq-eqb (kindAt file at) 31 h, unsteadyAt) refl
+  is-for Γ h = rw (eq-eqb (kindAt file at) 31 h, unsteadyAt) refl
 
   pub tested-else : (kindAt file at ≡ 31 → ⊥) → Tested file at false
-  tested-else h = record { place = λ limits f. sym (not-for limits h) }
+  tested-else h = record { place = λ Γ f. sym (not-for Γ h) }
 
   over : (n : ℕ) (x : ForAt file n at) → Over file at (x .q) (x .m) (x .body)
   unfolding commandWords FitsCommand
@@ -85,11 +85,11 @@ module _ (file : List ℕ) (at : ℕ) where
   tested-for : at < wordCount file → kindAt file at ≡ 31 → (b : Bool) →
       ((q m : ℕ) (c : Command) → Over file at q m c → b ≡ not (steady q m c)) → Tested file at b
   tested-for l h b f = record {
-    place = λ limits k.
-        let x = file-fors limits file k .each at (omega arith) l h in
-        f (x .q) (x .m) (x .body) (over (limits .depth) x)
+    place = λ Γ k.
+        let x = file-fors Γ file k .each at (omega arith) l h in
+        f (x .q) (x .m) (x .body) (over (Γ .limits .depth) x)
         ∙ sym
-        (is-for limits h ∙ ap unsteady (read-for (limits .depth) x) ∙ for-steady (x .q) (x .m) (x .body) (x .past));
+        (is-for Γ h ∙ ap unsteady (read-for (Γ .limits .depth) x) ∙ for-steady (x .q) (x .m) (x .body) (x .past));
   }
 
   first-number : {q m : ℕ} {c : Command} → Over file at q m c → payloadAt file at % 32 ≡ q
@@ -139,52 +139,52 @@ module _ (file : List ℕ) (at : ℕ) where
 module _ (file : List ℕ) where
   -- no place before `at` has such a `for`
   pub record Passed (at : ℕ) : Type 0 where
-    pub rest-of : (limits : Limits) → WholeFile limits file →
-        firstUnsteady limits file (wordCount file - at) at ≡ firstUnsteady limits file (wordCount file) 0
+    pub rest-of : (Γ : Context) → WholeFile Γ file →
+        firstUnsteady Γ file (wordCount file - at) at ≡ firstUnsteady Γ file (wordCount file) 0
 
   pub passed-none : Passed 0
   passed-none = record {
-    rest-of = λ limits f.
+    rest-of = λ Γ f.
         let e : wordCount file - 0 ≡ wordCount file = omega arith in
-        ap (λ n. firstUnsteady limits file n 0) e;
+        ap (λ n. firstUnsteady Γ file n 0) e;
   }
 
   one-less : (at : ℕ) → at < wordCount file → wordCount file - at ≡ suc (wordCount file - (at + 1))
   one-less at h = omega arith
 
-  found : (limits : Limits) (n at : ℕ) → unsteadyAt limits file at ≡ true →
-      firstUnsteady limits file (suc n) at ≡ some at
+  found : (Γ : Context) (n at : ℕ) → unsteadyAt Γ file at ≡ true →
+      firstUnsteady Γ file (suc n) at ≡ some at
   unfolding firstUnsteady
-  found limits n at e = rw (e, firstUnsteady) refl
+  found Γ n at e = rw (e, firstUnsteady) refl
 
-  skipped : (limits : Limits) (n at : ℕ) → unsteadyAt limits file at ≡ false →
-      firstUnsteady limits file (suc n) at ≡ firstUnsteady limits file n (at + 1)
+  skipped : (Γ : Context) (n at : ℕ) → unsteadyAt Γ file at ≡ false →
+      firstUnsteady Γ file (suc n) at ≡ firstUnsteady Γ file n (at + 1)
   unfolding firstUnsteady
-  skipped limits n at e = rw (add-one at) (rw (e, firstUnsteady) refl)
+  skipped Γ n at e = rw (add-one at) (rw (e, firstUnsteady) refl)
 
-  nothing : (limits : Limits) (at : ℕ) → firstUnsteady limits file 0 at ≡ none
+  nothing : (Γ : Context) (at : ℕ) → firstUnsteady Γ file 0 at ≡ none
   unfolding firstUnsteady
-  nothing limits at = refl
+  nothing Γ at = refl
 
   pub passed-more : (at : ℕ) → at < wordCount file → Passed at → Tested file at false → Passed (at + 1)
   passed-more at h p t = record {
-    rest-of = λ limits f.
-        sym (skipped limits (wordCount file - (at + 1)) at (sym (t .place limits f)))
-        ∙ ap (λ n. firstUnsteady limits file n at) (sym (one-less at h)) ∙ p .rest-of limits f;
+    rest-of = λ Γ f.
+        sym (skipped Γ (wordCount file - (at + 1)) at (sym (t .place Γ f)))
+        ∙ ap (λ n. firstUnsteady Γ file n at) (sym (one-less at h)) ∙ p .rest-of Γ f;
   }
 
   pub found-here : (at : ℕ) → at < wordCount file → Passed at → Tested file at true → FirstFound file (At at)
   found-here at h p t = record {
-    place = λ limits f.
+    place = λ Γ f.
         ap steadinessOf
-        (sym (found limits (wordCount file - (at + 1)) at (sym (t .place limits f)))
-        ∙ ap (λ n. firstUnsteady limits file n at) (sym (one-less at h)) ∙ p .rest-of limits f);
+        (sym (found Γ (wordCount file - (at + 1)) at (sym (t .place Γ f)))
+        ∙ ap (λ n. firstUnsteady Γ file n at) (sym (one-less at h)) ∙ p .rest-of Γ f);
   }
 
   pub found-none : (at : ℕ) → wordCount file ≤ at → Passed at → FirstFound file Steady
   found-none at h p = record {
-    place = λ limits f.
+    place = λ Γ f.
         let e : 0 ≡ wordCount file - at = omega arith in
         ap steadinessOf
-        (sym (nothing limits at) ∙ ap (λ n. firstUnsteady limits file n at) e ∙ p .rest-of limits f);
+        (sym (nothing Γ at) ∙ ap (λ n. firstUnsteady Γ file n at) e ∙ p .rest-of Γ f);
   }

@@ -15,7 +15,7 @@ use Rattle.language.specs.Syntax.{Command, skip, sequence, assert, assign, ifEl
 use Rattle.language.specs.Modifies.{Identifier, scalarOf, arrayOf, sameIdentifier, modifies, identifiers}
 use Rattle.rules.specs.Words.{Word, words, commandWords}
 use Rattle.rules.specs.Assertion.{Members}
-use Rattle.rules.specs.Context.{Limits}
+use Rattle.rules.specs.Context.{Context}
 use Rattle.rules.specs.Sets.{setIdentifiers}
 use Rattle.rules.specs.Tests.{unmodified, isEmpty}
 use Rattle.layout.specs.Spelling.{FitsExpression, FitsCommand}
@@ -201,11 +201,11 @@ module _ (f g : Identifier → Bool) (h : (x : Identifier) → Low x → f x ≡
       (expression-mentions d c (l .0 .1))) (members-mentions d p (l .1))
       ∙ ap (anyId g) (append-assoc (identifiers a) (identifiers c) (setIdentifiers p))
 
-  set-mentions : (limits : Limits) (d : ℕ) (m : Members) → FitsSet limits m d →
+  set-mentions : (Γ : Context) (d : ℕ) (m : Members) → FitsSet Γ m d →
       anyOf mentions (setWords m) ≡ anyId g (setIdentifiers m)
   unfolding FitsSet mentioned
-  set-mentions limits zero m l = absurd l
-  set-mentions limits (suc d) m l = members-mentions d m (l .1)
+  set-mentions Γ zero m l = absurd l
+  set-mentions Γ (suc d) m l = members-mentions d m (l .1)
 
 none-modified : (c : Command) (l : List Identifier) → not (anyId (modifies c) l) ≡ unmodified l c
 none-modified c [] = refl
@@ -228,10 +228,10 @@ unmarked-tree file from to mask b e = record {
       (e ∙ any-stands (marked mask) file from (words x) to (s .stand) (expression-small d x (s .fit))
       ∙ expression-mentions (λ i. bit mask (slot i)) (modifies c) (m .marks) d x (s .fit))
       ∙ none-modified c (identifiers x);
-  set = λ limits q d s c m.
+  set = λ Γ q d s c m.
       ap not
-      (e ∙ any-stands (marked mask) file from (setWords q) to (s .stand) (set-small limits d q (s .fit))
-      ∙ set-mentions (λ i. bit mask (slot i)) (modifies c) (m .marks) limits d q (s .fit))
+      (e ∙ any-stands (marked mask) file from (setWords q) to (s .stand) (set-small Γ d q (s .fit))
+      ∙ set-mentions (λ i. bit mask (slot i)) (modifies c) (m .marks) Γ d q (s .fit))
       ∙ none-modified c (setIdentifiers q);
 }
 

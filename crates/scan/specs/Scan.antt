@@ -13,7 +13,7 @@ use lib.Dec.{eqb}
 use Rattle.language.specs.Syntax.{Sort, Expr, Command}
 use Rattle.language.specs.Modifies.{Identifier, scalarOf, arrayOf, identifiers}
 use Rattle.rules.specs.Assertion.{Members}
-use Rattle.rules.specs.Context.{Limits}
+use Rattle.rules.specs.Context.{Context}
 use Rattle.rules.specs.Sets.{setIdentifiers}
 use Rattle.rules.specs.Tests.{unmodified, isEmpty}
 use Rattle.layout.specs.EvidenceWords.{expressionPart, commandPart, setPart}
@@ -37,7 +37,7 @@ pub record Modified (file : List ℕ) (from to mask : ℕ) : Type 0 where
 pub record Unmarked (file : List ℕ) (from to mask : ℕ) (r : Bool) : Type 0 where
   pub expression : {k : Sort} (e : Expr k) (d : ℕ) → PartStands file (expressionPart e) d from to →
       (c : Command) → ModifiedBy c mask → r ≡ unmodified (identifiers e) c
-  pub set : (limits : Limits) (q : Members) (d : ℕ) → PartStands file (setPart limits q) d from to →
+  pub set : (Γ : Context) (q : Members) (d : ℕ) → PartStands file (setPart Γ q) d from to →
       (c : Command) → ModifiedBy c mask → r ≡ unmodified (setIdentifiers q) c
 
 -- the test tells whether the expression in the range has no identifier

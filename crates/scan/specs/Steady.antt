@@ -10,7 +10,7 @@ use mathlib.Core.Bool.{Bool}
 use mathlib.Core.List.{List}
 use mathlib.Core.Option.{Option, none, some}
 use Prim.Native.Nat.{ℕ, _+_, _*_, _<_}
-use Rattle.rules.specs.Context.{Limits}
+use Rattle.rules.specs.Context.{Context}
 use Rattle.layout.specs.Bytes.{wordCount, numberAt, kindAt}
 use Rattle.layout.specs.Reading.{read}
 use Rattle.layout.specs.For.{unsteadyAt, firstUnsteady}
@@ -19,10 +19,10 @@ use Rattle.ends.specs.Ends.{EndsOf}
 use Rattle.scan.specs.declared.steady.Steadiness.{Steadiness}
 use Rattle.scan.specs.declared.steady.Steadiness.the-variants.{Steady, At}
 
-pub record WholeFile (limits : Limits) (file : List ℕ) : Type 0 where
+pub record WholeFile (Γ : Context) (file : List ℕ) : Type 0 where
   pub tree : File
   pub first : numberAt file 0 ≡ 63 * 67108864 + wordCount file
-  pub all : parts limits file ≡ read tree (wordCount file)
+  pub all : parts Γ file ≡ read tree (wordCount file)
 
 abbrev pub steadinessOf : Option ℕ → Steadiness
 steadinessOf none = Steady
@@ -34,8 +34,8 @@ pub record CanTest (file ends : List ℕ) (at : ℕ) : Type 0 where
   pub places : EndsOf file ends
 
 pub record Tested (file : List ℕ) (at : ℕ) (r : Bool) : Type 0 where
-  pub place : (limits : Limits) → WholeFile limits file → r ≡ unsteadyAt limits file at
+  pub place : (Γ : Context) → WholeFile Γ file → r ≡ unsteadyAt Γ file at
 
 pub record FirstFound (file : List ℕ) (r : Steadiness) : Type 0 where
-  pub place : (limits : Limits) → WholeFile limits file →
-      r ≡ steadinessOf (firstUnsteady limits file (wordCount file) 0)
+  pub place : (Γ : Context) → WholeFile Γ file →
+      r ≡ steadinessOf (firstUnsteady Γ file (wordCount file) 0)

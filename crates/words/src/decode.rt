@@ -4,30 +4,22 @@ use super::ArrayWord;
 use super::BooleanWord;
 use super::CommandWord;
 use super::Comparison;
-use super::FlowRule;
 use super::Operator;
-use super::PreRule;
-use super::SetRule;
-use super::Word;
 use super::kinds::AND;
 use super::kinds::ARRAY;
 use super::kinds::ASSERT;
 use super::kinds::COMPARISON;
 use super::kinds::CONSTANT;
-use super::kinds::FLOW;
 use super::kinds::FOR;
 use super::kinds::IF;
-use super::kinds::IMPLICATION;
 use super::kinds::KIND;
 use super::kinds::NOT;
 use super::kinds::OPERATOR;
 use super::kinds::OR;
 use super::kinds::PAYLOADS;
-use super::kinds::PRECONDITION;
 use super::kinds::SCALAR;
 use super::kinds::SELECT;
 use super::kinds::SEQUENCE;
-use super::kinds::SET;
 use super::kinds::SKIP;
 use super::kinds::TO_ARRAY;
 use super::kinds::TO_SCALAR;
@@ -40,7 +32,6 @@ ghost use Prim.Native.Nat.{_/_, _%_};
 ghost use Rattle.layout.specs.Bytes.{signed as signedOf};
 ghost use Rattle.words.specs.Decode.{operatorWord, comparisonWord, truthWord, arithmeticOf, booleanOf};
 ghost use Rattle.words.specs.Decode.{arrayOf, commandOf};
-ghost use Rattle.words.specs.Decode.{flowOf, setOf, preOf, evidenceOf};
 
 pub fn kind(word: u32) -> u32
     ensures { λ r. ⌜ r ≡ word / 67108864 ⌝ }
@@ -243,74 +234,5 @@ pub fn command_word(kind: u32, payload: u32) -> CommandWord
             }
         }
         _ => CommandWord::Other,
-    }
-}
-
-fn flow_word(rule: u32) -> Word
-    ensures { λ r. ⌜ r ≡ flowOf rule ⌝ }
-{
-    match rule {
-        1 => Word::Flow(FlowRule::Flow1),
-        2 => Word::Flow(FlowRule::Flow2),
-        3 => Word::Flow(FlowRule::Flow3),
-        4 => Word::Flow(FlowRule::Flow4),
-        5 => Word::Flow(FlowRule::Flow5),
-        6 => Word::Flow(FlowRule::Flow6),
-        7 => Word::Flow(FlowRule::Flow7),
-        8 => Word::Flow(FlowRule::Flow8),
-        9 => Word::Flow(FlowRule::Flow9),
-        10 => Word::Flow(FlowRule::Flow10),
-        11 => Word::Flow(FlowRule::Flow11),
-        12 => Word::Flow(FlowRule::Flow12),
-        13 => Word::Flow(FlowRule::Flow13),
-        14 => Word::Flow(FlowRule::Flow14),
-        _ => Word::Other,
-    }
-}
-
-fn set_word(rule: u32) -> Word
-    ensures { λ r. ⌜ r ≡ setOf rule ⌝ }
-{
-    match rule {
-        13 => Word::Implication(SetRule::Set13),
-        14 => Word::Implication(SetRule::Set14),
-        15 => Word::Implication(SetRule::Set15),
-        16 => Word::Implication(SetRule::Set16),
-        17 => Word::Implication(SetRule::Set17),
-        18 => Word::Implication(SetRule::Set18),
-        19 => Word::Implication(SetRule::Set19),
-        _ => Word::Other,
-    }
-}
-
-fn pre_word(rule: u32) -> Word
-    ensures { λ r. ⌜ r ≡ preOf rule ⌝ }
-{
-    match rule {
-        20 => Word::Precondition(PreRule::Pre20),
-        21 => Word::Precondition(PreRule::Pre21),
-        22 => Word::Precondition(PreRule::Pre22),
-        23 => Word::Precondition(PreRule::Pre23),
-        24 => Word::Precondition(PreRule::Pre24),
-        25 => Word::Precondition(PreRule::Pre25),
-        26 => Word::Precondition(PreRule::Pre26),
-        27 => Word::Precondition(PreRule::Pre27),
-        28 => Word::Precondition(PreRule::Pre28),
-        29 => Word::Precondition(PreRule::Pre29),
-        30 => Word::Precondition(PreRule::Pre30),
-        _ => Word::Other,
-    }
-}
-
-// Kinds 32 to 35.
-pub fn evidence_word(kind: u32, payload: u32) -> Word
-    ensures { λ r. ⌜ r ≡ evidenceOf kind payload ⌝ }
-{
-    match kind {
-        SET => Word::Set(payload),
-        FLOW => flow_word(payload),
-        IMPLICATION => set_word(payload),
-        PRECONDITION => pre_word(payload),
-        _ => Word::Other,
     }
 }

@@ -1,13 +1,11 @@
--- `words::decode::pre_word` meets its contract: an arm by its key, the last by all that the number is not.
+-- `words::rows::flow_row` meets its contract: an arm by its key, the last by all that the number is not.
 -- Assumes nothing.
 use borrow.Author.Tests.{ne-eqb}
-use Rattle.words.specs.Decode.{preOf}
-use Rattle.words.proofs.decode.pre_word.Statement.{statement}
-use Rattle.words.proofs.decode.pre_word.Tie as tie
+use Rattle.words.proofs.rows.flow_row.Statement.{statement}
+use Rattle.words.proofs.rows.flow_row.Tie as tie
 
-pub pre-word-spec : {M : Type 1} → statement M
-unfolding preOf
-pre-word-spec =
+pub flow-row-spec : {M : Type 1} → statement M
+flow-row-spec =
     tie.close
     (tie.spec
     (λ c. rw (c .match .keys1))
@@ -21,6 +19,9 @@ pre-word-spec =
     (λ c. rw (c .match .keys9))
     (λ c. rw (c .match .keys10))
     (λ c. rw (c .match .keys11))
+    (λ c. rw (c .match .keys12))
+    (λ c. rw (c .match .keys13))
+    (λ c. rw (c .match .keys14))
     (λ c. let r = c .match .rest in simp (
       ne-eqb _ _ (r .1),
       ne-eqb _ _ (r .0 .1),
@@ -33,4 +34,7 @@ pre-word-spec =
       ne-eqb _ _ (r .0 .0 .0 .0 .0 .0 .0 .0 .1),
       ne-eqb _ _ (r .0 .0 .0 .0 .0 .0 .0 .0 .0 .1),
       ne-eqb _ _ (r .0 .0 .0 .0 .0 .0 .0 .0 .0 .0 .1),
+      ne-eqb _ _ (r .0 .0 .0 .0 .0 .0 .0 .0 .0 .0 .0 .1),
+      ne-eqb _ _ (r .0 .0 .0 .0 .0 .0 .0 .0 .0 .0 .0 .0 .1),
+      ne-eqb _ _ (r .0 .0 .0 .0 .0 .0 .0 .0 .0 .0 .0 .0 .0 .1),
     )))

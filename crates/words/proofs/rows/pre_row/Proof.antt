@@ -1,13 +1,11 @@
--- `words::decode::flow_word` meets its contract: an arm by its key, the last by all that the number is not.
+-- `words::rows::pre_row` meets its contract: an arm by its key, the last by all that the number is not.
 -- Assumes nothing.
 use borrow.Author.Tests.{ne-eqb}
-use Rattle.words.specs.Decode.{flowOf}
-use Rattle.words.proofs.decode.flow_word.Statement.{statement}
-use Rattle.words.proofs.decode.flow_word.Tie as tie
+use Rattle.words.proofs.rows.pre_row.Statement.{statement}
+use Rattle.words.proofs.rows.pre_row.Tie as tie
 
-pub flow-word-spec : {M : Type 1} → statement M
-unfolding flowOf
-flow-word-spec =
+pub pre-row-spec : {M : Type 1} → statement M
+pre-row-spec =
     tie.close
     (tie.spec
     (λ c. rw (c .match .keys1))
@@ -21,9 +19,6 @@ flow-word-spec =
     (λ c. rw (c .match .keys9))
     (λ c. rw (c .match .keys10))
     (λ c. rw (c .match .keys11))
-    (λ c. rw (c .match .keys12))
-    (λ c. rw (c .match .keys13))
-    (λ c. rw (c .match .keys14))
     (λ c. let r = c .match .rest in simp (
       ne-eqb _ _ (r .1),
       ne-eqb _ _ (r .0 .1),
@@ -36,7 +31,4 @@ flow-word-spec =
       ne-eqb _ _ (r .0 .0 .0 .0 .0 .0 .0 .0 .1),
       ne-eqb _ _ (r .0 .0 .0 .0 .0 .0 .0 .0 .0 .1),
       ne-eqb _ _ (r .0 .0 .0 .0 .0 .0 .0 .0 .0 .0 .1),
-      ne-eqb _ _ (r .0 .0 .0 .0 .0 .0 .0 .0 .0 .0 .0 .1),
-      ne-eqb _ _ (r .0 .0 .0 .0 .0 .0 .0 .0 .0 .0 .0 .0 .1),
-      ne-eqb _ _ (r .0 .0 .0 .0 .0 .0 .0 .0 .0 .0 .0 .0 .0 .1),
     )))

@@ -1,13 +1,11 @@
--- `words::decode::set_word` meets its contract: an arm by its key, the last by all that the number is not.
+-- `words::rows::set_row` meets its contract: an arm by its key, the last by all that the number is not.
 -- Assumes nothing.
 use borrow.Author.Tests.{ne-eqb}
-use Rattle.words.specs.Decode.{setOf}
-use Rattle.words.proofs.decode.set_word.Statement.{statement}
-use Rattle.words.proofs.decode.set_word.Tie as tie
+use Rattle.words.proofs.rows.set_row.Statement.{statement}
+use Rattle.words.proofs.rows.set_row.Tie as tie
 
-pub set-word-spec : {M : Type 1} → statement M
-unfolding setOf
-set-word-spec =
+pub set-row-spec : {M : Type 1} → statement M
+set-row-spec =
     tie.close
     (tie.spec
     (λ c. rw (c .match .keys1))
