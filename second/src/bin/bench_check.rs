@@ -1,9 +1,9 @@
 //! `bench_check VERSION`: one check of the file on standard input, and its line. VERSION is `proved` (feature `first`, see
 //! build.rs), `fast` or `second`. `bench_check times`: the nanoseconds of a call of each, in this order, best of many.
 
+use second::benchmark::times::best;
 use second::fast::{self, Work};
-use second::judge;
-use second::times::best;
+use second::naive::judge;
 use second::tool::{self, Fault};
 use std::io::Write;
 use std::sync::Mutex;

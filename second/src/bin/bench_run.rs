@@ -1,11 +1,11 @@
-//! `bench_run VERSION PROGRAM`: one run of a program of about a million steps (see programs.rs; `empty`: of no file), its code and
+//! `bench_run VERSION PROGRAM`: one run of a program of about a million steps (see benchmark/programs.rs; `empty`: of no file), its code and
 //! steps. VERSION is `proved` (feature `first`, see build.rs), `fast` or `second`. `bench_run times PROGRAM`: the nanoseconds of a
 //! run of each, in this order, best of many.
 
+use second::benchmark::programs;
+use second::benchmark::times::best;
 use second::fast::{self, Work};
-use second::programs;
-use second::run::{self, End, ARRAY_VALUES, MOST_BUDGET, SCALARS};
-use second::times::best;
+use second::naive::run::{self, End, ARRAY_VALUES, MOST_BUDGET, SCALARS};
 use second::tool::{self, Fault};
 use std::io::Write;
 use std::sync::Mutex;

@@ -6,8 +6,8 @@
 
 use second::fast;
 use second::generate::{mixed, Kind};
-use second::judge::{check, line_of, postcondition, precondition, Answer};
-use second::rows::hex_of;
+use second::naive::judge::{check, line_of, postcondition, precondition, Answer};
+use second::tool::rows::hex_of;
 use second::tool::{self, Fault};
 use std::collections::BTreeMap;
 use std::io::Write;

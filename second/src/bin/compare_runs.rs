@@ -4,9 +4,9 @@
 
 use second::fast;
 use second::generate::file_prng;
-use second::rows::{bytes_of_hex, changes_of, hex_of, store_of};
-use second::run::{run, SCALARS};
-use second::run_cases::run_case;
+use second::generate::run_cases::run_case;
+use second::naive::run::{run, SCALARS};
+use second::tool::rows::{bytes_of_hex, changes_of, hex_of, store_of};
 use second::tool::{self, Fault};
 use std::io::Write;
 

@@ -5,13 +5,13 @@
 //! or 9, to show that the search can find something. Exit status 1 if an
 //! accepted file has a counterexample.
 
+use second::compare::pairs::{try_pair, Found};
+use second::generate::mutate::mutate;
+use second::generate::nearly::nearly;
 use second::generate::{accepted, file_prng, near_miss};
-use second::judge::{check, Answer};
-use second::mutate::mutate;
-use second::nearly::nearly;
-use second::pairs::{try_pair, Found};
-use second::read::read;
-use second::rows::hex_of;
+use second::naive::judge::{check, Answer};
+use second::naive::read::read;
+use second::tool::rows::hex_of;
 use second::tool::{self, Fault};
 use std::io::Write;
 

@@ -1,8 +1,8 @@
 //! The pictures, as SVG: ratios file by file, and cost by file size.
 
-use super::measure::{Row, VERSIONS};
 use super::Measured;
-use second::worst::KINDS;
+use super::measure::{Row, VERSIONS};
+use second::benchmark::worst::KINDS;
 use std::fmt::Write;
 
 /// Colours that differ for the colour-blind too: proved, fast, second, yardstick.
