@@ -22,7 +22,7 @@ pub const PROGRAMS: [Program; 5] = [
 
 impl Program {
     pub fn file(&self) -> Vec<u8> {
-        file_bytes(&(self.make)(), &[], &[], &Flow { place: 0, rule: FlowRule::F10 })
+        file_bytes(&(self.make)(), &[], &[], &flow_of(FlowRule::F10))
     }
 }
 
@@ -38,22 +38,14 @@ fn plus(a: Arith, b: Arith) -> Arith {
     operate(Operator::Plus, a, b)
 }
 
-fn choose(test: Bool, then: Command, otherwise: Command) -> Command {
-    command(Form::If(test, Box::new(then), Box::new(otherwise)))
-}
-
 fn repeat(q: u32, m: u32, body: Command) -> Command {
     command(Form::For(q, m, Box::new(body)))
-}
-
-fn skip() -> Command {
-    command(Form::Skip)
 }
 
 /// for 0 up to 1: if 0 ≤ 1 then 4 := 4 + 0 else skip
 fn tight() -> Command {
     let test = compare(Comparison::LessOrEqual, scalar(0), scalar(1));
-    repeat(0, 1, choose(test, set(4, plus(scalar(4), scalar(0))), skip()))
+    repeat(0, 1, if_else(test, set(4, plus(scalar(4), scalar(0))), skip()))
 }
 
 /// while 0 < 1 and 4 < 5 + 1: (0 := 0 + 1; 4 := 0 × 3 − (4 + 7); 5 := 4 × 4)
@@ -83,7 +75,7 @@ fn elements() -> Command {
     let more = plus(Arith::Select(array(), index()), number(1));
     let count = command(Form::AssignArray(0, Array::Update(array(), index(), Box::new(more))));
     let test = compare(Comparison::Less, scalar(5), number(63));
-    let next = choose(test, set(5, plus(scalar(5), number(1))), set(5, number(0)));
+    let next = if_else(test, set(5, plus(scalar(5), number(1))), set(5, number(0)));
     repeat(4, 2, sequence(count, next))
 }
 
@@ -92,8 +84,8 @@ fn mailbox() -> Command {
     let is = |x, n| compare(Comparison::Equal, scalar(x), number(n));
     let take = sequence(set(14, scalar(11)), set(10, number(0)));
     let give = sequence(set(13, scalar(14)), set(12, number(1)));
-    let guard = choose(and(is(10, 1), not(is(12, 1))), sequence(take, give), skip());
+    let guard = if_else(and(is(10, 1), not(is(12, 1))), sequence(take, give), skip());
     let come = sequence(set(10, number(1)), set(11, plus(scalar(11), number(1))));
-    let read = choose(is(12, 1), set(12, number(0)), skip());
+    let read = if_else(is(12, 1), set(12, number(0)), skip());
     command(Form::While(Bool::Truth(true), Box::new(sequence(come, sequence(guard, read)))))
 }

@@ -40,28 +40,8 @@ impl Kind {
     }
 }
 
-fn flow(rule: FlowRule) -> Box<Flow> {
-    Box::new(Flow { place: 0, rule })
-}
-
-fn implication(rule: ImplicationRule) -> Box<Implication> {
-    Box::new(Implication { place: 0, rule })
-}
-
-fn before(rule: BeforeRule) -> Box<Before> {
-    Box::new(Before { place: 0, rule })
-}
-
 fn number(n: u32) -> Arith {
     Arith::Constant(i64::from(n))
-}
-
-fn member(phi: Bool, e: Arith) -> Member {
-    Member { phi, e: Expression::Arith(e) }
-}
-
-fn always() -> Bool {
-    Bool::Truth(true)
 }
 
 /// A balanced tree over leaves from..to.
@@ -89,20 +69,20 @@ fn sum(length: u32, n: u32) -> Arith {
 
 /// Half of the file is the antecedent, half are ifs; rules 7, 6 and 15 at an if, 8, 10 and 14 at a leaf.
 fn shared(ifs: u32) -> Vec<u32> {
-    let skip = |_| command(Form::Skip);
-    let choose = |a, b| command(Form::If(always(), Box::new(a), Box::new(b)));
+    let nothing = |_| skip();
+    let choose = |a, b| if_else(always(), a, b);
     let leaf = |_| {
-        let set = implication(ImplicationRule::S14);
-        *flow(FlowRule::F8 { m: Set::new(), flow: flow(FlowRule::F10), set })
+        let set = implication_of(ImplicationRule::S14);
+        *flow_of(FlowRule::F8 { m: Set::new(), flow: flow_of(FlowRule::F10), set })
     };
     let node = |a, b| {
         let (then, otherwise) = (Box::new(a), Box::new(b));
-        let (s, t, phi0, before) = (Set::new(), Set::new(), always(), before(BeforeRule::B29));
+        let (s, t, phi0, before) = (Set::new(), Set::new(), always(), before_of(BeforeRule::B29));
         let rule = FlowRule::F6 { s, t, phi0, then, otherwise, before };
         let test = Member { phi: always(), e: Expression::Bool(always()) };
-        *flow(FlowRule::F7 { m: vec![test], set: implication(ImplicationRule::S15), flow: flow(rule) })
+        *flow_of(FlowRule::F7 { m: vec![test], set: implication_of(ImplicationRule::S15), flow: flow_of(rule) })
     };
-    let c = tree(0, ifs + 1, &skip, &choose);
+    let c = tree(0, ifs + 1, &nothing, &choose);
     let evidence = tree(0, ifs + 1, &leaf, &node);
     file_words(&c, &[], &[member(never(2 * ifs), Arith::Scalar(0))], &evidence)
 }
@@ -110,19 +90,19 @@ fn shared(ifs: u32) -> Vec<u32> {
 /// Rule 14: each antecedent implies false.
 fn members(count: u32) -> Vec<u32> {
     let post: Set = (0..count).map(|_| member(never(14), Arith::Scalar(0))).collect();
-    let set = implication(ImplicationRule::S14);
-    let evidence = flow(FlowRule::F8 { m: Set::new(), flow: flow(FlowRule::F10), set });
-    file_words(&command(Form::Skip), &[], &post, &evidence)
+    let set = implication_of(ImplicationRule::S14);
+    let evidence = flow_of(FlowRule::F8 { m: Set::new(), flow: flow_of(FlowRule::F10), set });
+    file_words(&skip(), &[], &post, &evidence)
 }
 
 /// Rule 28, again and again, then 29.
 fn chain(length: u32) -> Vec<u32> {
-    let mut evidence = before(BeforeRule::B28 { phi1: always(), inner: before(BeforeRule::B29) });
+    let mut evidence = before_of(BeforeRule::B28 { phi1: always(), inner: before_of(BeforeRule::B29) });
     for _ in 0..length {
-        evidence = before(BeforeRule::B28 { phi1: or(never(7), always()), inner: evidence });
+        evidence = before_of(BeforeRule::B28 { phi1: or(never(7), always()), inner: evidence });
     }
     let set = [member(always(), number(5))];
-    file_words(&command(Form::Skip), &set, &set, &flow(FlowRule::F11 { before: evidence }))
+    file_words(&skip(), &set, &set, &flow_of(FlowRule::F11 { before: evidence }))
 }
 
 /// Rule 13 of flow at each while of a nest: P has the members of Q in reverse.
@@ -130,11 +110,11 @@ fn sets(count: u32) -> Vec<u32> {
     let mut p: Set = (1..count).map(|n| member(always(), sum(28, n))).collect();
     p.push(Member { phi: always(), e: Expression::Bool(always()) });
     let q: Set = p.iter().rev().cloned().collect();
-    let mut c = command(Form::Skip);
-    let mut evidence = flow(FlowRule::F1);
+    let mut c = skip();
+    let mut evidence = flow_of(FlowRule::F1);
     for _ in 0..120 {
         c = command(Form::While(always(), Box::new(c)));
-        evidence = flow(FlowRule::F13 { body: evidence });
+        evidence = flow_of(FlowRule::F13 { body: evidence });
     }
     file_words(&c, &p, &q, &evidence)
 }
@@ -143,10 +123,10 @@ fn sets(count: u32) -> Vec<u32> {
 fn modified(leaves: u32) -> Vec<u32> {
     let assign = |_| command(Form::AssignScalar(1, Arith::Scalar(2)));
     let set = vec![member(always(), Arith::Scalar(0))];
-    let leaf = |_| *flow(FlowRule::F10);
+    let leaf = |_| *flow_of(FlowRule::F10);
     let node = |a, b| {
         let (s, s2, t, t2) = (set.clone(), set.clone(), set.clone(), set.clone());
-        *flow(FlowRule::F9 { s, s2, t, t2, first: Box::new(a), second: Box::new(b) })
+        *flow_of(FlowRule::F9 { s, s2, t, t2, first: Box::new(a), second: Box::new(b) })
     };
     let c = tree(0, 3 * leaves, &assign, &sequence);
     file_words(&c, &set, &set, &tree(0, leaves, &leaf, &node))
@@ -158,7 +138,7 @@ fn replace(count: u32) -> Vec<u32> {
     let with = |e: Arith, n| member(always(), operate(Operator::Plus, e, number(n)));
     let p: Set = (0..count).rev().map(|n| with(right.clone(), n)).collect();
     let q: Set = (0..count).map(|n| with(Arith::Scalar(1), n)).collect();
-    file_words(&command(Form::AssignScalar(1, right)), &p, &q, &flow(FlowRule::F3))
+    file_words(&command(Form::AssignScalar(1, right)), &p, &q, &flow_of(FlowRule::F3))
 }
 
 /// Rule 1: members of depth 128 in both parts.
@@ -166,7 +146,7 @@ fn deep(count: u32) -> Vec<u32> {
     let nots = (0..126).fold(always(), |e, _| not(e));
     let one = Member { phi: nots.clone(), e: Expression::Bool(nots) };
     let set: Set = (0..count).map(|_| one.clone()).collect();
-    file_words(&command(Form::Skip), &set, &set, &flow(FlowRule::F1))
+    file_words(&skip(), &set, &set, &flow_of(FlowRule::F1))
 }
 
 /// Files that take much stack: evidence as deep as may be, and under it a rule that walks an expression as deep as may be.
@@ -191,14 +171,14 @@ pub fn deepest() -> Vec<Vec<u8>> {
 
 /// Rule 28 again and again, then rule 21, whose condition has the antecedent of Q.
 fn implied_below(phi: &Bool) -> Vec<u8> {
-    let mut evidence = before(BeforeRule::B21 { phi0: always(), body: before(BeforeRule::B22) });
+    let mut evidence = before_of(BeforeRule::B21 { phi0: always(), body: before_of(BeforeRule::B22) });
     for _ in 0..120 {
-        evidence = before(BeforeRule::B28 { phi1: always(), inner: evidence });
+        evidence = before_of(BeforeRule::B28 { phi1: always(), inner: evidence });
     }
-    let c = command(Form::While(Bool::Truth(false), Box::new(command(Form::Skip))));
+    let c = command(Form::While(Bool::Truth(false), Box::new(skip())));
     let p = [member(always(), number(5))];
     let q = [member(phi.clone(), number(5))];
-    bytes_of(&file_words(&c, &p, &q, &flow(FlowRule::F11 { before: evidence })))
+    bytes_of(&file_words(&c, &p, &q, &flow_of(FlowRule::F11 { before: evidence })))
 }
 
 /// Rule 13 of flow again and again, then rule 3 for x := x.
@@ -206,10 +186,10 @@ fn replaced_below(e: Expression) -> Vec<u8> {
     let test = Member { phi: always(), e: Expression::Bool(always()) };
     let set = [test, Member { phi: always(), e }];
     let mut c = command(Form::AssignScalar(1, Arith::Scalar(1)));
-    let mut evidence = flow(FlowRule::F3);
+    let mut evidence = flow_of(FlowRule::F3);
     for _ in 0..125 {
         c = command(Form::While(always(), Box::new(c)));
-        evidence = flow(FlowRule::F13 { body: evidence });
+        evidence = flow_of(FlowRule::F13 { body: evidence });
     }
     bytes_of(&file_words(&c, &set, &set, &evidence))
 }

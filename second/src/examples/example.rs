@@ -44,22 +44,14 @@ impl Example {
     }
 }
 
-pub fn always() -> Bool {
-    Bool::Truth(true)
-}
-
 /// A flag: an integer that is 1 when it is set.
 pub fn flag(x: u32) -> Bool {
     compare(Comparison::Equal, Arith::Scalar(x), Arith::Constant(1))
 }
 
-pub fn member(phi: Bool, e: impl Into<Expression>) -> Member {
-    Member { phi, e: e.into() }
-}
-
 /// true ⇒ each of these.
 macro_rules! agree {
-    ($($e:expr),*) => { vec![$(crate::examples::example::member(crate::examples::example::always(), $e)),*] };
+    ($($e:expr),*) => { vec![$(crate::layout::syntax::member(crate::layout::syntax::always(), $e)),*] };
 }
 pub(crate) use agree;
 
@@ -67,38 +59,18 @@ pub fn assign(x: u32, a: Arith) -> Command {
     command(Form::AssignScalar(x, a))
 }
 
-pub fn skip() -> Command {
-    command(Form::Skip)
-}
-
-pub fn if_else(test: Bool, then: Command, otherwise: Command) -> Command {
-    command(Form::If(test, Box::new(then), Box::new(otherwise)))
-}
-
-pub fn flow(rule: FlowRule) -> Box<Flow> {
-    Box::new(Flow { place: 0, rule })
-}
-
-pub fn implication(rule: ImplicationRule) -> Box<Implication> {
-    Box::new(Implication { place: 0, rule })
-}
-
-pub fn before(rule: BeforeRule) -> Box<Before> {
-    Box::new(Before { place: 0, rule })
-}
-
 pub fn by_sequence(m: Set, first: Box<Flow>, second: Box<Flow>) -> Box<Flow> {
-    flow(FlowRule::F2 { m, first, second })
+    flow_of(FlowRule::F2 { m, first, second })
 }
 
 /// (P, Q), each member of Q in P or among the new ones. P grows by one new member at a time, by rule 17: from the members
 /// that its rule asks for. At the end each of Q stands in it.
 pub fn grow(p: &[Member], new: &[Member]) -> Box<Implication> {
-    let [first, rest @ ..] = new else { return implication(ImplicationRule::S13) };
+    let [first, rest @ ..] = new else { return implication_of(ImplicationRule::S13) };
     let (s, rule) = source(p, first);
     let t = [p, std::slice::from_ref(first)].concat();
     let second = grow(&t, rest);
-    implication(ImplicationRule::S17 { s, s2: vec![first.clone()], t, first: implication(rule), second })
+    implication_of(ImplicationRule::S17 { s, s2: vec![first.clone()], t, first: implication_of(rule), second })
 }
 
 /// What one member follows from, and by which rule: 15 if it names nothing, 18 if P has its consequent, else 19.

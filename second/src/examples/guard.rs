@@ -86,32 +86,32 @@ impl Way {
 
 /// ({true ⇒ in_dat}, the four assignments, {true ⇒ out_dat}): figure 3 (b), lines 2 to 5.
 fn then_evidence(way: Way) -> Box<Flow> {
-    let last = by_sequence(only(way.out_dat), flow(FlowRule::F3), flow(FlowRule::F10));
-    let middle = by_sequence(only(way.data), flow(FlowRule::F10), last);
-    by_sequence(only(way.data), flow(FlowRule::F3), middle)
+    let last = by_sequence(only(way.out_dat), flow_of(FlowRule::F3), flow_of(FlowRule::F10));
+    let middle = by_sequence(only(way.data), flow_of(FlowRule::F10), last);
+    by_sequence(only(way.data), flow_of(FlowRule::F3), middle)
 }
 
 /// (Θ0, the if, {true ⇒ out_dat}).
 fn if_evidence(way: Way) -> Box<Flow> {
-    flow(FlowRule::F6 {
+    flow_of(FlowRule::F6 {
         s: only(way.in_dat),
         t: only(way.out_dat),
         phi0: always(),
         then: then_evidence(way),
-        otherwise: flow(FlowRule::F1),
-        before: before(BeforeRule::B29),
+        otherwise: flow_of(FlowRule::F1),
+        before: before_of(BeforeRule::B29),
     })
 }
 
 /// The first two members of P imply those of Θ0, each by rule 18.
 fn antecedents_evidence(p: &[Member], raw: &[Member]) -> Box<Implication> {
-    implication(ImplicationRule::S16 {
+    implication_of(ImplicationRule::S16 {
         s: p[..1].to_vec(),
         s2: raw[..1].to_vec(),
         t: p[1..2].to_vec(),
         t2: raw[1..2].to_vec(),
-        first: implication(ImplicationRule::S18),
-        second: implication(ImplicationRule::S18),
+        first: implication_of(ImplicationRule::S18),
+        second: implication_of(ImplicationRule::S18),
     })
 }
 
@@ -119,19 +119,19 @@ fn antecedents_evidence(p: &[Member], raw: &[Member]) -> Box<Implication> {
 fn test_evidence(way: Way) -> Box<Implication> {
     let [ready, free] = way.flags();
     let denied = member(always(), not(flag(way.out_rdy)));
-    implication(ImplicationRule::S17 {
+    implication_of(ImplicationRule::S17 {
         s: vec![free],
         s2: vec![denied.clone()],
         t: vec![ready, denied],
-        first: implication(ImplicationRule::S19),
-        second: implication(ImplicationRule::S19),
+        first: implication_of(ImplicationRule::S19),
+        second: implication_of(ImplicationRule::S19),
     })
 }
 
 /// (P, Θ0), P the contract or a faulty one with four members.
 fn set_evidence(way: Way, p: &Set) -> Box<Implication> {
     let raw = way.raw();
-    implication(ImplicationRule::S16 {
+    implication_of(ImplicationRule::S16 {
         s: p[..2].to_vec(),
         s2: raw[..2].to_vec(),
         t: p[2..].to_vec(),
@@ -143,17 +143,17 @@ fn set_evidence(way: Way, p: &Set) -> Box<Implication> {
 
 /// (P, the if, {true ⇒ out_dat}).
 fn transfer_evidence(way: Way, p: &Set) -> Box<Flow> {
-    flow(FlowRule::F7 { m: way.raw(), set: set_evidence(way, p), flow: if_evidence(way) })
+    flow_of(FlowRule::F7 { m: way.raw(), set: set_evidence(way, p), flow: if_evidence(way) })
 }
 
 /// Output 0: P goes through the first if by rule 10, as paper 000 says below figure 5.
 fn output_0_evidence(p: &Set) -> Box<Flow> {
-    by_sequence(p.clone(), flow(FlowRule::F10), transfer_evidence(TO_0, p))
+    by_sequence(p.clone(), flow_of(FlowRule::F10), transfer_evidence(TO_0, p))
 }
 
 /// Output 1: the second if does not modify it.
 fn output_1_evidence() -> Box<Flow> {
-    by_sequence(only(OUT_1_DAT), transfer_evidence(TO_1, &TO_1.contract()), flow(FlowRule::F10))
+    by_sequence(only(OUT_1_DAT), transfer_evidence(TO_1, &TO_1.contract()), flow_of(FlowRule::F10))
 }
 
 /// MACHINE_STEP of figure 2.
@@ -184,7 +184,7 @@ fn both() -> Example {
     let (pre, post) = ([s.clone(), t.clone()].concat(), [s2.clone(), t2.clone()].concat());
     let first = output_0_evidence(&s);
     let second = output_1_evidence();
-    good("guard-both", about, pre, post, flow(FlowRule::F9 { s, s2, t, t2, first, second }))
+    good("guard-both", about, pre, post, flow_of(FlowRule::F9 { s, s2, t, t2, first, second }))
 }
 
 /// The trap of rule 6: nobody asks that the two runs agree on the test.
@@ -192,8 +192,8 @@ fn without_the_test() -> Example {
     let pre = TO_0.contract()[..2].to_vec();
     let raw = TO_0.raw()[..2].to_vec();
     let set = antecedents_evidence(&pre, &raw);
-    let transfer = flow(FlowRule::F7 { m: raw, set, flow: if_evidence(TO_0) });
-    let evidence = by_sequence(pre.clone(), flow(FlowRule::F10), transfer);
+    let transfer = flow_of(FlowRule::F7 { m: raw, set, flow: if_evidence(TO_0) });
+    let evidence = by_sequence(pre.clone(), flow_of(FlowRule::F10), transfer);
     let about = "FAULTY: guard-output-0 without the two flags in P, so that φ0 ⇒ B is missing in rule 6.\n\
         Refused 8 at [1.2.2]: whether the if was taken can be seen in OUT_0_DAT.";
     good("guard-without-test", about, pre, only(OUT_0_DAT), evidence)

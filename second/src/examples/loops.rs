@@ -48,13 +48,13 @@ fn before_assignment(c: &Command, q: &Set) -> Set {
 
 /// (P, a scalar assignment, Q): P grows by these members to what rule 3 asks for.
 fn assignment(c: &Command, p: &Set, new: &Set, q: &Set) -> Box<Flow> {
-    flow(FlowRule::F7 { m: before_assignment(c, q), set: grow(p, new), flow: flow(FlowRule::F3) })
+    flow_of(FlowRule::F7 { m: before_assignment(c, q), set: grow(p, new), flow: flow_of(FlowRule::F3) })
 }
 
 /// (I, a while, Q), Q some members of I, from evidence of (I, the body, I).
 fn loop_evidence(i: &Set, body: Box<Flow>) -> Box<Flow> {
-    let kept = flow(FlowRule::F13 { body });
-    flow(FlowRule::F8 { m: i.clone(), flow: kept, set: implication(ImplicationRule::S13) })
+    let kept = flow_of(FlowRule::F13 { body });
+    flow_of(FlowRule::F8 { m: i.clone(), flow: kept, set: implication_of(ImplicationRule::S13) })
 }
 
 // lookup
@@ -73,8 +73,8 @@ fn lookup_with(name: &'static str, about: &'static str, most: i64) -> Example {
     let read = agree![select(TABLE, x(INDEX))];
     let asked = under(&read, &range(63));
     let program = sequence(command(Form::Assert(range(63))), assign(FOUND, select(TABLE, x(INDEX))));
-    let run = by_sequence(read, flow(FlowRule::F5), flow(FlowRule::F3));
-    let evidence = flow(FlowRule::F7 { m: asked, set: implication(ImplicationRule::S18), flow: run });
+    let run = by_sequence(read, flow_of(FlowRule::F5), flow_of(FlowRule::F3));
+    let evidence = flow_of(FlowRule::F7 { m: asked, set: implication_of(ImplicationRule::S18), flow: run });
     let pre = vec![member(range(most), select(TABLE, x(INDEX)))];
     Example { name, about, names: LOOKUP, program, pre, post: agree![x(FOUND)], evidence }
 }
@@ -105,13 +105,13 @@ fn message_with(name: &'static str, about: &'static str, second: i64) -> Example
     let m = before_assignment(&put_at(1, 1), &post);
     let s = before_assignment(&put_at(0, 0), &m);
     let pre = [under(&s, &flag(OPEN)), under(&post, &not(flag(OPEN))), agree![flag(OPEN)]].concat();
-    let evidence = flow(FlowRule::F6 {
+    let evidence = flow_of(FlowRule::F6 {
         s,
         t: post.clone(),
         phi0: always(),
-        then: by_sequence(m, flow(FlowRule::F4), flow(FlowRule::F4)),
-        otherwise: flow(FlowRule::F1),
-        before: before(BeforeRule::B29),
+        then: by_sequence(m, flow_of(FlowRule::F4), flow_of(FlowRule::F4)),
+        otherwise: flow_of(FlowRule::F1),
+        before: before_of(BeforeRule::B29),
     });
     let program = if_else(flag(OPEN), sequence(put_at(0, 0), put_at(1, second)), skip());
     Example { name, about, names: MESSAGE, program, pre, post, evidence }
@@ -142,7 +142,7 @@ fn scrub() -> Example {
         program: sequence(assign(out, select(work, number(0))), clear),
         pre: agree![select(work, number(0))],
         post: agree![x(out)],
-        evidence: by_sequence(agree![x(out)], flow(FlowRule::F3), flow(FlowRule::F10)),
+        evidence: by_sequence(agree![x(out)], flow_of(FlowRule::F3), flow_of(FlowRule::F10)),
     }
 }
 
@@ -169,8 +169,8 @@ fn test(q: Arith) -> Bool {
 fn for_evidence(p: &Set, first: &Set, i: &Set, body: &Command, round: Box<Flow>) -> Box<Flow> {
     let start = assignment(&assign(Q, number(1)), p, first, i);
     let after = before_assignment(&assign(Q, next()), i);
-    let all = by_sequence(i.clone(), start, loop_evidence(i, by_sequence(after, round, flow(FlowRule::F3))));
-    flow(FlowRule::F14 { d: meaning_of_for(Q, BOUND, body), flow: all })
+    let all = by_sequence(i.clone(), start, loop_evidence(i, by_sequence(after, round, flow_of(FlowRule::F3))));
+    flow_of(FlowRule::F14 { d: meaning_of_for(Q, BOUND, body), flow: all })
 }
 
 /// `bound`: whether P and what the loop keeps speak of `hours`.
@@ -213,11 +213,11 @@ fn total_round(i: &Set, is_first: fn(Arith) -> Bool, sums: [Set; 2]) -> Box<Flow
     rest.retain(|member| member.e != x(SUM).into());
     let new = [agree![next(), test(next()), is_first(next())], s.clone(), t.clone(), cases[..2].to_vec()].concat();
     let m = [cases.clone(), rest.clone()].concat();
-    let (then, otherwise) = (flow(FlowRule::F3), flow(FlowRule::F3));
-    let first = flow(FlowRule::F6 { s, t, phi0: always(), then, otherwise, before: before(BeforeRule::B29) });
-    let second = flow(FlowRule::F10);
-    let both = flow(FlowRule::F9 { s: cases, s2: agree![x(SUM)], t: rest.clone(), t2: rest, first, second });
-    flow(FlowRule::F7 { m, set: grow(i, &new), flow: both })
+    let (then, otherwise) = (flow_of(FlowRule::F3), flow_of(FlowRule::F3));
+    let first = flow_of(FlowRule::F6 { s, t, phi0: always(), then, otherwise, before: before_of(BeforeRule::B29) });
+    let second = flow_of(FlowRule::F10);
+    let both = flow_of(FlowRule::F9 { s: cases, s2: agree![x(SUM)], t: rest.clone(), t2: rest, first, second });
+    flow_of(FlowRule::F7 { m, set: grow(i, &new), flow: both })
 }
 
 fn total() -> Example {
@@ -255,10 +255,10 @@ fn retry_flow(s: &Set) -> Box<Flow> {
     let i = agree![left(x(TRIES)), number(0), x(TRIES), number(1), x(SENT), x(PUT)];
     let after = before_assignment(&assign(TRIES, fewer()), &i);
     let first = assignment(&assign(PUT, x(SENT)), &i, &agree![fewer(), left(fewer())], &after);
-    let rest = by_sequence(after.clone(), flow(FlowRule::F10), flow(FlowRule::F3));
+    let rest = by_sequence(after.clone(), flow_of(FlowRule::F10), flow_of(FlowRule::F3));
     let body = by_sequence(after, first, rest);
     let set = grow(s, &agree![number(0), number(1), left(x(TRIES))]);
-    flow(FlowRule::F7 { m: i.clone(), set, flow: loop_evidence(&i, body) })
+    flow_of(FlowRule::F7 { m: i.clone(), set, flow: loop_evidence(&i, body) })
 }
 
 /// `phi` is the antecedent before the loop; `before` is evidence that it is a precondition of rdy = 1.
@@ -266,7 +266,7 @@ fn retry_with(name: &'static str, about: &'static str, phi: Bool, before: Box<Be
     let (s, s2) = (agree![x(TRIES), x(SENT), x(PUT)], agree![x(PUT)]);
     let (pre, post) = (under(&s, &phi), under(&s2, &flag(READY)));
     let under_true = retry_flow(&s);
-    let evidence = flow(FlowRule::F12 { s, s2, phi, phi2: flag(READY), flow: under_true, before });
+    let evidence = flow_of(FlowRule::F12 { s, s2, phi, phi2: flag(READY), flow: under_true, before });
     let fewer = assign(TRIES, operate(Operator::Minus, x(TRIES), number(1)));
     let body = sequence(assign(PUT, x(SENT)), sequence(assign(READY, number(1)), fewer));
     let program = command(Form::While(left(x(TRIES)), Box::new(body)));
@@ -276,14 +276,14 @@ fn retry_with(name: &'static str, about: &'static str, phi: Bool, before: Box<Be
 fn retry() -> Example {
     let about = "A value is sent as often as tries are left. Where rdy is 1 at the end, `out` derives from tries, `in` and `out`,\n\
         and that only where rdy was 1 before or a try was left.\nAccepted.";
-    let evidence = before(BeforeRule::B21 { phi0: always(), body: before(BeforeRule::B29) });
+    let evidence = before_of(BeforeRule::B21 { phi0: always(), body: before_of(BeforeRule::B29) });
     retry_with("retry", about, or(flag(READY), left(x(TRIES))), evidence)
 }
 
 fn retry_before() -> Example {
     let about = "FAULTY: retry with rdy = 1 as the antecedent before the loop too.\n\
         Refused 8 at [1.2]: the loop modifies rdy.";
-    retry_with("retry-before", about, flag(READY), before(BeforeRule::B27))
+    retry_with("retry-before", about, flag(READY), before_of(BeforeRule::B27))
 }
 
 pub fn examples() -> Vec<Example> {

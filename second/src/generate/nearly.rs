@@ -70,25 +70,23 @@ impl Writer<'_> {
         self.fuel > 0
     }
 
-    fn flow(&mut self, c: &Command) {
-        let by_command = match &c.form {
-            Form::Skip => 1,
-            Form::Sequence(..) => 2,
-            Form::AssignScalar(..) => 3,
-            Form::AssignArray(..) => 4,
-            Form::Assert(..) => 5,
-            Form::If(..) => 6,
-            Form::While(..) => 13,
-            Form::For(..) => 14,
-        };
-        let mut rule = match self.rng.below(10) {
+    /// The rule for the command, one of those for any command, or any one (each a first rule and how many); the last when
+    /// nothing is left to spend.
+    fn rule(&mut self, by_command: u32, free: (u32, usize), any: (u32, usize), last: u32) -> u32 {
+        let rule = match self.rng.below(10) {
             0..=4 => by_command,
-            5..=7 => 7 + self.rng.below(6) as u32,
-            _ => 1 + self.rng.below(14) as u32,
+            5..=7 => free.0 + self.rng.below(free.1) as u32,
+            _ => any.0 + self.rng.below(any.1) as u32,
         };
-        if !self.spend() {
-            rule = 10;
+        if self.spend() {
+            rule
+        } else {
+            last
         }
+    }
+
+    fn flow(&mut self, c: &Command) {
+        let rule = self.rule(flow_rule_of(c), (7, 6), (1, 14), 10);
         self.words.push(pack(33, rule));
         let (first, second) = parts_of(c);
         match rule {
@@ -168,24 +166,7 @@ impl Writer<'_> {
     }
 
     fn before(&mut self, c: &Command) {
-        let by_command = match &c.form {
-            Form::If(..) => 20,
-            Form::While(..) => 21,
-            Form::Skip => 22,
-            Form::Sequence(..) => 23,
-            Form::AssignScalar(..) => 24,
-            Form::AssignArray(..) => 25,
-            Form::Assert(..) => 26,
-            Form::For(..) => 30,
-        };
-        let mut rule = match self.rng.below(10) {
-            0..=4 => by_command,
-            5..=7 => 27 + self.rng.below(3) as u32,
-            _ => 20 + self.rng.below(11) as u32,
-        };
-        if !self.spend() {
-            rule = 27;
-        }
+        let rule = self.rule(before_rule_of(c), (27, 3), (20, 11), 27);
         self.words.push(pack(35, rule));
         let (first, second) = parts_of(c);
         match rule {
@@ -217,12 +198,39 @@ impl Writer<'_> {
     }
 }
 
+/// The flow rule for the command.
+fn flow_rule_of(c: &Command) -> u32 {
+    match &c.form {
+        Form::Skip => 1,
+        Form::Sequence(..) => 2,
+        Form::AssignScalar(..) => 3,
+        Form::AssignArray(..) => 4,
+        Form::Assert(..) => 5,
+        Form::If(..) => 6,
+        Form::While(..) => 13,
+        Form::For(..) => 14,
+    }
+}
+
+/// The precondition rule for the command.
+fn before_rule_of(c: &Command) -> u32 {
+    match &c.form {
+        Form::If(..) => 20,
+        Form::While(..) => 21,
+        Form::Skip => 22,
+        Form::Sequence(..) => 23,
+        Form::AssignScalar(..) => 24,
+        Form::AssignArray(..) => 25,
+        Form::Assert(..) => 26,
+        Form::For(..) => 30,
+    }
+}
+
 /// C1 and C2, or skip where there is none.
 fn parts_of(c: &Command) -> (Command, Command) {
-    let skip = command(Form::Skip);
     match &c.form {
         Form::Sequence(a, b) | Form::If(_, a, b) => ((**a).clone(), (**b).clone()),
-        Form::While(_, body) | Form::For(_, _, body) => ((**body).clone(), skip),
-        _ => (skip.clone(), skip),
+        Form::While(_, body) | Form::For(_, _, body) => ((**body).clone(), skip()),
+        _ => (skip(), skip()),
     }
 }

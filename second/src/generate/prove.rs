@@ -7,12 +7,8 @@ use crate::naive::judge::operands_of;
 use crate::naive::modified::of_expression;
 use crate::naive::sets::{stands_in, union};
 
-pub fn made(rule: ImplicationRule) -> Implication {
-    Implication { place: 0, rule }
-}
-
 /// Evidence for (P, Q), or the consequents that P would need (under true).
-pub fn prove(p: &Set, q: &Set) -> Result<Implication, Vec<Expression>> {
+pub fn prove(p: &Set, q: &Set) -> Result<Box<Implication>, Vec<Expression>> {
     let mut lacking = Vec::new();
     let mut proved = Vec::new();
     for member in q {
@@ -26,34 +22,34 @@ pub fn prove(p: &Set, q: &Set) -> Result<Implication, Vec<Expression>> {
     }
     let (used, _, evidence) = unite(proved);
     // From P to what was used of it (rules 17 and 13), then to Q.
-    Ok(made(ImplicationRule::S17 {
+    Ok(implication_of(ImplicationRule::S17 {
         s: p.clone(),
         s2: used.clone(),
         t: used,
-        first: Box::new(made(ImplicationRule::S13)),
-        second: Box::new(evidence),
+        first: implication_of(ImplicationRule::S13),
+        second: evidence,
     }))
 }
 
-type Part = (Set, Set, Implication);
+type Part = (Set, Set, Box<Implication>);
 
 /// Rule 16, again and again.
 fn unite(parts: Vec<Part>) -> Part {
     let mut parts = parts.into_iter();
     let Some(mut all) = parts.next() else {
-        return (Set::new(), Set::new(), made(ImplicationRule::S13));
+        return (Set::new(), Set::new(), implication_of(ImplicationRule::S13));
     };
     for (t, t2, second) in parts {
         let (s, s2, first) = all;
         let from = without_doubles(&union(&s, &t));
         let to = union(&s2, &t2);
-        let evidence = made(ImplicationRule::S16 {
+        let evidence = implication_of(ImplicationRule::S16 {
             s,
             s2,
             t,
             t2,
-            first: Box::new(first),
-            second: Box::new(second),
+            first,
+            second,
         });
         all = (from, to, evidence);
     }
@@ -71,19 +67,19 @@ pub fn without_doubles(set: &[Member]) -> Set {
 }
 
 /// Members of P, and evidence that they imply this one member.
-fn prove_member(p: &Set, member: &Member) -> Result<(Set, Implication), Vec<Expression>> {
+fn prove_member(p: &Set, member: &Member) -> Result<(Set, Box<Implication>), Vec<Expression>> {
     if stands_in(member, p) {
-        return Ok((vec![member.clone()], made(ImplicationRule::S13)));
+        return Ok((vec![member.clone()], implication_of(ImplicationRule::S13)));
     }
     if of_expression(&member.e).is_empty() {
-        return Ok((Set::new(), made(ImplicationRule::S15)));
+        return Ok((Set::new(), implication_of(ImplicationRule::S15)));
     }
     if implies(&member.phi, &Bool::Truth(false)) == Verdict::Holds {
-        return Ok((Set::new(), made(ImplicationRule::S14)));
+        return Ok((Set::new(), implication_of(ImplicationRule::S14)));
     }
     for other in p {
         if other.e == member.e && implies(&member.phi, &other.phi) == Verdict::Holds {
-            return Ok((vec![other.clone()], made(ImplicationRule::S18)));
+            return Ok((vec![other.clone()], implication_of(ImplicationRule::S18)));
         }
     }
     let operands = operands_of(&member.e);
@@ -103,12 +99,12 @@ fn prove_member(p: &Set, member: &Member) -> Result<(Set, Implication), Vec<Expr
         return Err(lacking);
     }
     let (s, s2, first) = unite(proved);
-    let evidence = made(ImplicationRule::S17 {
+    let evidence = implication_of(ImplicationRule::S17 {
         s: s.clone(),
         s2: s2.clone(),
         t: s2,
-        first: Box::new(first),
-        second: Box::new(made(ImplicationRule::S19)),
+        first,
+        second: implication_of(ImplicationRule::S19),
     });
     Ok((s, evidence))
 }

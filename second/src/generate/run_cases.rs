@@ -45,7 +45,7 @@ pub fn run_case(rng: &mut Prng) -> RunCase {
         _ if faulty => faulty_command(rng, size),
         _ => parts::random_command(rng, &pool, size, &[]),
     };
-    let evidence = Flow { place: 0, rule: FlowRule::F10 };
+    let evidence = flow_of(FlowRule::F10);
     let mut bytes = write::file_bytes(&c, &[], &[], &evidence);
     // 1 to 7 go before 10.
     if rng.once_in(30) {

@@ -208,6 +208,35 @@ pub fn sequence(a: Command, b: Command) -> Command {
     command(Form::Sequence(Box::new(a), Box::new(b)))
 }
 
+pub fn skip() -> Command {
+    command(Form::Skip)
+}
+
+pub fn if_else(test: Bool, then: Command, otherwise: Command) -> Command {
+    command(Form::If(test, Box::new(then), Box::new(otherwise)))
+}
+
+pub fn always() -> Bool {
+    Bool::Truth(true)
+}
+
+pub fn member(phi: Bool, e: impl Into<Expression>) -> Member {
+    Member { phi, e: e.into() }
+}
+
+/// Evidence that stands in no file (yet): place 0.
+pub fn flow_of(rule: FlowRule) -> Box<Flow> {
+    Box::new(Flow { place: 0, rule })
+}
+
+pub fn implication_of(rule: ImplicationRule) -> Box<Implication> {
+    Box::new(Implication { place: 0, rule })
+}
+
+pub fn before_of(rule: BeforeRule) -> Box<Before> {
+    Box::new(Before { place: 0, rule })
+}
+
 /// "Language": `for` over q up to m means
 /// `q := 1; while q ≤ m do (C; q := q + 1)`.
 pub fn meaning_of_for(q: u32, m: u32, body: &Command) -> Command {

@@ -1,7 +1,7 @@
 //! The pictures, as SVG: ratios file by file, and cost by file size.
 
-use super::Measured;
 use super::measure::{Row, VERSIONS};
+use super::Measured;
 use second::benchmark::worst::KINDS;
 use std::fmt::Write;
 
