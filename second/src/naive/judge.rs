@@ -104,6 +104,51 @@ fn one(set: &Set, place: usize) -> Result<&Member, Refusal> {
 /// Goal (P, C, Q): rules 1 to 14 of flow.
 pub fn flow(p: &Set, c: &Command, q: &Set, evidence: &Flow) -> Judged {
     let place = evidence.place;
+    match &evidence.rule {
+        FlowRule::F7 { m, set, flow: inner } => {
+            let a = implication(p, m, set)?;
+            let b = flow(m, c, q, inner)?;
+            Ok(1 + a + b)
+        }
+        FlowRule::F8 { m, flow: inner, set } => {
+            let a = flow(p, c, m, inner)?;
+            let b = implication(m, q, set)?;
+            Ok(1 + a + b)
+        }
+        FlowRule::F9 { s, s2, t, t2, first, second } => {
+            need(same(p, &union(s, t)), place)?;
+            need(same(q, &union(s2, t2)), place)?;
+            let a = flow(s, c, s2, first)?;
+            let b = flow(t, c, t2, second)?;
+            Ok(1 + a + b)
+        }
+        FlowRule::F10 => {
+            need(same(p, q), place)?;
+            need(!of_set(q).meets(&modified_by(c)), place)?;
+            Ok(1)
+        }
+        FlowRule::F11 { before } => {
+            let p = one(p, place)?;
+            let q = one(q, place)?;
+            need(p.e == q.e, place)?;
+            need(!of_expression(&q.e).meets(&modified_by(c)), place)?;
+            let a = necessary(&p.phi, c, &q.phi, before)?;
+            Ok(1 + a)
+        }
+        FlowRule::F12 { s, s2, phi, phi2, flow: inner, before } => {
+            need(same(p, &under(s, phi)), place)?;
+            need(same(q, &under(s2, phi2)), place)?;
+            let a = flow(s, c, s2, inner)?;
+            let b = necessary(phi, c, phi2, before)?;
+            Ok(1 + a + b)
+        }
+        _ => flow_by_command(p, c, q, evidence),
+    }
+}
+
+/// The rules that are for one command each: 1 to 6, 13 and 14.
+fn flow_by_command(p: &Set, c: &Command, q: &Set, evidence: &Flow) -> Judged {
+    let place = evidence.place;
     match (&evidence.rule, &c.form) {
         (FlowRule::F1, Form::Skip) => {
             need(same(p, q), place)?;
@@ -137,43 +182,6 @@ pub fn flow(p: &Set, c: &Command, q: &Set, evidence: &Flow) -> Judged {
             let y = flow(t, c2, q, otherwise)?;
             let z = necessary(phi0, c, phi, before)?;
             Ok(1 + x + y + z)
-        }
-        (FlowRule::F7 { m, set, flow: inner }, _) => {
-            let a = implication(p, m, set)?;
-            let b = flow(m, c, q, inner)?;
-            Ok(1 + a + b)
-        }
-        (FlowRule::F8 { m, flow: inner, set }, _) => {
-            let a = flow(p, c, m, inner)?;
-            let b = implication(m, q, set)?;
-            Ok(1 + a + b)
-        }
-        (FlowRule::F9 { s, s2, t, t2, first, second }, _) => {
-            need(same(p, &union(s, t)), place)?;
-            need(same(q, &union(s2, t2)), place)?;
-            let a = flow(s, c, s2, first)?;
-            let b = flow(t, c, t2, second)?;
-            Ok(1 + a + b)
-        }
-        (FlowRule::F10, _) => {
-            need(same(p, q), place)?;
-            need(!of_set(q).meets(&modified_by(c)), place)?;
-            Ok(1)
-        }
-        (FlowRule::F11 { before }, _) => {
-            let p = one(p, place)?;
-            let q = one(q, place)?;
-            need(p.e == q.e, place)?;
-            need(!of_expression(&q.e).meets(&modified_by(c)), place)?;
-            let a = necessary(&p.phi, c, &q.phi, before)?;
-            Ok(1 + a)
-        }
-        (FlowRule::F12 { s, s2, phi, phi2, flow: inner, before }, _) => {
-            need(same(p, &under(s, phi)), place)?;
-            need(same(q, &under(s2, phi2)), place)?;
-            let a = flow(s, c, s2, inner)?;
-            let b = necessary(phi, c, phi2, before)?;
-            Ok(1 + a + b)
         }
         (FlowRule::F13 { body }, Form::While(b, c1)) => {
             need(same(p, q), place)?;

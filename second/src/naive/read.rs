@@ -178,15 +178,7 @@ impl Reader<'_> {
             3 => FlowRule::F3,
             4 => FlowRule::F4,
             5 => FlowRule::F5,
-            6 => {
-                let s = self.set(below)?;
-                let t = self.set(below)?;
-                let phi0 = self.boolean(below)?;
-                let then = Box::new(self.flow(below)?);
-                let otherwise = Box::new(self.flow(below)?);
-                let before = Box::new(self.before(below)?);
-                FlowRule::F6 { s, t, phi0, then, otherwise, before }
-            }
+            6 => self.flow_6(below)?,
             7 => {
                 let m = self.set(below)?;
                 let set = Box::new(self.implication(below)?);
@@ -199,26 +191,10 @@ impl Reader<'_> {
                 let set = Box::new(self.implication(below)?);
                 FlowRule::F8 { m, flow, set }
             }
-            9 => {
-                let s = self.set(below)?;
-                let s2 = self.set(below)?;
-                let t = self.set(below)?;
-                let t2 = self.set(below)?;
-                let first = Box::new(self.flow(below)?);
-                let second = Box::new(self.flow(below)?);
-                FlowRule::F9 { s, s2, t, t2, first, second }
-            }
+            9 => self.flow_9(below)?,
             10 => FlowRule::F10,
             11 => FlowRule::F11 { before: Box::new(self.before(below)?) },
-            12 => {
-                let s = self.set(below)?;
-                let s2 = self.set(below)?;
-                let phi = self.boolean(below)?;
-                let phi2 = self.boolean(below)?;
-                let flow = Box::new(self.flow(below)?);
-                let before = Box::new(self.before(below)?);
-                FlowRule::F12 { s, s2, phi, phi2, flow, before }
-            }
+            12 => self.flow_12(below)?,
             13 => FlowRule::F13 { body: Box::new(self.flow(below)?) },
             14 => {
                 let d = self.command(below)?;
@@ -228,6 +204,36 @@ impl Reader<'_> {
             _ => return not_allowed(word),
         };
         Ok(Flow { place: word.place, rule })
+    }
+
+    fn flow_6(&mut self, below: usize) -> Read<FlowRule> {
+        let s = self.set(below)?;
+        let t = self.set(below)?;
+        let phi0 = self.boolean(below)?;
+        let then = Box::new(self.flow(below)?);
+        let otherwise = Box::new(self.flow(below)?);
+        let before = Box::new(self.before(below)?);
+        Ok(FlowRule::F6 { s, t, phi0, then, otherwise, before })
+    }
+
+    fn flow_9(&mut self, below: usize) -> Read<FlowRule> {
+        let s = self.set(below)?;
+        let s2 = self.set(below)?;
+        let t = self.set(below)?;
+        let t2 = self.set(below)?;
+        let first = Box::new(self.flow(below)?);
+        let second = Box::new(self.flow(below)?);
+        Ok(FlowRule::F9 { s, s2, t, t2, first, second })
+    }
+
+    fn flow_12(&mut self, below: usize) -> Read<FlowRule> {
+        let s = self.set(below)?;
+        let s2 = self.set(below)?;
+        let phi = self.boolean(below)?;
+        let phi2 = self.boolean(below)?;
+        let flow = Box::new(self.flow(below)?);
+        let before = Box::new(self.before(below)?);
+        Ok(FlowRule::F12 { s, s2, phi, phi2, flow, before })
     }
 
     fn implication(&mut self, depth: usize) -> Read<Implication> {
