@@ -74,11 +74,15 @@ fn used(part: &str, parts: &[String]) -> Names {
     all
 }
 
-/// What a part's `mod.rs` says that it uses.
+/// What a part's `mod.rs` says that it uses, as README.md does too.
 fn said(part: &str) -> Names {
-    let text = text(&src().join(part).join("mod.rs"));
-    let line = text.lines().find_map(|line| line.strip_prefix("//! Uses: ")).unwrap_or_else(|| panic!("{part}: no `Uses:`"));
-    line.trim_end_matches('.').split(", ").filter(|name| *name != "nothing").map(str::to_string).collect()
+    let head = text(&src().join(part).join("mod.rs"));
+    let line = head.lines().find_map(|line| line.strip_prefix("//! Uses: ")).unwrap_or_else(|| panic!("{part}: no `Uses:`"));
+    let line = line.trim_end_matches('.');
+    let map = text(&src().join("../README.md"));
+    let in_map = |row: &str| row.starts_with(&format!("| `{part}` |")) && row.contains(&format!(" | {line} | "));
+    assert!(map.lines().any(in_map), "README.md has another row for {part}");
+    line.split(", ").filter(|name| *name != "nothing").map(str::to_string).collect()
 }
 
 #[test]
