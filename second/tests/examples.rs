@@ -1,20 +1,20 @@
 //! `examples/`: texts, files and answers agree; the programs do what they should; the good contracts hold of runs, and
 //! each faulty one is broken by two runs.
 
-use second::annotate::annotate;
-use second::assemble::assemble;
-use second::big::Big;
+use second::compare::pairs::{try_pair, Found};
+use second::examples::guard::*;
+use second::examples::loops;
 use second::generate::{accepted, file_prng};
-use second::guard::*;
-use second::judge::check;
-use second::loops;
-use second::pairs::{try_pair, Found};
-use second::read::read;
-use second::rows::{bytes_of_field, changes_of, store_of};
-use second::run::{run, ARRAY_VALUES, INDEXES, SCALARS};
-use second::show::Names;
-use second::syntax::{Expression, File};
-use second::unbounded::{self, agree, Map, Store};
+use second::layout::syntax::{Expression, File};
+use second::naive::big::Big;
+use second::naive::judge::check;
+use second::naive::read::read;
+use second::naive::run::{run, ARRAY_VALUES, INDEXES, SCALARS};
+use second::naive::unbounded::{self, agree, Map, Store};
+use second::tool::rows::{bytes_of_field, changes_of, store_of};
+use second::view::annotate::annotate;
+use second::view::assemble::assemble;
+use second::view::show::Names;
 use std::collections::BTreeSet;
 use std::path::Path;
 

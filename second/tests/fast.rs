@@ -1,8 +1,8 @@
 //! The fast version against known answers, and the files of growing size.
 
+use second::benchmark::worst::{deepest, KINDS};
 use second::fast::{check, Work};
-use second::judge::{self, line_of, Answer};
-use second::worst::{deepest, KINDS};
+use second::naive::judge::{self, line_of, Answer};
 use std::path::Path;
 
 fn tests() -> std::path::PathBuf {
@@ -16,7 +16,7 @@ fn rows() {
     let mut agreed = 0;
     for row in text.lines().filter(|l| !l.starts_with('#')) {
         let fields: Vec<&str> = row.split('\t').collect();
-        let bytes = second::rows::bytes_of_hex(fields[2]).expect("hexadecimal");
+        let bytes = second::tool::rows::bytes_of_hex(fields[2]).expect("hexadecimal");
         assert_eq!(line_of(check(&bytes, &mut work)), fields[1], "{}", fields[0]);
         agreed += 1;
     }

@@ -1,14 +1,14 @@
 //! The generator against the judge, and the runner against the language.
 
-use second::big::Big;
+use second::compare::pairs::{try_pair, Found};
+use second::generate::limits::limit;
+use second::generate::run_cases::run_case;
 use second::generate::{accepted, count_rules, file_prng, mixed};
-use second::judge::{check, Answer};
-use second::limits::limit;
-use second::pairs::{try_pair, Found};
-use second::read::read;
-use second::run::{run, End, INDEXES, SCALARS};
-use second::run_cases::run_case;
-use second::unbounded::{self, Map, NoEnd, Store};
+use second::naive::big::Big;
+use second::naive::judge::{check, Answer};
+use second::naive::read::read;
+use second::naive::run::{run, End, INDEXES, SCALARS};
+use second::naive::unbounded::{self, Map, NoEnd, Store};
 
 #[test]
 fn every_rule_occurs_in_accepted_files() {

@@ -1,8 +1,8 @@
 //! Document 01, "Table of files", and the limits that can be said in a line.
 
-use second::judge::{check, postcondition, precondition};
-use second::run::{run, ARRAY_VALUES, SCALARS};
-use second::words::{bytes_of, constant_of, pack};
+use second::layout::words::{bytes_of, constant_of, pack};
+use second::naive::judge::{check, postcondition, precondition};
+use second::naive::run::{run, ARRAY_VALUES, SCALARS};
 
 fn file(words: &[(u32, u32)]) -> Vec<u8> {
     let words: Vec<u32> = words.iter().map(|(k, p)| pack(*k, *p)).collect();

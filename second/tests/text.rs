@@ -1,14 +1,14 @@
 //! `flowview` and `flowasm`: round trips, the marked word, the text itself, and the faults of a text.
 
-use second::assemble::assemble;
+use second::generate::mutate::mutate;
 use second::generate::{file_prng, mixed};
-use second::judge::{check, Answer};
-use second::mutate::mutate;
-use second::read::read;
-use second::rows::bytes_of_hex;
-use second::show::NUMBERED;
+use second::layout::words::{bytes_of, pack, words_of, Refusal};
+use second::naive::judge::{check, Answer};
+use second::naive::read::read;
+use second::tool::rows::bytes_of_hex;
+use second::view::assemble::assemble;
+use second::view::show::NUMBERED;
 use second::view::{view, view_parts, walk};
-use second::words::{bytes_of, pack, words_of, Refusal};
 use std::process::Command;
 
 /// The files of the committed rows.
@@ -201,7 +201,7 @@ fn text_written_by_hand() {
     let words = [(63, 10), (27, 0), (2, 1), (32, 1), (9, 1), (2, 1), (32, 1), (9, 1), (2, 0), (33, 3)];
     assert_eq!(assemble(text), Ok(file(&words)));
     assert_eq!(assemble("1:-1 1:-33554432 1:67108863"), Ok(file(&[(1, 67_108_863), (1, 33_554_432), (1, 67_108_863)])));
-    assert_eq!(assemble("63:* bytes 0a"), Err(second::assemble::Fault {
+    assert_eq!(assemble("63:* bytes 0a"), Err(second::view::assemble::Fault {
         line: 1,
         message: "`bytes` is no word: kind:payload is due".to_string()
     }));

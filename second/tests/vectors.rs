@@ -1,8 +1,8 @@
 //! All rows of the outside vectors in ../tests, or in the folder SECOND_VECTORS if it is given.
 
-use second::judge::check;
-use second::rows::{bytes_of_hex, changes_of, store_of};
-use second::run::{run, SCALARS};
+use second::naive::judge::check;
+use second::naive::run::{run, SCALARS};
+use second::tool::rows::{bytes_of_hex, changes_of, store_of};
 use std::path::PathBuf;
 
 fn folder() -> PathBuf {

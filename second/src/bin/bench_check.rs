@@ -1,27 +1,20 @@
 //! `bench_check VERSION`: one check of the file on standard input, and its line. VERSION is `proved` (feature `first`, see
 //! build.rs), `fast` or `second`. `bench_check times`: the nanoseconds of a call of each, in this order, best of many.
 
+#[path = "first/check.rs"]
+mod first;
+
+use second::benchmark::times::best;
 use second::fast::{self, Work};
-use second::judge;
-use second::times::best;
+use second::naive::judge;
 use second::tool::{self, Fault};
 use std::io::Write;
 use std::sync::Mutex;
 
 static WORK: Mutex<Work> = Mutex::new(Work::new());
 
-#[cfg(feature = "first")]
 fn proved(bytes: &[u8]) -> u32 {
-    extern "C" {
-        fn flow_check(ptr: *const u8, len: usize) -> u32;
-    }
-    // A lent slice of bytes, read only.
-    unsafe { flow_check(bytes.as_ptr(), bytes.len()) }
-}
-
-#[cfg(not(feature = "first"))]
-fn proved(_: &[u8]) -> u32 {
-    panic!("built without the feature `first`")
+    first::check(bytes).expect("built without the feature `first`")
 }
 
 fn fast(bytes: &[u8]) -> u32 {

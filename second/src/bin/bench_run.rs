@@ -1,11 +1,14 @@
-//! `bench_run VERSION PROGRAM`: one run of a program of about a million steps (see programs.rs; `empty`: of no file), its code and
+//! `bench_run VERSION PROGRAM`: one run of a program of about a million steps (see benchmark/programs.rs; `empty`: of no file), its code and
 //! steps. VERSION is `proved` (feature `first`, see build.rs), `fast` or `second`. `bench_run times PROGRAM`: the nanoseconds of a
 //! run of each, in this order, best of many.
 
+#[path = "first/run.rs"]
+mod first;
+
+use second::benchmark::programs;
+use second::benchmark::times::best;
 use second::fast::{self, Work};
-use second::programs;
-use second::run::{self, End, ARRAY_VALUES, MOST_BUDGET, SCALARS};
-use second::times::best;
+use second::naive::run::{self, End, ARRAY_VALUES, MOST_BUDGET, SCALARS};
 use second::tool::{self, Fault};
 use std::io::Write;
 use std::sync::Mutex;
@@ -15,27 +18,8 @@ static WORK: Mutex<Work> = Mutex::new(Work::new());
 /// The scalars and the array values.
 struct Store([i64; SCALARS], [i64; ARRAY_VALUES]);
 
-#[cfg(feature = "first")]
 fn proved(bytes: &[u8], store: &mut Store) -> u64 {
-    extern "C" {
-        fn flow_run(
-            file: *const u8,
-            count: usize,
-            scalars: *mut i64,
-            n: usize,
-            values: *mut i64,
-            k: usize,
-            budget: usize,
-        ) -> u64;
-    }
-    let (scalars, values) = (store.0.as_mut_ptr(), store.1.as_mut_ptr());
-    // Three lent slices, the last two changed in place.
-    unsafe { flow_run(bytes.as_ptr(), bytes.len(), scalars, SCALARS, values, ARRAY_VALUES, MOST_BUDGET as usize) }
-}
-
-#[cfg(not(feature = "first"))]
-fn proved(_: &[u8], _: &mut Store) -> u64 {
-    panic!("built without the feature `first`")
+    first::run(bytes, MOST_BUDGET, &mut store.0, &mut store.1).expect("built without the feature `first`")
 }
 
 fn fast(bytes: &[u8], store: &mut Store) -> u64 {

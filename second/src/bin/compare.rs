@@ -4,34 +4,17 @@
 //! build.rs). For a difference the file in hexadecimal and both answers; exit
 //! status 1. With `stop`, only up to the first difference.
 
+#[path = "first/check.rs"]
+mod first;
+
 use second::fast;
 use second::generate::{mixed, Kind};
-use second::judge::{check, line_of, postcondition, precondition, Answer};
-use second::rows::hex_of;
+use second::naive::judge::{check, line_of, postcondition, precondition, Answer};
+use second::tool::rows::hex_of;
 use second::tool::{self, Fault};
 use std::collections::BTreeMap;
 use std::io::Write;
 use std::time::{Duration, Instant};
-
-#[cfg(feature = "first")]
-mod first {
-    extern "C" {
-        fn flow_check(ptr: *const u8, len: usize) -> u32;
-    }
-
-    /// Number × 65,536 + place, or the count when accepted.
-    pub fn answer(bytes: &[u8]) -> Option<u32> {
-        // A lent slice of bytes, read only.
-        Some(unsafe { flow_check(bytes.as_ptr(), bytes.len()) })
-    }
-}
-
-#[cfg(not(feature = "first"))]
-mod first {
-    pub fn answer(_: &[u8]) -> Option<u32> {
-        None
-    }
-}
 
 /// The two sets are parts of an accepted file, and empty of a refused one.
 fn parts_are_right(bytes: &[u8], answer: Answer) -> bool {
@@ -42,6 +25,66 @@ fn parts_are_right(bytes: &[u8], answer: Answer) -> bool {
     }
 }
 
+/// What was made and found.
+#[derive(Default)]
+struct Tally {
+    made: u64,
+    answers: BTreeMap<(String, u32), u64>,
+    compared: u64,
+    differences: u64,
+    second_time: Duration,
+    first_time: Duration,
+}
+
+impl Tally {
+    /// File `i` of a seed.
+    fn file(&mut self, seed: u64, i: u64, work: &mut fast::Work, out: &mut dyn Write) -> Result<(), Fault> {
+        self.made += 1;
+        let (kind, bytes) = mixed(seed, i);
+        let before = Instant::now();
+        let answer = check(&bytes);
+        self.second_time += before.elapsed();
+        let number = match answer {
+            Answer::Accepted(_) => 0,
+            Answer::Refused(r) => r.number,
+        };
+        *self.answers.entry((format!("{kind:?}"), number)).or_default() += 1;
+        if kind == Kind::Accepted && number != 0 {
+            writeln!(out, "file {i} was made to be accepted: {}", answer.line())?;
+            self.differences += 1;
+        }
+        if i % 64 == 0 && !parts_are_right(&bytes, answer) {
+            writeln!(out, "file {i}: the precondition or the postcondition")?;
+            self.differences += 1;
+        }
+        let before = Instant::now();
+        let other = first::check(&bytes);
+        self.first_time += before.elapsed();
+        self.compared += u64::from(other.is_some());
+        let fast = Some(fast::check(&bytes, work));
+        for (name, packed) in [("first", other), ("fast", fast)] {
+            let Some(packed) = packed.filter(|p| *p != answer.packed()) else { continue };
+            self.differences += 1;
+            writeln!(out, "file {i} of seed {seed} ({kind:?}): {}", hex_of(&bytes))?;
+            writeln!(out, "  {name}:  {}", line_of(packed))?;
+            writeln!(out, "  second: {}", answer.line())?;
+        }
+        Ok(())
+    }
+
+    fn write_answers(&self, out: &mut dyn Write) -> Result<(), Fault> {
+        let mut by_number: BTreeMap<u32, u64> = BTreeMap::new();
+        for ((kind, number), times) in &self.answers {
+            writeln!(out, "{kind}\t{}\t{times}", name(*number))?;
+            *by_number.entry(*number).or_default() += times;
+        }
+        for (number, times) in &by_number {
+            writeln!(out, "all\t{}\t{times}", name(*number))?;
+        }
+        Ok(())
+    }
+}
+
 fn main() {
     tool::run(env!("CARGO_BIN_NAME"), "[SEED [COUNT [FROM]]] [stop]", program)
 }
@@ -49,58 +92,18 @@ fn main() {
 fn program(arguments: &[String], out: &mut dyn Write) -> Result<u8, Fault> {
     let (numbers, stop) = tool::numbers_and("stop", arguments);
     let [seed, count, from] = tool::numbers(numbers, [1, 10_000, 0])?;
-    let mut made = 0u64;
-    let mut answers: BTreeMap<(String, u32), u64> = BTreeMap::new();
-    let mut differences = 0u64;
-    let mut compared = 0u64;
-    let mut second_time = Duration::ZERO;
-    let mut first_time = Duration::ZERO;
+    let mut tally = Tally::default();
     let mut work = fast::Work::new();
     let start = Instant::now();
     for i in from..from.saturating_add(count) {
-        if stop && differences > 0 {
+        if stop && tally.differences > 0 {
             break;
         }
-        made += 1;
-        let (kind, bytes) = mixed(seed, i);
-        let before = Instant::now();
-        let answer = check(&bytes);
-        second_time += before.elapsed();
-        let number = match answer {
-            Answer::Accepted(_) => 0,
-            Answer::Refused(r) => r.number,
-        };
-        *answers.entry((format!("{kind:?}"), number)).or_default() += 1;
-        if kind == Kind::Accepted && number != 0 {
-            writeln!(out, "file {i} was made to be accepted: {}", answer.line())?;
-            differences += 1;
-        }
-        if i % 64 == 0 && !parts_are_right(&bytes, answer) {
-            writeln!(out, "file {i}: the precondition or the postcondition")?;
-            differences += 1;
-        }
-        let before = Instant::now();
-        let other = first::answer(&bytes);
-        first_time += before.elapsed();
-        compared += u64::from(other.is_some());
-        let fast = Some(fast::check(&bytes, &mut work));
-        for (name, packed) in [("first", other), ("fast", fast)] {
-            let Some(packed) = packed.filter(|p| *p != answer.packed()) else { continue };
-            differences += 1;
-            writeln!(out, "file {i} of seed {seed} ({kind:?}): {}", hex_of(&bytes))?;
-            writeln!(out, "  {name}:  {}", line_of(packed))?;
-            writeln!(out, "  second: {}", answer.line())?;
-        }
+        tally.file(seed, i, &mut work, out)?;
     }
+    let Tally { made, compared, differences, second_time, first_time, .. } = tally;
     writeln!(out, "seed {seed}, files {from} to {}", from + made)?;
-    let mut by_number: BTreeMap<u32, u64> = BTreeMap::new();
-    for ((kind, number), times) in &answers {
-        writeln!(out, "{kind}\t{}\t{times}", name(*number))?;
-        *by_number.entry(*number).or_default() += times;
-    }
-    for (number, times) in &by_number {
-        writeln!(out, "all\t{}\t{times}", name(*number))?;
-    }
+    tally.write_answers(out)?;
     let seconds = start.elapsed().as_secs_f64();
     writeln!(out, "{:.0} files a second (with making them)", made as f64 / seconds)?;
     writeln!(out, "{:.0} checks a second (second)", made as f64 / second_time.as_secs_f64())?;

@@ -2,52 +2,16 @@
 //! with those of the fast version and of the first, if one is linked (feature `first`, see build.rs); and these two with the
 //! rows of a file in the form of the vectors' runs.txt, if one is given. Exit status 1 on a difference.
 
+#[path = "first/run.rs"]
+mod first;
+
 use second::fast;
 use second::generate::file_prng;
-use second::rows::{bytes_of_hex, changes_of, hex_of, store_of};
-use second::run::{run, SCALARS};
-use second::run_cases::run_case;
+use second::generate::run_cases::run_case;
+use second::naive::run::{run, SCALARS};
+use second::tool::rows::{bytes_of_hex, changes_of, hex_of, store_of};
 use second::tool::{self, Fault};
 use std::io::Write;
-
-#[cfg(feature = "first")]
-mod first {
-    extern "C" {
-        fn flow_run(
-            file: *const u8,
-            count: usize,
-            scalars: *mut i64,
-            n: usize,
-            values: *mut i64,
-            k: usize,
-            budget: usize,
-        ) -> u64;
-    }
-
-    /// The steps, and 0 or number × 65,536 + place.
-    pub fn answer(bytes: &[u8], budget: u64, scalars: &mut [i64], values: &mut [i64]) -> Option<(u64, u64)> {
-        // Three lent slices, the last two changed in place.
-        let packed = unsafe {
-            flow_run(
-                bytes.as_ptr(),
-                bytes.len(),
-                scalars.as_mut_ptr(),
-                scalars.len(),
-                values.as_mut_ptr(),
-                values.len(),
-                budget as usize,
-            )
-        };
-        Some((packed >> 32, packed & 0xffff_ffff))
-    }
-}
-
-#[cfg(not(feature = "first"))]
-mod first {
-    pub fn answer(_: &[u8], _: u64, _: &mut [i64], _: &mut [i64]) -> Option<(u64, u64)> {
-        None
-    }
-}
 
 fn end_text(code: u64) -> String {
     if code == 0 {
@@ -60,23 +24,22 @@ fn end_text(code: u64) -> String {
 /// The end, the steps and what changed in the store.
 type Outcome = (String, u64, String);
 
-/// The steps, and 0 or number × 65,536 + place; the two slices are the store.
-type Answer = fn(&[u8], u64, &mut [i64], &mut [i64]) -> Option<(u64, u64)>;
+/// Steps × 2^32 + 0 or number × 65,536 + place; the two slices are the store.
+type Answer = fn(&[u8], u64, &mut [i64], &mut [i64]) -> Option<u64>;
 
-fn fast_answer(bytes: &[u8], budget: u64, scalars: &mut [i64], values: &mut [i64]) -> Option<(u64, u64)> {
-    let packed = fast::run(bytes, budget, scalars, values, &mut fast::Work::new());
-    Some((packed >> 32, packed & 0xffff_ffff))
+fn fast_run(bytes: &[u8], budget: u64, scalars: &mut [i64], values: &mut [i64]) -> Option<u64> {
+    Some(fast::run(bytes, budget, scalars, values, &mut fast::Work::new()))
 }
 
 fn outcome(answer: Answer, bytes: &[u8], budget: u64, store: &[i64]) -> Option<Outcome> {
     let mut after = store.to_vec();
     let (scalars, values) = after.split_at_mut(SCALARS);
-    let (steps, code) = answer(bytes, budget, scalars, values)?;
-    Some((end_text(code), steps, changes_of(store, &after)))
+    let packed = answer(bytes, budget, scalars, values)?;
+    Some((end_text(packed & 0xffff_ffff), packed >> 32, changes_of(store, &after)))
 }
 
 /// Which version, and its answer.
-const VERSIONS: [(&str, Answer); 2] = [("first", first::answer), ("fast", fast_answer)];
+const VERSIONS: [(&str, Answer); 2] = [("first", first::run), ("fast", fast_run)];
 
 struct Comparison<'a> {
     out: &'a mut dyn Write,
@@ -122,9 +85,9 @@ impl Comparison<'_> {
                 let (mut scalars, mut values) = (vec![7i64; n], vec![7i64; k]);
                 let Some(got) = answer(file, 10, &mut scalars, &mut values) else { continue };
                 self.compared += 1;
-                if got != (0, 11 * 65_536) || scalars.iter().chain(&values).any(|v| *v != 7) {
+                if got != 11 * 65_536 || scalars.iter().chain(&values).any(|v| *v != 7) {
                     self.differences += 1;
-                    writeln!(self.out, "{which}, a store of {n} and {k}: {got:?}")?;
+                    writeln!(self.out, "{which}, a store of {n} and {k}: {:?}", (got >> 32, got & 0xffff_ffff))?;
                 }
             }
         }

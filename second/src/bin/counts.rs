@@ -1,7 +1,7 @@
 //! `counts [SEED [COUNT]]`: makes accepted files and counts the rules in them.
 
+use second::generate::prng::Prng;
 use second::generate::{accepted, count_rules};
-use second::prng::Prng;
 use second::tool::{self, Fault};
 use std::io::Write;
 

@@ -1,7 +1,7 @@
 //! As `flowcheck`, by the fast version: reads standard input, writes one line.
 
 use second::fast::{check, Work};
-use second::judge::line_of;
+use second::naive::judge::line_of;
 use second::tool::{self, Fault};
 use std::io::Write;
 use std::sync::Mutex;

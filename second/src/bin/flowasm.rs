@@ -1,8 +1,8 @@
-//! `flowasm TEXT [FILE]`: the text made into a file (see assemble.rs), on standard output if FILE is not given. A fault
+//! `flowasm TEXT [FILE]`: the text made into a file (see view/assemble.rs), on standard output if FILE is not given. A fault
 //! of the text gives its line and what is wrong, and nothing is written.
 
-use second::assemble::assemble_bytes;
 use second::tool::{self, Fault};
+use second::view::assemble::assemble_bytes;
 use std::io::Write;
 
 fn main() {
@@ -15,7 +15,7 @@ fn program(arguments: &[String], out: &mut dyn Write) -> Result<u8, Fault> {
         [text, file] => (text, Some(file)),
         _ => return Err(Fault::Usage),
     };
-    let fault = |fault: second::assemble::Fault| format!("{text}:{}: {}", fault.line, fault.message);
+    let fault = |fault: second::view::assemble::Fault| format!("{text}:{}: {}", fault.line, fault.message);
     let bytes = assemble_bytes(&tool::read_file(text)?).map_err(fault)?;
     match file {
         Some(file) => tool::write_file(file, &bytes)?,

@@ -1,9 +1,9 @@
 //! `flowview FILE`: any file, word by word; `flowview --parts FILE`: its program, precondition and postcondition in
-//! readable notation (see view.rs). The exit status is 0 if the file is accepted, 1 if it is refused.
+//! readable notation (see view/mod.rs). The exit status is 0 if the file is accepted, 1 if it is refused.
 
-use second::judge::{check, Answer};
-use second::show::NUMBERED;
+use second::naive::judge::{check, Answer};
 use second::tool::{self, Fault};
+use second::view::show::NUMBERED;
 use second::view::{view, view_parts};
 use std::io::Write;
 

@@ -3,7 +3,7 @@
 //! for a file beside ROWS. ROWS may be a folder: its file `expected` has the rows, and the named files have the bytes.
 //! Exit status 1 if a line is wrong or there is no row.
 
-use second::rows::bytes_of_field;
+use second::tool::rows::bytes_of_field;
 use second::tool::{self, Fault};
 use std::io::{self, Write};
 use std::path::Path;

@@ -1,7 +1,7 @@
-//! `make_examples FOLDER`: writes the texts and files of the examples that are made from trees (see guard.rs and loops.rs).
+//! `make_examples FOLDER`: writes the texts and files of the examples that are made from trees (see examples/).
 
+use second::examples::{guard, loops};
 use second::tool::{self, Fault};
-use second::{guard, loops};
 use std::io::Write;
 
 fn main() {

@@ -1,11 +1,11 @@
 //! `rows SEED COUNT check|runs`: generated files as rows in the form of the
 //! vectors' check.txt or runs.txt, with the second implementation's answers.
 
+use second::generate::run_cases::run_case;
 use second::generate::{file_prng, mixed};
-use second::judge::check;
-use second::run_cases::run_case;
-use second::rows::{changes_of, hex_of};
-use second::run::{run, SCALARS};
+use second::naive::judge::check;
+use second::naive::run::{run, SCALARS};
+use second::tool::rows::{changes_of, hex_of};
 use second::tool::{self, Fault};
 use std::io::{BufWriter, Write};
 

@@ -5,17 +5,60 @@
 //! or 9, to show that the search can find something. Exit status 1 if an
 //! accepted file has a counterexample.
 
+use second::compare::pairs::{try_pair, Found};
+use second::generate::mutate::mutate;
+use second::generate::nearly::nearly;
+use second::generate::prng::Prng;
 use second::generate::{accepted, file_prng, near_miss};
-use second::judge::{check, Answer};
-use second::mutate::mutate;
-use second::nearly::nearly;
-use second::pairs::{try_pair, Found};
-use second::read::read;
-use second::rows::hex_of;
+use second::naive::judge::{check, Answer};
+use second::naive::read::read;
+use second::tool::rows::hex_of;
 use second::tool::{self, Fault};
 use std::io::Write;
 
 const BOUND: u64 = 400;
+
+/// How many pairs of each `Found`.
+type Counts = [u64; 6];
+
+/// One of the files that are looked at, of every sort.
+fn any_file(rng: &mut Prng, refused: bool) -> Vec<u8> {
+    match rng.below(4) {
+        0 => nearly(rng),
+        1 => {
+            let base = accepted(rng);
+            mutate(rng, &base)
+        }
+        2 => near_miss(rng),
+        _ if refused => near_miss(rng),
+        _ => accepted(rng),
+    }
+}
+
+fn is_wanted(bytes: &[u8], refused: bool) -> bool {
+    match check(bytes) {
+        Answer::Accepted(_) => !refused,
+        Answer::Refused(r) => refused && r.number >= 8,
+    }
+}
+
+/// Pairs of stores for a file, up to a counterexample; one of an accepted file is written, after `name`.
+fn try_file(rng: &mut Prng, bytes: &[u8], pairs: u64, name: Option<&str>, out: &mut dyn Write) -> Result<Counts, Fault> {
+    let file = read(bytes).expect("readable");
+    let mut counts = [0; 6];
+    for _ in 0..pairs {
+        let (found, stores) = try_pair(rng, &file, BOUND);
+        counts[found as usize] += 1;
+        if found == Found::Counterexample {
+            if let Some(name) = name {
+                writeln!(out, "counterexample: {name}: {}", hex_of(bytes))?;
+                writeln!(out, "{stores:?}")?;
+            }
+            break;
+        }
+    }
+    Ok(counts)
+}
 
 fn main() {
     tool::run(env!("CARGO_BIN_NAME"), "[SEED [FILES [PAIRS]]] [refused]", program)
@@ -24,48 +67,21 @@ fn main() {
 fn program(arguments: &[String], out: &mut dyn Write) -> Result<u8, Fault> {
     let (numbers, refused) = tool::numbers_and("refused", arguments);
     let [seed, files, pairs] = tool::numbers(numbers, [1, 10_000, 20])?;
-    let mut counts = [0u64; 6];
-    let mut tried = 0u64;
-    let mut with_pair = 0u64;
-    let mut with_end = 0u64;
-    let mut with_counterexample = 0u64;
-    let mut i = 0u64;
+    let mut counts = [0; 6];
+    let (mut tried, mut with_pair, mut with_end, mut with_counterexample) = (0, 0, 0, 0);
+    let mut i = 0;
     while tried < files {
         let mut rng = file_prng(seed, i);
         i += 1;
-        let bytes = match rng.below(4) {
-            0 => nearly(&mut rng),
-            1 => {
-                let base = accepted(&mut rng);
-                mutate(&mut rng, &base)
-            }
-            2 => near_miss(&mut rng),
-            _ if refused => near_miss(&mut rng),
-            _ => accepted(&mut rng),
-        };
-        let wanted = match check(&bytes) {
-            Answer::Accepted(_) => !refused,
-            Answer::Refused(r) => refused && r.number >= 8,
-        };
-        if !wanted {
+        let bytes = any_file(&mut rng, refused);
+        if !is_wanted(&bytes, refused) {
             continue;
         }
-        let file = read(&bytes).expect("readable");
         tried += 1;
-        let mut here = [0u64; 6];
-        for _ in 0..pairs {
-            let (found, stores) = try_pair(&mut rng, &file, BOUND);
-            here[found as usize] += 1;
-            if found == Found::Counterexample && !refused {
-                writeln!(out, "counterexample: file {} of seed {seed}: {}", i - 1, hex_of(&bytes))?;
-                writeln!(out, "{stores:?}")?;
-            }
-            if found == Found::Counterexample {
-                break;
-            }
-        }
-        for k in 0..6 {
-            counts[k] += here[k];
+        let name = (!refused).then(|| format!("file {} of seed {seed}", i - 1));
+        let here = try_file(&mut rng, &bytes, pairs, name.as_deref(), out)?;
+        for (all, here) in counts.iter_mut().zip(here) {
+            *all += here;
         }
         let ends = here[3] + here[4] + here[5];
         with_pair += u64::from(here[1] + here[2] + ends > 0);
@@ -78,8 +94,8 @@ fn program(arguments: &[String], out: &mut dyn Write) -> Result<u8, Fault> {
     writeln!(out, "files with a pair whose runs both end: {with_end}")?;
     writeln!(out, "files with a counterexample: {with_counterexample}")?;
     let names = ["no pair", "assertion fails", "bound reached", "vacuous", "agree", "counterexample"];
-    for k in 0..6 {
-        writeln!(out, "pairs, {}: {}", names[k], counts[k])?;
+    for (name, count) in names.iter().zip(counts) {
+        writeln!(out, "pairs, {name}: {count}")?;
     }
     Ok(u8::from(with_counterexample > 0 && !refused))
 }

@@ -1,6 +1,6 @@
 //! As `flowcheck`: reads standard input, writes one line.
 
-use second::judge::check;
+use second::naive::judge::check;
 use second::tool::{self, Fault};
 use std::io::Write;
 

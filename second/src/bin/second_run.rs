@@ -1,8 +1,8 @@
-//! `second_run BUDGET [STORE]`: the file on standard input, the store as `index=value,...` (see rows.rs). Writes the end,
+//! `second_run BUDGET [STORE]`: the file on standard input, the store as `index=value,...` (see tool/rows.rs). Writes the end,
 //! the steps and the changes, separated by tabs.
 
-use second::rows::{changes_of, store_of};
-use second::run::{run, SCALARS};
+use second::naive::run::{run, SCALARS};
+use second::tool::rows::{changes_of, store_of};
 use second::tool::{self, Fault};
 use std::io::Write;
 

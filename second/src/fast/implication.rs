@@ -28,16 +28,9 @@ impl Judge<'_> {
     }
 
     fn set_rule_16(&mut self, p: usize, q: usize, at: usize) -> Judged {
-        let f = self.parts;
-        let s = at + 1;
-        let s_after = f.end(s);
-        let t = f.end(s_after);
-        let t_after = f.end(t);
-        need(f.same_as(p, &[Written(s), Written(t)]), at)?;
-        need(f.same_as(q, &[Written(s_after), Written(t_after)]), at)?;
-        let first = f.end(t_after);
+        let [s, s_after, t, t_after, first] = self.parts.unions(p, q, at)?;
         self.implication(s, s_after, first)?;
-        self.implication(t, t_after, f.end(first))
+        self.implication(t, t_after, self.parts.end(first))
     }
 
     fn set_rule_17(&mut self, p: usize, q: usize, at: usize) -> Judged {

@@ -1,8 +1,13 @@
-//! Document 01, "Layout": the kinds of words, and what each evidence word carries.
+//! Document 01, "Layout": the kinds of words, and what each evidence word carries; and the sizes of "Runner".
 
 pub const MOST_WORDS: usize = 8_192;
 pub const MOST_DEPTH: u32 = 128;
 pub const MOST_MEMBERS: u32 = 64;
+
+pub const SCALARS: usize = 32;
+pub const INDEXES: usize = 64;
+pub const ARRAY_VALUES: usize = 32 * INDEXES;
+pub const MOST_BUDGET: u64 = 1_000_000;
 
 pub const CONSTANT: u32 = 1;
 pub const SCALAR: u32 = 2;

@@ -1,7 +1,9 @@
-//! A plain fast version of the check and of the runner, from document 01: what one writes for speed where nothing has to be
-//! proved. The benchmark compares the proved code with it. Nothing is allocated or cleared: the caller lends the arrays. A part of
-//! the file is its place among the words, a goal is such places, and each part's end and identifiers are worked out once, while
-//! it is read.
+//! Fast: the check and the runner again, plain and for speed, from document 01: what one writes where nothing has to be
+//! proved. Nothing is allocated or cleared: the caller lends the arrays. A part of the file is its place among the words, a
+//! goal is such places, and each part's end and identifiers are worked out once, while it is read.
+//!
+//! Uses: nothing.
+//! For: the benchmark compares the proved code with it; a third answer where the check and the runner are compared.
 
 mod flow;
 mod implication;

@@ -3,7 +3,6 @@
 use super::layout::*;
 use super::read::read;
 use super::{refusal, Parts, Refused, Work};
-use crate::run::{ARRAY_VALUES, INDEXES, MOST_BUDGET, SCALARS};
 
 struct Runner<'a> {
     parts: &'a Parts,

@@ -8,9 +8,9 @@ mod report;
 mod stack;
 
 use measure::{Bench, Row};
-use second::programs::PROGRAMS;
+use second::benchmark::programs::PROGRAMS;
+use second::benchmark::worst::KINDS;
 use second::tool::{self, Fault};
-use second::worst::KINDS;
 use std::path::Path;
 
 /// The sizes of the growing files, in words.
@@ -42,7 +42,7 @@ fn folder(bench: &Bench, name: &str) -> Vec<Row> {
 }
 
 fn growing(bench: &Bench) -> Vec<Vec<Row>> {
-    let of_kind = |kind: &second::worst::Kind| {
+    let of_kind = |kind: &second::benchmark::worst::Kind| {
         let one = |words: &usize| bench.show(bench.check(kind.name, &kind.file(*words), None));
         SIZES.iter().map(one).collect()
     };

@@ -2,7 +2,7 @@
 
 use super::measure::{Row, VERSIONS};
 use super::Measured;
-use second::worst::KINDS;
+use second::benchmark::worst::KINDS;
 use std::fmt::Write;
 
 /// Colours that differ for the colour-blind too: proved, fast, second, yardstick.

@@ -2,8 +2,8 @@
 
 use super::measure::Row;
 use super::{machine, stack, Measured};
-use second::programs::PROGRAMS;
-use second::worst::KINDS;
+use second::benchmark::programs::PROGRAMS;
+use second::benchmark::worst::KINDS;
 use std::fmt::Write;
 
 /// Two or three figures.
@@ -135,7 +135,7 @@ called once through its C function, against
 
 - **fast**: a plain fast version in Rust (`second/src/fast`), written for speed where nothing has to be proved: places in the word
   array, each part's end and identifiers worked out once, truth tables of 64 assignments in a number, arrays lent by the caller;
-- **second**: the naive second implementation in Rust (`second/src`), trees built on the heap;
+- **second**: the naive second implementation in Rust (`second/src/naive`), trees built on the heap;
 - **yardstick**: another plain Rust version, of which only the counts in `tests/usual/expected` and `tests/worst/expected` are here.
 
 Instructions are counted by `valgrind --tool=callgrind` over a process that makes one call, less the count for an empty input. Valgrind
@@ -154,20 +154,21 @@ proved check's.
 
 const GROWTH: &str = "## How the cost grows
 
-Files of `second/src/worst.rs`, made in several sizes: instructions for each word of the file. The power is that of the size with which the
-whole cost grows at the last doubling: 1 is in proportion, 2 with the square.
+Files of `second/src/benchmark/worst.rs`, made in several sizes: instructions for each word of the file. The power is that of the size with
+which the whole cost grows at the last doubling: 1 is in proportion, 2 with the square.
 
 ![Instructions by file size, a panel for each kind of file](performance-growth.svg)
 ";
 
 const RUNNER: &str = "## The runner
 
-Programs of `second/src/programs.rs`, with a budget of 1,000,000 steps; the reading of the file is part of it.
+Programs of `second/src/benchmark/programs.rs`, with a budget of 1,000,000 steps; the reading of the file is part of it.
 ";
 
 const STACK: &str = "## Stack
 
 The least limit of the whole process (`ulimit -s`, in steps of 8 KiB) under which every file gets its answer: the usual, the worst and the
-largest growing ones, and those in which a rule at the deepest evidence walks the deepest expression (`deepest` in `second/src/worst.rs`). What a call
-takes at most, over the deepest files of each kind, is in `include/flowcheck.h`, measured by `flowgate/stack.c`.
+largest growing ones, and those in which a rule at the deepest evidence walks the deepest expression (`deepest` in
+`second/src/benchmark/worst.rs`). What a call takes at most, over the deepest files of each kind, is in `include/flowcheck.h`, measured by
+`flowgate/stack.c`.
 ";

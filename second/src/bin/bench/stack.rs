@@ -1,8 +1,8 @@
 //! How much stack the proved check takes: the least limit, in steps, under which it answers as it should on every file.
 
 use super::measure::output;
-use second::judge::check;
-use second::worst::{deepest, KINDS};
+use second::benchmark::worst::{deepest, KINDS};
+use second::naive::judge::check;
 use std::process::Command;
 
 /// Limits that are tried, in KiB.

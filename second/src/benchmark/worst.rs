@@ -1,0 +1,195 @@
+//! Files of any size that make a straightforward checker slow, all of them accepted: how the cost of a check grows. Each kind
+//! has a parameter that its size and its cost grow with.
+
+use crate::layout::syntax::*;
+use crate::layout::words::bytes_of;
+use crate::layout::write::file_words;
+
+/// A kind of files: its name, what it tries, and the file of a parameter.
+pub struct Kind {
+    pub name: &'static str,
+    pub tries: &'static str,
+    make: fn(u32) -> Vec<u32>,
+    most: u32,
+}
+
+pub const KINDS: [Kind; 7] = [
+    Kind { name: "shared", tries: "an antecedent judged at every leaf of a tree of ifs", make: shared, most: 1_000 },
+    Kind { name: "members", tries: "a set whose antecedents each imply false", make: members, most: 64 },
+    Kind { name: "chain", tries: "a chain of implications", make: chain, most: 115 },
+    Kind { name: "sets", tries: "a set and its reverse compared at every while of a nest", make: sets, most: 64 },
+    Kind { name: "modified", tries: "what a long command modifies, asked at every leaf", make: modified, most: 2_000 },
+    Kind { name: "replace", tries: "a long right side put into every member", make: replace, most: 64 },
+    Kind { name: "deep", tries: "expressions as deep as may be", make: deep, most: 64 },
+];
+
+impl Kind {
+    /// The largest file of this kind with at most so many words.
+    pub fn file(&self, words: usize) -> Vec<u8> {
+        let fits = |n: u32| (self.make)(n).len() <= words;
+        let (mut low, mut high) = (1, self.most);
+        while low < high {
+            let middle = (low + high).div_ceil(2);
+            if fits(middle) {
+                low = middle;
+            } else {
+                high = middle - 1;
+            }
+        }
+        bytes_of(&(self.make)(low))
+    }
+}
+
+fn number(n: u32) -> Arith {
+    Arith::Constant(i64::from(n))
+}
+
+/// A balanced tree over leaves from..to.
+fn tree<T>(from: u32, to: u32, leaf: &dyn Fn(u32) -> T, join: &dyn Fn(T, T) -> T) -> T {
+    if to - from <= 1 {
+        return leaf(from);
+    }
+    let middle = (from + to) / 2;
+    join(tree(from, middle, leaf, join), tree(middle, to, leaf, join))
+}
+
+/// Never true: ors of c ∧ ¬c, over ten comparisons c.
+fn never(pairs: u32) -> Bool {
+    let pair = |i: u32| {
+        let c = compare(Comparison::Less, Arith::Scalar(0), number(i % 10));
+        and(c.clone(), not(c))
+    };
+    tree(0, pairs, &pair, &or)
+}
+
+/// x + (x + (.. + n)), of 2 × length + 1 words.
+fn sum(length: u32, n: u32) -> Arith {
+    (0..length).fold(number(n), |e, _| operate(Operator::Plus, Arith::Scalar(0), e))
+}
+
+/// Half of the file is the antecedent, half are ifs; rules 7, 6 and 15 at an if, 8, 10 and 14 at a leaf.
+fn shared(ifs: u32) -> Vec<u32> {
+    let nothing = |_| skip();
+    let choose = |a, b| if_else(always(), a, b);
+    let leaf = |_| {
+        let set = implication_of(ImplicationRule::S14);
+        *flow_of(FlowRule::F8 { m: Set::new(), flow: flow_of(FlowRule::F10), set })
+    };
+    let node = |a, b| {
+        let (then, otherwise) = (Box::new(a), Box::new(b));
+        let (s, t, phi0, before) = (Set::new(), Set::new(), always(), before_of(BeforeRule::B29));
+        let rule = FlowRule::F6 { s, t, phi0, then, otherwise, before };
+        let test = Member { phi: always(), e: Expression::Bool(always()) };
+        *flow_of(FlowRule::F7 { m: vec![test], set: implication_of(ImplicationRule::S15), flow: flow_of(rule) })
+    };
+    let c = tree(0, ifs + 1, &nothing, &choose);
+    let evidence = tree(0, ifs + 1, &leaf, &node);
+    file_words(&c, &[], &[member(never(2 * ifs), Arith::Scalar(0))], &evidence)
+}
+
+/// Rule 14: each antecedent implies false.
+fn members(count: u32) -> Vec<u32> {
+    let post: Set = (0..count).map(|_| member(never(14), Arith::Scalar(0))).collect();
+    let set = implication_of(ImplicationRule::S14);
+    let evidence = flow_of(FlowRule::F8 { m: Set::new(), flow: flow_of(FlowRule::F10), set });
+    file_words(&skip(), &[], &post, &evidence)
+}
+
+/// Rule 28, again and again, then 29.
+fn chain(length: u32) -> Vec<u32> {
+    let mut evidence = before_of(BeforeRule::B28 { phi1: always(), inner: before_of(BeforeRule::B29) });
+    for _ in 0..length {
+        evidence = before_of(BeforeRule::B28 { phi1: or(never(7), always()), inner: evidence });
+    }
+    let set = [member(always(), number(5))];
+    file_words(&skip(), &set, &set, &flow_of(FlowRule::F11 { before: evidence }))
+}
+
+/// Rule 13 of flow at each while of a nest: P has the members of Q in reverse.
+fn sets(count: u32) -> Vec<u32> {
+    let mut p: Set = (1..count).map(|n| member(always(), sum(28, n))).collect();
+    p.push(Member { phi: always(), e: Expression::Bool(always()) });
+    let q: Set = p.iter().rev().cloned().collect();
+    let mut c = skip();
+    let mut evidence = flow_of(FlowRule::F1);
+    for _ in 0..120 {
+        c = command(Form::While(always(), Box::new(c)));
+        evidence = flow_of(FlowRule::F13 { body: evidence });
+    }
+    file_words(&c, &p, &q, &evidence)
+}
+
+/// Rule 9 over the whole command, down to rule 10.
+fn modified(leaves: u32) -> Vec<u32> {
+    let assign = |_| command(Form::AssignScalar(1, Arith::Scalar(2)));
+    let set = vec![member(always(), Arith::Scalar(0))];
+    let leaf = |_| *flow_of(FlowRule::F10);
+    let node = |a, b| {
+        let (s, s2, t, t2) = (set.clone(), set.clone(), set.clone(), set.clone());
+        *flow_of(FlowRule::F9 { s, s2, t, t2, first: Box::new(a), second: Box::new(b) })
+    };
+    let c = tree(0, 3 * leaves, &assign, &sequence);
+    file_words(&c, &set, &set, &tree(0, leaves, &leaf, &node))
+}
+
+/// Rule 3: P has what Q's members become, in reverse.
+fn replace(count: u32) -> Vec<u32> {
+    let right = sum(56, 3);
+    let with = |e: Arith, n| member(always(), operate(Operator::Plus, e, number(n)));
+    let p: Set = (0..count).rev().map(|n| with(right.clone(), n)).collect();
+    let q: Set = (0..count).map(|n| with(Arith::Scalar(1), n)).collect();
+    file_words(&command(Form::AssignScalar(1, right)), &p, &q, &flow_of(FlowRule::F3))
+}
+
+/// Rule 1: members of depth 128 in both parts.
+fn deep(count: u32) -> Vec<u32> {
+    let nots = (0..126).fold(always(), |e, _| not(e));
+    let one = Member { phi: nots.clone(), e: Expression::Bool(nots) };
+    let set: Set = (0..count).map(|_| one.clone()).collect();
+    file_words(&skip(), &set, &set, &flow_of(FlowRule::F1))
+}
+
+/// Files that take much stack: evidence as deep as may be, and under it a rule that walks an expression as deep as may be.
+pub fn deepest() -> Vec<Vec<u8>> {
+    const DEEP: u32 = 125;
+    let nots = (0..DEEP).fold(Bool::Truth(true), |e, _| not(e));
+    let left = (0..DEEP).fold(always(), |e, _| and(e, always()));
+    let right = (0..DEEP).fold(always(), |e, _| or(always(), e));
+    let mut files: Vec<Vec<u8>> = [&nots, &left, &right].map(|phi| implied_below(phi)).into();
+    let x = || Arith::Scalar(1);
+    let plus_left = (0..DEEP).fold(x(), |e, _| operate(Operator::Plus, e, x()));
+    let plus_right = (0..DEEP).fold(x(), |e, _| operate(Operator::Plus, x(), e));
+    let update = |e: Array| Array::Update(Box::new(e), Box::new(x()), Box::new(x()));
+    let updates = (0..DEEP).fold(Array::Identifier(0), |e, _| update(e));
+    let select = |e: Arith| Arith::Select(Box::new(Array::Identifier(0)), Box::new(e));
+    let selects = (0..DEEP).fold(x(), |e, _| select(e));
+    files.extend([plus_left, plus_right, selects].map(|e| replaced_below(Expression::Arith(e))));
+    files.push(replaced_below(Expression::Array(updates)));
+    files.extend([nots, left, right].map(|e| replaced_below(Expression::Bool(e))));
+    files
+}
+
+/// Rule 28 again and again, then rule 21, whose condition has the antecedent of Q.
+fn implied_below(phi: &Bool) -> Vec<u8> {
+    let mut evidence = before_of(BeforeRule::B21 { phi0: always(), body: before_of(BeforeRule::B22) });
+    for _ in 0..120 {
+        evidence = before_of(BeforeRule::B28 { phi1: always(), inner: evidence });
+    }
+    let c = command(Form::While(Bool::Truth(false), Box::new(skip())));
+    let p = [member(always(), number(5))];
+    let q = [member(phi.clone(), number(5))];
+    bytes_of(&file_words(&c, &p, &q, &flow_of(FlowRule::F11 { before: evidence })))
+}
+
+/// Rule 13 of flow again and again, then rule 3 for x := x.
+fn replaced_below(e: Expression) -> Vec<u8> {
+    let test = Member { phi: always(), e: Expression::Bool(always()) };
+    let set = [test, Member { phi: always(), e }];
+    let mut c = command(Form::AssignScalar(1, Arith::Scalar(1)));
+    let mut evidence = flow_of(FlowRule::F3);
+    for _ in 0..125 {
+        c = command(Form::While(always(), Box::new(c)));
+        evidence = flow_of(FlowRule::F13 { body: evidence });
+    }
+    bytes_of(&file_words(&c, &set, &set, &evidence))
+}

@@ -1,0 +1,111 @@
+//! Generate: the seeded generator of accepted files, mutations, nearly readable files, files at the limits, and runs.
+//!
+//! Uses: layout, naive, tool.
+//! For: the programs that compare, the tests, and rows; any file can be made again by its seed and number.
+
+pub mod derive;
+pub mod limits;
+pub mod mutate;
+pub mod nearly;
+pub mod parts;
+pub mod prng;
+pub mod prove;
+pub mod run_cases;
+
+use self::derive::Maker;
+use self::limits::limit;
+use self::mutate::mutate;
+use self::nearly::nearly;
+use self::parts::Pool;
+use self::prng::Prng;
+use crate::layout::words::{bytes_of, take_apart, words_of, MOST_BYTES};
+use crate::layout::write::file_words;
+use crate::naive::judge::{check, Answer};
+
+/// An accepted file, made backwards. Tries until one fits the layout's
+/// limits; the judge must accept each that does.
+pub fn accepted(rng: &mut Prng) -> Vec<u8> {
+    loop {
+        let Some(bytes) = backwards(rng, 0) else { continue };
+        match check(&bytes) {
+            Answer::Accepted(_) => return bytes,
+            // Too deep, or too many members in a set that is carried.
+            Answer::Refused(r) if r.number == 4 || r.number == 5 => continue,
+            Answer::Refused(r) => {
+                panic!("made by the rules, but {r:?}: {}", crate::tool::rows::hex_of(&bytes))
+            }
+        }
+    }
+}
+
+/// A file made backwards in which a side condition or two are broken (some
+/// by chance hold all the same).
+pub fn near_miss(rng: &mut Prng) -> Vec<u8> {
+    loop {
+        let slips = 1 + rng.below(2);
+        if let Some(bytes) = backwards(rng, slips) {
+            return bytes;
+        }
+    }
+}
+
+fn backwards(rng: &mut Prng, slips: usize) -> Option<Vec<u8>> {
+    let pool = Pool::new(rng);
+    let size = rng.below(5);
+    let command = parts::random_command(rng, &pool, size, &[]);
+    let post = parts::set(rng, &pool);
+    let mut maker = Maker { rng, pool, fuel: 400, slips };
+    let (pre, evidence) = maker.flow(&command, &post, 3)?;
+    if slips > 0 && maker.slips == slips {
+        return None;
+    }
+    let words = file_words(&command, &pre, &post, &evidence);
+    (words.len() * 4 <= MOST_BYTES).then(|| bytes_of(&words))
+}
+
+/// How often each rule occurs in a file that can be read: `[kind − 33][rule]`.
+/// Kinds 33 to 35 stand nowhere but in evidence.
+pub fn count_rules(bytes: &[u8], counts: &mut [[u64; 31]; 3]) {
+    for (place, word) in words_of(bytes).unwrap_or_default().into_iter().enumerate() {
+        let word = take_apart(place, word);
+        if (33..=35).contains(&word.kind) {
+            counts[word.kind as usize - 33][word.payload as usize] += 1;
+        }
+    }
+}
+
+/// The kinds of generated files.
+#[derive(Clone, Copy, PartialEq, Eq, Debug)]
+pub enum Kind {
+    Accepted,
+    NearMiss,
+    Mutated,
+    Nearly,
+    Limit,
+}
+
+/// File number `i` of a seed, alone: any one can be made again.
+pub fn mixed(seed: u64, i: u64) -> (Kind, Vec<u8>) {
+    let mut rng = file_prng(seed, i);
+    match rng.below(10) {
+        0 | 1 => (Kind::Accepted, accepted(&mut rng)),
+        2 | 3 => (Kind::NearMiss, near_miss(&mut rng)),
+        4..=6 => {
+            let base = match rng.below(8) {
+                0 => limit(&mut rng),
+                1 => nearly(&mut rng),
+                _ => accepted(&mut rng),
+            };
+            (Kind::Mutated, mutate(&mut rng, &base))
+        }
+        7 | 8 => (Kind::Nearly, nearly(&mut rng)),
+        _ => (Kind::Limit, limit(&mut rng)),
+    }
+}
+
+/// The numbers for file `i` of a seed.
+pub fn file_prng(seed: u64, i: u64) -> Prng {
+    let mut rng = Prng::new(seed ^ i.wrapping_mul(0xd6e8_feb8_6659_fd93));
+    rng.next();
+    rng
+}

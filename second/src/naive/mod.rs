@@ -1,0 +1,22 @@
+//! Naive: the second implementation, of the check and of the runner, over trees, each sentence of document 01 as it stands.
+//! It was written from document 01 alone and shares no code with the proved crates nor with `fast`.
+//!
+//! Uses: layout.
+//! For: what the proved code and `fast` are compared with; the generator, the viewers and the examples stand on it.
+
+// Refusals 1 to 7.
+pub mod read;
+
+// The judge, refusals 8 and 9.
+pub mod implies;
+pub mod judge;
+pub mod modified;
+pub mod replace;
+pub mod sets;
+
+// The runner, refusals 10 to 15.
+pub mod run;
+
+// Runs without bounds, as "Language" means them.
+pub mod big;
+pub mod unbounded;
