@@ -22,7 +22,7 @@ use Rattle.rules.specs.Evidence.{members, child, done, _&_}
 use Rattle.layout.specs.Bytes.{wordCount, numberAt, kindAt}
 use Rattle.layout.specs.Spelling.{FitsCommand, memberWords, membersWords, setWords}
 use Rattle.layout.specs.ReadEvidence.{evidenceKind}
-use Rattle.layout.specs.EvidenceWords.{expressionPart, setPart, spelledTree, FitsTree}
+use Rattle.layout.specs.EvidenceWords.{expressionPart, commandPart, setPart, spelledTree, FitsTree}
 use Rattle.layout.specs.Standing.{StandsTo, Stands, PartStands}
 use Rattle.layout.proofs.Stands.{parted}
 use Rattle.layout.proofs.SpelledEvidence.{TreeAt, parted-trees}

@@ -1,0 +1,3 @@
+-- The context in code.
+--     Contexts    the context that it is
+pub mod Contexts

@@ -1,0 +1,14 @@
+// What a file is read and judged under, and what a call answers where it refuses.
+
+// The context: the most comparisons of an implication, the most depth, the most members of a set (document 01, "Limits").
+pub struct Context {
+    pub comparisons: usize,
+    pub depth: usize,
+    pub members: usize,
+}
+
+// A refusal's number and place (document 01, "Judging order").
+pub struct Refusal {
+    pub number: u32,
+    pub place: usize,
+}

@@ -1,0 +1,85 @@
+-- The evidence of a goal by its rule: what it carries stands at the places that the list of ends gives, and its children
+-- stand after that.
+-- Assumes nothing.
+--     Placed, placed     parts at their places; of parts that stand
+--     evidence-of        evidence whose word has the number of a rule is of that rule
+use mathlib.Core.Path.{_≡_, refl, sym, ap, subst, _∙_}
+use mathlib.Core.List.{List}
+use mathlib.Core.Option.{some}
+use Prim.Native.Nat.{ℕ, suc, _+_, _≤_}
+use native.Mathlib.Omega.{arith}
+use lib.IntN.{pos}
+use Rattle.rules.specs.Context.{Context}
+use Rattle.rules.specs.Evidence.{Judgement, Item, Rule, Row, row, rules, by, assertion, command, members, child, done, _&_}
+use Rattle.rules.specs.Evidence.{Evidence, Parts}
+use Rattle.layout.specs.Bytes.{payloadAt}
+use Rattle.layout.specs.ReadEvidence.{evidenceKind, ruleOf}
+use Rattle.layout.specs.EvidenceWords.{spelledTree, FitsTree}
+use Rattle.layout.proofs.Words.{payload-of-word}
+use Rattle.layout.proofs.SpelledEvidence.{TreeAt, parted-trees}
+use Rattle.layout.proofs.BackEvidence.{rule-row}
+use Rattle.ends.specs.Ends.{EndsOf}
+use Rattle.compare.specs.Places.{endAt}
+use Rattle.goals.specs.Places.{WrittenAt, CommandAt, SetAt}
+use Rattle.goals.proofs.Places.{expression-past, command-past, set-past, written, commanded, member-set}
+
+module _ (Γ : Context) (file ends : List ℕ) where
+  -- with d levels left, from a place up to another
+  abbrev pub Placed : ℕ → {l : List Item} → Parts l → ℕ → ℕ → Type 0
+  Placed d done at end = at ≡ end
+  Placed d (assertion φ & t) at end = WrittenAt file ends φ at × Placed d t (endAt ends at) end
+  Placed d (command c & t) at end = CommandAt file ends c at × Placed d t (endAt ends at) end
+  Placed d (members p & t) at end = SetAt file ends Γ p at × Placed d t (endAt ends at) end
+  Placed d (child k & t) at end = (q : ℕ) × TreeAt Γ file d at k q × Placed d t q end
+
+  pub placed : EndsOf file ends → (d : ℕ) → d ≤ 256 → {l : List Item} (t : Parts l) (at end : ℕ) →
+      TreeAt Γ file d at t end → Placed d t at end
+  unfolding spelledTree FitsTree
+  placed o d l done at end s = s .stand
+  placed o d l (assertion φ & t) at end s =
+      let x = parted-trees Γ file (assertion φ) t d at end s in
+      (
+        written o φ d at (x .0) l (x .1),
+        subst (λ q. Placed d t q end) (expression-past o φ d at (x .0) (x .1)) (placed o d l t (x .0) end (x .2)),
+      )
+  placed o d l (command c & t) at end s =
+      let x = parted-trees Γ file (command c) t d at end s in
+      (
+        commanded o c d at (x .0) l (x .1),
+        subst (λ q. Placed d t q end) (command-past o c d at (x .0) (x .1)) (placed o d l t (x .0) end (x .2)),
+      )
+  placed o d l (members p & t) at end s =
+      let x = parted-trees Γ file (members p) t d at end s in
+      (
+        member-set o Γ p d at (x .0) l (x .1),
+        subst (λ q. Placed d t q end) (set-past o Γ p d at (x .0) (x .1)) (placed o d l t (x .0) end (x .2)),
+      )
+  placed o d l (child k & t) at end s =
+      let x = parted-trees Γ file (child k) t d at end s in
+      (x .0, x .1, placed o d l t (x .0) end (x .2))
+
+  payload-is : {j : Judgement} {n : ℕ} {l : List Item} (r : Rule j n l) (i : ℕ) (t : Parts l) (d at end : ℕ) →
+      TreeAt Γ file d at (by r i t) end → payloadAt file at ≡ n
+  unfolding spelledTree
+  payload-is {j} {n} r i t d at end s =
+      let low = rule-row r .1 in
+      payload-of-word file at (evidenceKind j) (pos n) (s .stand .1) (omega arith)
+
+  -- evidence of a row, with its parts after its word
+  pub record OfRow {j : Judgement} (ρ : Row j) (e : Evidence j) (d at end : ℕ) : Type 0 where
+    pub parts : Parts (ρ .after)
+    pub is : e ≡ by (ρ .rule) at parts
+    pub stand : TreeAt Γ file d (at + 1) parts end
+
+  pub evidence-of : {j : Judgement} {n : ℕ} (ρ : Row j) → ruleOf n (rules j) ≡ some ρ → (e : Evidence j)
+      (d at end : ℕ) → TreeAt Γ file (suc d) at e end → payloadAt file at ≡ n → OfRow ρ e d at end
+  unfolding spelledTree FitsTree
+  evidence-of {j} {n} ρ h (by {n = m} r i t) d at end s p =
+      let same : m ≡ n = sym (payload-is r i t (suc d) at end s) ∙ p in
+      let rows : some (row r) ≡ some ρ = sym (rule-row r .0) ∙ ap (λ k. ruleOf k (rules j)) same ∙ h in
+      let is : row r ≡ ρ = cc in
+      subst (λ σ. OfRow σ (by r i t) d at end) is (record {
+        parts = t;
+        is = ap (λ k. by r k t) (s .fit .0);
+        stand = record { stand = s .stand .2; fit = s .fit .1 };
+      })
