@@ -35,6 +35,18 @@ pub fn end_at(ends: &[u32], at: usize) -> usize
     e as usize
 }
 
+// The same of any place: 0 past the list.
+pub fn end_or_zero(ends: &[u32], at: usize) -> usize
+    ensures { λ r. ⌜ r ≡ getD (now (ends .entry)) «at» 0 ⌝ }
+{
+    if at < ends.len() {
+        let e = ends[at];
+        e as usize
+    } else {
+        0
+    }
+}
+
 // How many expressions and commands follow a word (document 01, "Layout").
 fn parts(x: u32) -> usize
     ensures { λ r. ⌜ r ≡ countOf (x / 67108864) (x % 67108864) ⌝ }
