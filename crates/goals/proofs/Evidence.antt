@@ -1,6 +1,7 @@
 -- The evidence of a goal by its rule: what it carries stands at the places that the list of ends gives, and its children
 -- stand after that.
 -- Assumes nothing.
+--     payload-is         the number of its rule is the payload of its word
 --     Placed, placed     parts at their places; of parts that stand
 --     evidence-of        evidence whose word has the number of a rule is of that rule
 use mathlib.Core.Path.{_≡_, refl, sym, ap, subst, _∙_}
@@ -58,7 +59,7 @@ module _ (Γ : Context) (file ends : List ℕ) where
       let x = parted-trees Γ file (child k) t d at end s in
       (x .0, x .1, placed o d l t (x .0) end (x .2))
 
-  payload-is : {j : Judgement} {n : ℕ} {l : List Item} (r : Rule j n l) (i : ℕ) (t : Parts l) (d at end : ℕ) →
+  pub payload-is : {j : Judgement} {n : ℕ} {l : List Item} (r : Rule j n l) (i : ℕ) (t : Parts l) (d at end : ℕ) →
       TreeAt Γ file d at (by r i t) end → payloadAt file at ≡ n
   unfolding spelledTree
   payload-is {j} {n} r i t d at end s =

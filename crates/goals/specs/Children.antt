@@ -3,12 +3,14 @@
 -- have these goals; the judge judges each child's evidence against them. Assumes nothing.
 --     flowChildren, setChildren, preChildren    by rule
 --     childrenAt, childAt                       of a goal by its rule's number; one of them
---     pastCarried                               the place past what is carried, of the items after an evidence word
+--     judgementOf                               the judgement of a goal
+--     carriedOff, pastCarried                   the items after an evidence word past what is carried; their place
 use mathlib.Core.Bool.{cond}
 use mathlib.Core.List.{List, [], _∷_}
 use Prim.Native.Nat.{ℕ, _+_}
 use lib.Dec.{eqb}
 use lib.ListN.{getD}
+use Rattle.rules.specs.Evidence.{Judgement, flow, implication, precondition}
 use Rattle.rules.specs.Evidence.{Item, assertionItem, commandItem, membersItem, childItem}
 use Rattle.compare.specs.Places.{endAt}
 use Rattle.goals.specs.declared.Goal.{Goal}
@@ -17,6 +19,18 @@ use Rattle.goals.specs.declared.Goal.the-variants.{Flow, Set, Pre}
 abbrev pub ofRule : ℕ → List (ℕ × List Goal) → List Goal
 ofRule n [] = []
 ofRule n (x ∷ l) = cond (eqb n (x .0)) (x .1) (ofRule n l)
+
+abbrev pub judgementOf : Goal → Judgement
+judgementOf (Flow p c q) = flow
+judgementOf (Set p q) = implication
+judgementOf (Pre f c g) = precondition
+
+abbrev pub carriedOff : List Item → List Item
+carriedOff [] = []
+carriedOff (assertionItem ∷ l) = carriedOff l
+carriedOff (commandItem ∷ l) = carriedOff l
+carriedOff (membersItem ∷ l) = carriedOff l
+carriedOff (childItem j ∷ l) = childItem j ∷ l
 
 module _ (ends : List ℕ) where
   -- P at p, C at c, Q at q; the evidence word at `at`

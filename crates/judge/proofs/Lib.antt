@@ -1,5 +1,7 @@
--- Laws behind the judging of evidence.
---     Counts      the count of accepted evidence is at most its words
---     Children    the children of an evidence word, judged one after the other
+-- Laws of evidence judged child by child.
+--     Carried   past what is carried, of a row
+--     Counts    the count of accepted evidence is at most its words
+--     Going     the children, one after the other
+pub mod Carried
 pub mod Counts
-pub mod Children
+pub mod Going

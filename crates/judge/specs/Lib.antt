@@ -1,3 +1,5 @@
 -- Evidence judged child by child.
---     Next    the next child, where those before it were accepted
-pub mod Next
+--     Row      past what is carried, of a row
+--     Going    the children, one after the other
+pub mod Row
+pub mod Going

@@ -2,6 +2,7 @@
 -- Assumes nothing.
 --     isEvidenceWord, evidenceIn, count-length   words of these kinds among those of trees
 --     expression-none, command-none, set-none    expressions, commands and sets have none
+--     tally, tree-tally                          the count of evidence
 --     pre-counts, set-counts, flow-counts        evidence, as it is judged
 --     file-counts                                a file, as it is judged, by the words of its parts
 --     count-spelled, file-counted                the same by the words of the file
@@ -145,7 +146,7 @@ also-counts (accepted a) (refused k i) g h = refused-counts k i _
 also-counts (refused k i) w g h = refused-counts k i _
 
 -- the count of evidence: what is carried has none
-abbrev tally : {s : Standing} → Tree s → ℕ
+abbrev pub tally : {s : Standing} → Tree s → ℕ
 tally (by r i t) = suc (tally t)
 tally (assertion φ) = 0
 tally (command c) = 0
