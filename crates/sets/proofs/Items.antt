@@ -2,7 +2,8 @@
 -- Assumes nothing.
 --     item-plain, item-under, item-unless, item-replaced    by view
 --     item-not, item-so                                     a written member compared with an item
---     seen-at, pair-at, certain-at                          what an item names stands there
+--     seen-at, plain-at, pair-at, certain-at                what an item names stands there
+--     see                                                   a member that is seen can be compared
 use mathlib.Core.Path.{_≡_, sym, ap, subst, _∙_}
 use mathlib.Core.Bool.{Bool, true, false}
 use mathlib.Core.List.{List}
@@ -15,7 +16,7 @@ use Rattle.compare.specs.declared.cursor.Put.{Put}
 use Rattle.compare.specs.declared.antecedent.Antecedent.the-variants.{And, AndNot, Replaced as Changed}
 use Rattle.compare.specs.declared.consequent.Consequent.the-variants.{Written, Replaced as Exchanged}
 use Rattle.sets.specs.Items.{seenItem, pairItem, certainItem, itemHalves, writtenHalves, sameHalves}
-use Rattle.sets.specs.Standing.{MemberAt, ViewAt, ItemAt}
+use Rattle.sets.specs.Standing.{MemberAt, ViewAt, ItemAt, CanCompare, CanSee}
 use Rattle.sets.specs.declared.item.View.{View}
 use Rattle.sets.specs.declared.item.View.the-variants.{Plain, Under, Unless, Replaced}
 use Rattle.sets.specs.declared.item.Item.{Item}
@@ -91,3 +92,11 @@ module _ {file ends : List ℕ} (o : EndsOf file ends) where
   pub certain-at : {b : ℕ} → AnyAt file ends b → ItemAt file ends (certainItem b)
   unfolding AntecedentAt ConsequentAt
   certain-at y = record { antecedent-at = tt; consequent-at = any-known o y }
+
+pub see : {file ends : List ℕ} {at a : ℕ} {view : View} {item : Item} → CanSee file ends at a view →
+    item ≡ seenItem ends view a → CanCompare file ends at item
+see {view = view} p e = record {
+  ends-of = p .ends-of;
+  member = p .member;
+  item-at = seen-at (p .ends-of) view e (p .other) (p .view-at);
+}

@@ -4,7 +4,7 @@
 --     CanPass                         a member's two places are in the list of ends
 --     MemberAt                        a boolean and an expression of any sort stand there
 --     ViewAt                          what a view names stands there
---     ItemAt, CanCompare              what an item names
+--     ItemAt, CanCompare, CanSee      what an item names; a written member compared with one, with a member that is seen
 --     MembersAt                       so many members, one after the other
 --     CanFind, CanLook                an item among members; a member among members that are seen
 --     CanHold, CanRest                each of some members among others; without those that are listed
@@ -44,6 +44,12 @@ module _ (file ends : List ℕ) where
     pub ends-of : EndsOf file ends
     pub member : MemberAt at
     pub item-at : ItemAt item
+
+  pub record CanSee (at a : ℕ) (view : View) : Type 0 where
+    pub ends-of : EndsOf file ends
+    pub member : MemberAt at
+    pub other : MemberAt a
+    pub view-at : ViewAt view
 
   -- so many members stand one after the other
   unfoldable pub MembersAt : ℕ → ℕ → Type 0

@@ -2,7 +2,7 @@ use crate::item::View;
 use crate::item::pair_item;
 use crate::item::past_member;
 use crate::item::same_item;
-use crate::item::seen_item;
+use crate::item::same_seen;
 use crate::pile::Pile;
 use crate::pile::Piles;
 use crate::pile::count;
@@ -44,8 +44,7 @@ fn align_seen(
                 at: i,
             };
         }
-        let item = seen_item(ends, a, view);
-        if !same_item(w, ends, i, item) {
+        if !same_seen(w, ends, i, a, view) {
             return Rest {
                 same: false,
                 n: left,

@@ -3,12 +3,14 @@ use compare::antecedent::same_antecedent;
 use compare::consequent::Consequent;
 use compare::consequent::same_consequent;
 use compare::cursor::Put;
+use compare::part::same_parts;
 use ends::end_at;
 ghost use mathlib.Core.Path.{_≡_};
 ghost use Prim.Native.Nat.{_<_};
 ghost use lib.ListN.{length};
-ghost use Rattle.sets.specs.Items.{seenItem, pairItem, itemHalves, writtenHalves, sameHalves, pastMember};
-ghost use Rattle.sets.specs.Standing.{CanPass, CanCompare};
+ghost use Rattle.sets.specs.Items.{seenItem, pairItem, itemHalves, seenAs, writtenHalves, sameHalves};
+ghost use Rattle.sets.specs.Items.{pastMember};
+ghost use Rattle.sets.specs.Standing.{CanPass, CanCompare, CanSee};
 
 // How a member of a written set is seen: as it stands; φ made φ ∧ B, or φ ∧ ¬B, B at a place; with words put for a word.
 pub enum View {
@@ -81,5 +83,43 @@ pub fn same_item(w: &[u32], ends: &[u32], at: usize, item: Item) -> bool
     }
     let middle = end_at(ends, at);
     let consequent = item.consequent;
+    // the usual one at once
+    if let Consequent::Written(b) = consequent {
+        return same_parts(w, ends, middle, b);
+    }
     same_consequent(w, ends, middle, consequent)
+}
+
+// Whether the written member at `at` is the one at a, seen as the view says. Each view has its own call, so that the
+// compiler sees which halves are compared.
+pub fn same_seen(w: &[u32], ends: &[u32], at: usize, a: usize, view: View) -> bool
+    requires { ⌜ CanSee (now w) (now ends) «at» a view ⌝ }
+    ensures { λ r. ⌜ r ≡ sameHalves (writtenHalves (now (w .entry)) (now (ends .entry)) «at»)
+        (seenAs (now (w .entry)) (now (ends .entry)) view a) ⌝ }
+{
+    let middle = end_at(ends, a);
+    match view {
+        View::Plain => same_item(w, ends, at, pair_item(a, middle)),
+        View::Under(b) => {
+            let item = Item {
+                antecedent: Antecedent::And(a, b),
+                consequent: Consequent::Written(middle),
+            };
+            same_item(w, ends, at, item)
+        }
+        View::Unless(b) => {
+            let item = Item {
+                antecedent: Antecedent::AndNot(a, b),
+                consequent: Consequent::Written(middle),
+            };
+            same_item(w, ends, at, item)
+        }
+        View::Replaced(put) => {
+            let item = Item {
+                antecedent: Antecedent::Replaced(a, put),
+                consequent: Consequent::Replaced(middle, put),
+            };
+            same_item(w, ends, at, item)
+        }
+    }
 }

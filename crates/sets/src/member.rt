@@ -2,6 +2,7 @@ use crate::item::Item;
 use crate::item::View;
 use crate::item::past_member;
 use crate::item::same_item;
+use crate::item::same_seen;
 use crate::item::seen_item;
 ghost use mathlib.Core.Path.{_≡_};
 ghost use mathlib.Core.Bool.{_||_};
@@ -36,8 +37,7 @@ pub fn in_seen(w: &[u32], ends: &[u32], x: usize, k: usize, at: usize, view: Vie
     let mut n = k;
     let mut i = at;
     while 0 < n {
-        let item = seen_item(ends, i, view);
-        if same_item(w, ends, x, item) {
+        if same_seen(w, ends, x, i, view) {
             return true;
         }
         i = past_member(ends, i);

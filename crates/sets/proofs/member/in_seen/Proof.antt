@@ -4,9 +4,8 @@ use borrow.Author.Needs.{needs}
 use Rattle.sets.specs.Items.{writtenHalves}
 use Rattle.sets.specs.Lists.{standsIn}
 use Rattle.sets.proofs.Members.{member-pass}
-use Rattle.sets.proofs.Items.{seen-at}
 use Rattle.sets.proofs.Loops.{Left, left-start, left-first, left-stop, left-on, left-end, stands-found}
-use Rattle.sets.proofs.Loops.{stands-skip, same-as, end-stands}
+use Rattle.sets.proofs.Loops.{stands-skip, end-stands}
 use Rattle.sets.proofs.member.in_seen.Statement.{statement}
 use Rattle.sets.proofs.member.in_seen.Tie as tie
 
@@ -26,25 +25,18 @@ in-seen-spec =
     (λ c κs.
     let l = c .before in
     let p = l .before .before .before .pre in
-    member-pass (p .ends-of) (left-first (l .loop .inv) (c .loop-test .taken)) .first)
-    (λ c κs.
-    let t = c .before in
-    let l = t .before in
-    let p = l .before .before .before .pre in
     record {
       ends-of = p .ends-of;
       member = p .member;
-      item-at =
-          seen-at (p .ends-of) _ (c .seen-item .ensures) (left-first (l .loop .inv) (t .loop-test .taken)) (p .view-at);
+      other = left-first (l .loop .inv) (c .loop-test .taken);
+      view-at = p .view-at;
     })
     (λ c.
-    let item = c .before .before in
-    let t = item .before in
+    let t = c .before .before in
     left-stop (t .before .loop .inv) (t .loop-test .taken)
-    (stands-found _ _ (c .before .same-item .result) (same-as _ _ (item .seen-item .ensures) _ (c .before .same-item .ensures))
-    (c .if1 .taken)))
+    (stands-found _ _ (c .before .same-seen .result) (c .before .same-seen .ensures) (c .if1 .taken)))
     (λ c κs.
-    let t = c .before .before .before in
+    let t = c .before .before in
     let l = t .before in
     let p = l .before .before .before .pre in
     member-pass (p .ends-of) (left-first (l .loop .inv) (t .loop-test .taken)))
@@ -52,9 +44,7 @@ in-seen-spec =
     (λ c. search needs)
     (λ c.
     let tested = c .before .before in
-    let item = tested .before in
-    let t = item .before in
+    let t = tested .before in
     left-on (t .before .loop .inv) (t .loop-test .taken) (c .past-member .ensures)
-    (stands-skip _ _ (tested .same-item .result) (same-as _ _ (item .seen-item .ensures) _ (tested .same-item .ensures))
-    (c .before .if1 .left)))
+    (stands-skip _ _ (tested .same-seen .result) (tested .same-seen .ensures) (c .before .if1 .left)))
     (λ c. left-end (c .before .loop .inv) (c .loop-test .left) (end-stands _)))
