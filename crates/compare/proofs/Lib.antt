@@ -7,6 +7,9 @@
 --     Numbers     numbers spell words, and words spell one tree
 --     Replaced    the numbers of an expression with another in the place of an identifier
 --     Whole       a cursor that passes all of a part finds the same numbers there
+--     SameNumbers equality of numbers as a test, of what a cursor passes and of two parts
+--     Forms       cursors after antecedents and consequents as the rules form them
+--     Halves      antecedents and consequents compared, by the trees that stand there
 pub mod Ranges
 pub mod Matching
 pub mod EqualWords
@@ -15,3 +18,6 @@ pub mod Exchange
 pub mod Numbers
 pub mod Replaced
 pub mod Whole
+pub mod SameNumbers
+pub mod Forms
+pub mod Halves

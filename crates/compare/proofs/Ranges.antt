@@ -2,12 +2,14 @@
 -- Assumes nothing.
 --     between-none, between-first    none, the first and the others
 --     between-join                   up to a place and from there on
-use mathlib.Core.Path.{_≡_, ap}
+--     between-last                   those before the last, and the last
+--     between-length                 how many
+use mathlib.Core.Path.{_≡_, ap, _∙_}
 use mathlib.Core.List.{List, [], _∷_, _++_}
 use Prim.Native.Nat.{ℕ, zero, suc, _+_, _-_, _<_, _≤_}
 use native.Mathlib.Numerals.{add-one}
 use native.Mathlib.Omega.{arith}
-use lib.ListN.{length, getD, take, length-take, drop-of-length-le}
+use lib.ListN.{length, getD, take, length-take, length-drop, drop-of-length-le}
 use lib.Seq.{slice-cons}
 use Rattle.compare.specs.Matching.{between}
 
@@ -33,3 +35,15 @@ module _ (file : List ℕ) where
   pub between-join : (a q e : ℕ) → a ≤ q → q ≤ e → e ≤ length file →
       between file a e ≡ between file a q ++ between file q e
   between-join a q e h k l = join (q - a) a q e (omega arith) k l
+
+  pub between-last : (a e : ℕ) → a < e → e ≤ length file →
+      between file a e ≡ between file a (e - 1) ++ (getD file (e - 1) 0 ∷ [])
+  between-last a e h k =
+      between-join a (e - 1) e (omega arith) (omega arith) k
+      ∙ ap (λ z. between file a (e - 1) ++ z)
+      (between-first (e - 1) e (omega arith) k
+      ∙ ap (λ z. getD file (e - 1) 0 ∷ z) (between-none (e - 1 + 1) e (omega arith)))
+
+  pub between-length : (a e : ℕ) → e ≤ length file → length (between file a e) ≡ e - a
+  unfolding between
+  between-length a e h = simp (length-drop, length-take) (omega arith)

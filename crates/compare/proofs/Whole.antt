@@ -1,6 +1,7 @@
 -- A cursor that passes all of a part finds the same numbers there.
 -- Assumes nothing.
 --     whole-sound, whole-complete    numbers that lead a cursor from one place to another are those between them, and back
+--     whole-past                     a cursor at which none was missing lies past as many as were asked for
 use mathlib.Core.Path.{_≡_, refl, sym, ap, subst, _∙_}
 use mathlib.Core.Bool.{Bool, true, false, _&&_, cond}
 use mathlib.Core.List.{List, [], _∷_}
@@ -53,6 +54,10 @@ module _ (file : List ℕ) where
   unfolding matched matchedWord
   passed [] at i h = record { past = omega arith; within = i; same = between-none file at at (omega arith) }
   passed (x ∷ l) at i h = step x l at (λ j k. passed l (at + 1) j k) (ltb at (length file) && eqb (getD file at 0) x) refl h
+
+  pub whole-past : (l : List ℕ) (at : ℕ) → at ≤ length file → (matched file (cursor true at) l) .same ≡ true →
+      (matched file (cursor true at) l) .at ≡ at + length l
+  whole-past l at i h = passed l at i h .past
 
   pub whole-sound : (l : List ℕ) (at to : ℕ) → at ≤ length file → (matched file (cursor true at) l) .same ≡ true →
       (matched file (cursor true at) l) .at ≡ to → between file at to ≡ l

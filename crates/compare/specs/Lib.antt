@@ -2,6 +2,8 @@
 --     Matching    numbers matched from a place on, with others in the place of a word
 --     EqualWords  words that are equal from two places on
 --     Places      an expression stands at a place, and its end is in the list of ends
+--     Forms       antecedents and consequents as the rules form them
 pub mod Matching
 pub mod EqualWords
 pub mod Places
+pub mod Forms

@@ -1,12 +1,15 @@
 -- Numbers matched along a file from a place on, also with others in the place of a word (document 01 compares by words).
 -- Working: `whole-sound` and `whole-complete` of proofs/Whole say which numbers a cursor passes, `numbers-words` of
 -- proofs/Numbers that numbers tell their words, `replaces` of proofs/Replaced that the exchanged numbers of an
--- expression are those of the replaced one. Assumes nothing.
+-- expression are those of the replaced one, `sameNumbers-decides` of proofs/SameNumbers that the test decides equality.
+-- Assumes nothing.
 --     numbers, between        the numbers of words; of a file from a place up to another
 --     matchAt                 a cursor at a place, nothing missing so far
 --     matchedWord, matched    a cursor after one number, after a list of them
 --     putFor, exchanged       what is put for a word; for each of a list
-use mathlib.Core.Bool.{true, false, _&&_, cond}
+--     came                    a cursor at which nothing was missing has come to a place
+--     sameNumbers             equality, as a test
+use mathlib.Core.Bool.{Bool, true, false, _&&_, cond}
 use mathlib.Core.List.{List, [], _∷_, _++_}
 use Prim.Native.Nat.{ℕ, _+_}
 use lib.Dec.{eqb, ltb}
@@ -44,3 +47,12 @@ putFor file put x = cond (eqb x (put .word)) (between file (put .from) (put .to)
 unfoldable pub exchanged : List ℕ → Put → List ℕ → List ℕ
 exchanged file put [] = []
 exchanged file put (x ∷ l) = putFor file put x ++ exchanged file put l
+
+unfoldable pub came : Match → ℕ → Bool
+came m to = m .same && eqb (m .at) to
+
+unfoldable pub sameNumbers : List ℕ → List ℕ → Bool
+sameNumbers [] [] = true
+sameNumbers [] (y ∷ l) = false
+sameNumbers (x ∷ k) [] = false
+sameNumbers (x ∷ k) (y ∷ l) = eqb x y && sameNumbers k l

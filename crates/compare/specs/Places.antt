@@ -2,13 +2,14 @@
 -- Working: `expression-is` of sets/proofs/Trees says that an expression that stands in the file stands so, with its own
 -- numbers; `replaced-at` of pre_rules/proofs/Assertions ties what is matched to the rules' `replace`. Assumes nothing.
 --     endAt                       the place past the part that starts at a place
+--     PartKnown                   a place is in the list of ends, and its end lies further on, in the file
 --     ExpressionTo, ExpressionAt  an expression of a sort stands from a place up to another; up to its end in the list
 --     AnyAt, Chained              one of any sort; so many of them, one after the other
 --     CanMatch, CanMatchAny       what the functions that walk an expression ask for
 --     Matched                     what they promise: the cursor after its numbers, with others in the place of a word
 use mathlib.Core.Path.{_≡_}
 use mathlib.Core.List.{List}
-use Prim.Native.Nat.{ℕ, zero, suc, _≤_}
+use Prim.Native.Nat.{ℕ, zero, suc, _<_, _≤_}
 use lib.ListN.{length, getD}
 use Rattle.language.specs.Syntax.{Sort, Expr}
 use Rattle.layout.specs.EvidenceWords.{expressionPart}
@@ -20,6 +21,11 @@ use Rattle.compare.specs.declared.cursor.Put.{Put}
 
 abbrev pub endAt : List ℕ → ℕ → ℕ
 endAt ends at = getD ends at 0
+
+pub record PartKnown (file ends : List ℕ) (at : ℕ) : Type 0 where
+  pub listed : at < length ends
+  pub start : at < endAt ends at
+  pub inside : endAt ends at ≤ length file
 
 pub record ExpressionTo (file : List ℕ) (k : Sort) (at p : ℕ) : Type 0 where
   pub tree : Expr k

@@ -4,7 +4,7 @@ use ends::end_at;
 use goals::Goal;
 use goals::Step;
 use rule_laws::kept::is_kept;
-use rule_laws::same::is_same;
+use rule_laws::same::is_same_consequent;
 use sets::pile::count;
 use sets::rule::same_branches;
 use words::kinds::IF;
@@ -52,7 +52,7 @@ pub fn rule_11(w: &[u32], ends: &[u32], at: usize, p: usize, c: usize, q: usize)
     }
     let e = end_at(ends, p + 1);
     let f = end_at(ends, q + 1);
-    if !is_same(w, ends, e, f) {
+    if !is_same_consequent(w, ends, e, f) {
         return Step::Stop(8);
     }
     if !is_kept(w, ends, e, c) {

@@ -25,7 +25,7 @@ use Rattle.ends.specs.Ends.{EndsOf}
 use Rattle.goals.specs.declared.Step.{Step}
 use Rattle.goals.specs.declared.Step.the-variants.{Stop}
 use Rattle.rule_laws.specs.Places.{WrittenAt, CommandAt, PartKnown}
-use Rattle.rule_laws.specs.Sameness.{SameAt, KeptAt}
+use Rattle.rule_laws.specs.Sameness.{SameAssertionAt, KeptAt}
 use Rattle.rule_laws.specs.Steps.{leafStep}
 use Rattle.rule_laws.proofs.Places.{written-known}
 use Rattle.rule_laws.proofs.Commands.{is-skip, is-scalar, is-array, is-assert, other-kind, other-than-skip}
@@ -51,7 +51,7 @@ module _ {file ends : List ℕ} {f c g at : ℕ} where
       stops (p .ends-of) pre22 (λ d end k l s. of-22 (p .ends-of) l s (p .rule-is))
       λ Γ φ φ′ e x y z. other-than-skip (refused 8 at) e _ (other-kind z h)
 
-  pub skip-tried : CanTry file ends 22 f c g at → kindAt file c ≡ 24 → {b : Bool} → SameAt file ends f g b →
+  pub skip-tried : CanTry file ends 22 f c g at → kindAt file c ≡ 24 → {b : Bool} → SameAssertionAt file ends f g b →
       {s : Step} → s ≡ leafStep at b → Tried file f c g at s
   unfolding judgePre byForm
   skip-tried p h {b} same e =
@@ -120,7 +120,7 @@ module _ {file ends : List ℕ} {f c g at : ℕ} where
       e
 
   -- the first of its two conditions fails
-  pub kept-stops : CanTry file ends 27 f c g at → {b : Bool} → SameAt file ends f g b → b ≡ false →
+  pub kept-stops : CanTry file ends 27 f c g at → {b : Bool} → SameAssertionAt file ends f g b → b ≡ false →
       Tried file f c g at (Stop 8)
   unfolding judgePre judgeWord test _then_
   kept-stops p same h =
@@ -128,7 +128,7 @@ module _ {file ends : List ℕ} {f c g at : ℕ} where
       λ Γ φ φ′ e x y z.
       ap (λ i. judgeLeaf at (test i then test (unmodified (identifiers φ) e))) (sym (same .is φ φ′ x y) ∙ h)
 
-  pub kept-tried : CanTry file ends 27 f c g at → {a : Bool} → SameAt file ends f g a → a ≡ true → {b : Bool} →
+  pub kept-tried : CanTry file ends 27 f c g at → {a : Bool} → SameAssertionAt file ends f g a → a ≡ true → {b : Bool} →
       KeptAt file ends f c b → {s : Step} → s ≡ leafStep at b → Tried file f c g at s
   unfolding judgePre test _then_
   kept-tried p same h {b} kept e =

@@ -5,7 +5,7 @@ use super::condition::is_replaced;
 use super::condition::is_true;
 use goals::Step;
 use rule_laws::kept::is_kept;
-use rule_laws::same::is_same;
+use rule_laws::same::is_same_assertion;
 use rule_laws::step::leaf;
 use words::kinds::ARRAY_WORD;
 use words::kinds::ASSERT;
@@ -24,7 +24,7 @@ pub fn rule_22(w: &[u32], ends: &[u32], at: usize, f: usize, c: usize, g: usize)
     if w[c] / KIND != SKIP {
         return Step::Stop(8);
     }
-    leaf(at, is_same(w, ends, f, g))
+    leaf(at, is_same_assertion(w, ends, f, g))
 }
 
 // Rule 24. Scalar assignment; φ is φ' with the right side for the word 2:x.
@@ -70,7 +70,7 @@ pub fn rule_27(w: &[u32], ends: &[u32], at: usize, f: usize, c: usize, g: usize)
     requires { ⌜ CanTry (now w) (now ends) 27 f c g «at» ⌝ }
     ensures { λ r. ⌜ Tried (now (w .entry)) f c g «at» r ⌝ }
 {
-    if !is_same(w, ends, f, g) {
+    if !is_same_assertion(w, ends, f, g) {
         return Step::Stop(8);
     }
     leaf(at, is_kept(w, ends, f, c))

@@ -1,5 +1,5 @@
 // The rules of necessary preconditions (document 01, rules 20 to 30), tried at an evidence word of kind 35.
-pub mod condition; // the rules' tests of assertions by words
+pub mod condition; // the rules' tests of assertions
 pub mod leaf; // rules 22, 24 to 27 and 29, which have no children
 pub mod node; // rules 20, 23 and 30, which have children
 pub mod implied; // rules 21 and 28, which have implications

@@ -1,7 +1,7 @@
 -- Laws that the rules of all three judgements use.
 --     Places      what stands at a place, by its end in the list of ends
 --     Commands    the form of a written command by the kind of its first word, and its parts
---     Passing     a cursor that passes words decides sameness with what stands there
+--     Passing     sameness with what stands at a place
 --     Meaning     the words of what a `for` means
 --     Keeping     a scan for what a command modifies
 --     Implying    sides of an implication by their places

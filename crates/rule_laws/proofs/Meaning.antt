@@ -13,11 +13,12 @@ use Rattle.language.specs.Runs.{meaning}
 use Rattle.rules.specs.Words.{Word, word, words, commandWords}
 use Rattle.layout.specs.Bytes.{payloadAt}
 use Rattle.ends.specs.Ends.{EndsOf}
-use Rattle.compare.specs.Matching.{between, numbers, matchedWord, matched}
+use Rattle.compare.specs.Matching.{numbers, matchedWord, matched, came}
 use Rattle.compare.specs.Places.{endAt}
+use Rattle.compare.specs.Forms.{part}
 use Rattle.compare.specs.declared.cursor.Match.{Match}
 use Rattle.compare.proofs.Whole.{cursor}
-use Rattle.rule_laws.specs.Sameness.{came, startNumbers, nextNumbers, MeaningAt}
+use Rattle.rule_laws.specs.Sameness.{startNumbers, nextNumbers, MeaningAt}
 use Rattle.rule_laws.proofs.Commands.{ForParts, parts-of-for}
 use Rattle.rule_laws.proofs.Passing.{Passes, then, passes-command, InRange, AllInRange, in-range-append}
 use Rattle.rule_laws.proofs.Passing.{command-range, same-command}
@@ -101,7 +102,7 @@ in-range q m e x =
 module _ {file ends : List ℕ} {d c : ℕ} (o : EndsOf file ends) where
   module _ (start body next : Match)
       (s : start ≡ matched file (cursor true d) (startNumbers (payloadAt file c % 32) (payloadAt file c / 32)))
-      (b : body ≡ matched file start (between file (c + 1) (endAt ends (c + 1))))
+      (b : body ≡ matched file start (part file ends (c + 1)))
       (n : next ≡ matched file body (nextNumbers (payloadAt file c % 32))) where
     means : (q m : ℕ) (e : Command) → ForParts file ends c q m e →
         Passes file (cursor true d) (commandWords (meaning q m e)) next

@@ -1,41 +1,41 @@
--- A cursor that passes words decides sameness with what stands there (document 01 compares by words).
+-- Sameness with what stands at a place, as the functions that compare find it (document 01 compares by words).
 -- Assumes nothing.
---     Passes, passes-word, passes-part, then        a cursor after words, one after the other
+--     Passes, then, passes-command                  a cursor after words, one after the other
 --     InRange, in-range-append                      words whose payloads are in range, also those of a `for`
 --     command-range                                 those of a command that fits
 --     numbers-tell                                  their numbers tell them
---     same-words                                    sameness by words, found by a cursor
---     same-expression                               of a written expression with words in range
---     same-command                                  of a written command with words in range
+--     same-command                                  sameness of a written command, found by a cursor
+--     written-has                                   a written expression, as the functions that compare have it
+--     can-assertion, assertion-at                   two written assertions
+--     can-consequent, consequent-at                 two written consequents
 use mathlib.Core.Path.{_≡_, refl, sym, ap, ap₂, _∙_}
-use mathlib.Core.Bool.{Bool, true, false}
+use mathlib.Core.Bool.{Bool, true}
 use mathlib.Core.List.{List, [], _∷_, _++_, head-eq-of-cons-eq, tail-eq-of-cons-eq, cons≢nil, nil≢cons}
 use Prim.Native.Nat.{ℕ, zero, suc, _≤_}
 use native.Mathlib.Omega.{arith}
-use borrow.Author.Tests.{eqb-true, eq-eqb}
-use lib.Dec.{eqb}
-use Rattle.laws.proofs.Bools.{and-left, and-right, and-both}
-use Rattle.laws.proofs.Decides.{decides-same}
 use Rattle.language.specs.Syntax.{Sort, Expr, constant, scalar, operation, select, compare, truth}
 use Rattle.language.specs.Syntax.{and, or, neg, array, zeros, update, toScalar, toArray}
 use Rattle.language.specs.Syntax.{Command, skip, sequence, assert, assign, ifElse, while, for}
 use Rattle.rules.specs.Words.{Word, word, forWord, words, commandWords, sameWords}
-use Rattle.rules.proofs.Decides.{sameWords-decides}
 use Rattle.layout.specs.Bytes.{signed}
 use Rattle.layout.specs.Spelling.{encode, payloadOf, FitsConstant, FitsExpression, FitsCommand}
-use Rattle.layout.specs.Standing.{StandsTo}
 use Rattle.layout.proofs.Words.{payload-small, signed-payload}
-use Rattle.compare.specs.Matching.{between, numbers, matchedWord, matched}
+use Rattle.compare.specs.Matching.{numbers, matched, came, sameNumbers}
 use Rattle.compare.specs.Places.{endAt}
+use Rattle.compare.specs.Forms.{part, antecedentNumbers, consequentNumbers, AntecedentAt, ConsequentAt, CanAntecedent}
+use Rattle.compare.specs.Forms.{CanConsequent}
+use Rattle.compare.specs.declared.antecedent.Antecedent.the-variants.{Written}
+use Rattle.compare.specs.declared.consequent.Consequent.the-variants.{Written as Plain}
 use Rattle.compare.specs.declared.cursor.Match.{Match}
 use Rattle.compare.proofs.Matching.{matched-append}
-use Rattle.compare.proofs.Operands.{Inside}
-use Rattle.compare.proofs.Numbers.{stands-between, numbers-append, FitsWords, fits-words, numbers-words}
+use Rattle.compare.proofs.Numbers.{stands-between, numbers-append}
 use Rattle.compare.proofs.Numbers.{operator-fits, comparison-fits, truth-fits}
-use Rattle.compare.proofs.Whole.{cursor, whole-sound, whole-complete}
+use Rattle.compare.proofs.Whole.{cursor}
+use Rattle.compare.proofs.SameNumbers.{came-same, numbers-same}
+use Rattle.compare.proofs.Halves.{PartHas, has, is-written, antecedent-same, is-plain, consequent-same}
 use Rattle.rule_laws.specs.Places.{WrittenAt, CommandAt}
-use Rattle.rule_laws.specs.Sameness.{came, SameAt}
-use Rattle.rule_laws.proofs.Places.{written-inside, command-inside}
+use Rattle.rule_laws.specs.Sameness.{CanSame, SameAssertionAt, SameAt}
+use Rattle.rule_laws.proofs.Places.{command-inside}
 
 -- a cursor after words
 pub record Passes (file : List ℕ) (m : Match) (l : List Word) (n : Match) : Type 0 where
@@ -51,22 +51,11 @@ module _ {file : List ℕ} where
         ∙ ap (matched file m) (sym (numbers-append k l));
   }
 
-  pub passes-word : {m n : Match} {x : ℕ} (v : Word) → n ≡ matchedWord file m x → x ≡ encode v →
-      Passes file m (v ∷ []) n
-  unfolding matched numbers
-  passes-word {m} v e h = record { is = e ∙ ap (matchedWord file m) h }
-
-  module _ {ends : List ℕ} where
-    pub passes-part : {m n : Match} {k : Sort} {e : Expr k} {a : ℕ} →
-        n ≡ matched file m (between file a (endAt ends a)) → WrittenAt file ends e a → Passes file m (words e) n
-    passes-part {m} {e = e} {a} h x =
-        record { is = h ∙ ap (matched file m) (stands-between file a (words e) (endAt ends a) (x .stands .stand)) }
-
-    pub passes-command : {m n : Match} {c : Command} {a : ℕ} → n ≡ matched file m (between file a (endAt ends a)) →
-        CommandAt file ends c a → Passes file m (commandWords c) n
-    passes-command {m} {c = c} {a} h x = record {
-      is = h ∙ ap (matched file m) (stands-between file a (commandWords c) (endAt ends a) (x .stands .stand));
-    }
+  pub passes-command : {ends : List ℕ} {m n : Match} {c : Command} {a : ℕ} → n ≡ matched file m (part file ends a) →
+      CommandAt file ends c a → Passes file m (commandWords c) n
+  passes-command {ends} {m} {c = c} {a} h x = record {
+    is = h ∙ ap (matched file m) (stands-between file a (commandWords c) (endAt ends a) (x .stands .stand));
+  }
 
 -- payloads are in range, and kind 31 is that of a `for` alone
 abbrev pub InRange : Word → Type 0
@@ -176,70 +165,34 @@ numbers-tell (v ∷ k) (w ∷ l) f g e =
     (encode-tells v w (f .0) (g .0) (head-eq-of-cons-eq e))
     (numbers-tell k l (f .1) (g .1) (tail-eq-of-cons-eq e))
 
--- the words k stand from `at` up to `to`, and a cursor passes the words l from there on
-module _ (file : List ℕ) (k l : List Word) (at to : ℕ) (m : Match) (s : StandsTo file at k to) (i : Inside file at to)
-    (tell : numbers k ≡ numbers l → k ≡ l) (x : Passes file (cursor true at) l m) where
-  found : came m to ≡ true → k ≡ l
-  unfolding came
-  found h =
-      let start = i .start in
-      let within = i .within in
-      let same = and-left (m .same) (eqb (m .at) to) h in
-      let end = eqb-true (m .at) to (and-right (m .same) (eqb (m .at) to) h) in
-      let whole = whole-sound file (numbers l) at to (omega arith)
-      (ap (λ (c : Match). c .same) (sym (x .is)) ∙ same)
-      (ap (λ (c : Match). c .at) (sym (x .is)) ∙ end) in
-      tell (sym (stands-between file at k to s) ∙ whole)
-
-  reached : k ≡ l → m ≡ cursor true to
-  reached e =
-      let start = i .start in
-      let within = i .within in
-      x .is
-      ∙ ap (matched file (cursor true at)) (ap numbers (sym e) ∙ sym (stands-between file at k to s))
-      ∙ whole-complete file at to (omega arith) within
-
-  complete : k ≡ l → came m to ≡ true
-  unfolding came
-  complete e =
-      let r = reached e in
-      and-both (ap (λ (c : Match). c .same) r) (eq-eqb (m .at) to (ap (λ (c : Match). c .at) r))
-
-  pub same-words : came m to ≡ sameWords k l
-  same-words =
-      decides-same (came m to) (sameWords k l) (record { sound = found; complete = complete }) (sameWords-decides k l)
-
 module _ {file ends : List ℕ} where
-  pub same-expression : {k : Sort} {e : Expr k} {at : ℕ} {l : List Word} {m : Match} → WrittenAt file ends e at →
-      FitsWords l → Passes file (cursor true at) l m → came m (endAt ends at) ≡ sameWords (words e) l
-  same-expression {e = e} {at} {l} {m} x f p =
-      same-words file (words e) l at (endAt ends at) m (x .stands .stand) (written-inside x)
-      (numbers-words (words e) l (fits-words (x .levels) e (x .stands .fit)) f) p
-
   pub same-command : {c : Command} {at : ℕ} {l : List Word} {m : Match} → CommandAt file ends c at →
       AllInRange l → Passes file (cursor true at) l m → came m (endAt ends at) ≡ sameWords (commandWords c) l
   same-command {c} {at} {l} {m} x f p =
-      same-words file (commandWords c) l at (endAt ends at) m (x .stands .stand) (command-inside x)
-      (numbers-tell (commandWords c) l (command-range (x .levels) c (x .stands .fit)) f) p
+      let i = command-inside x in
+      let s = i .start in
+      came-same file m (numbers l) at (endAt ends at) (omega arith) (i .within) (p .is)
+      ∙ ap (λ k. sameNumbers k (numbers l)) (stands-between file at (commandWords c) (endAt ends at) (x .stands .stand))
+      ∙ numbers-same (commandWords c) l
+      (numbers-tell (commandWords c) l (command-range (x .levels) c (x .stands .fit)) f)
 
--- the test in code
-pub came-lost : (m : Match) (to : ℕ) → m .same ≡ false → false ≡ came m to
-unfolding came
-came-lost m to h = simp h
+  -- a written expression, as the functions that compare have it
+  pub written-has : {k : Sort} {e : Expr k} {at : ℕ} → WrittenAt file ends e at → PartHas file ends e at
+  written-has x = has (x .levels) (x .stands)
 
-pub came-end : (m : Match) {end to : ℕ} → m .same ≡ true → end ≡ to → eqb (m .at) end ≡ came m to
-unfolding came
-came-end m {end} {to} h e = simp (h, e)
+  module _ {f g : ℕ} where
+    pub can-assertion : CanSame file ends f g → CanAntecedent file ends f (Written g)
+    unfolding AntecedentAt
+    can-assertion p = record { whole = p .first; form-at = p .second }
 
-module _ {file ends : List ℕ} {f g : ℕ} where
-  pub same-at : (m : Match) {r : Bool} → m ≡ matched file (cursor true f) (between file g (endAt ends g)) →
-      r ≡ came m (endAt ends f) → SameAt file ends f g r
-  same-at m e h = record {
-    is = λ a b x y.
-        h ∙ same-expression x (fits-words (y .levels) b (y .stands .fit)) (passes-part e y);
-  }
+    pub assertion-at : {r : Bool} → r ≡ sameNumbers (part file ends f) (antecedentNumbers file ends (Written g)) →
+        SameAssertionAt file ends f g r
+    assertion-at h = record { is = λ φ ψ x y. h ∙ antecedent-same (written-has x) (is-written (written-has y)) }
 
--- the same words by their end in the list
-pub part-matched : (file ends : List ℕ) (m r : Match) (a : ℕ) {to : ℕ} → to ≡ endAt ends a →
-    r ≡ matched file m (between file a to) → r ≡ matched file m (between file a (endAt ends a))
-part-matched file ends m r a e h = rw (← e) h
+    pub can-consequent : CanSame file ends f g → CanConsequent file ends f (Plain g)
+    unfolding ConsequentAt
+    can-consequent p = record { whole = p .first; form-at = p .second }
+
+    pub consequent-at : {r : Bool} → r ≡ sameNumbers (part file ends f) (consequentNumbers file ends (Plain g)) →
+        SameAt file ends f g r
+    consequent-at h = record { is = λ d e x y. h ∙ consequent-same (written-has x) (is-plain (written-has y)) }

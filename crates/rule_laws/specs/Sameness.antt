@@ -1,32 +1,27 @@
--- Sameness by words of what stands at two places; nothing of what stands at a place is modified.
--- Working: `same-at` of proofs/Passing, `meaning-at` of proofs/Meaning and `kept-at` of proofs/Keeping tie it to the
+-- Sameness of what stands at two places; nothing of what stands at a place is modified.
+-- Working: `assertion-at` and `consequent-at` of proofs/Passing, `meaning-at` of proofs/Meaning and `kept-at` of proofs/Keeping tie it to the
 -- tests of the trees that stand there. Assumes nothing.
---     came                    a cursor at which nothing was missing has come to a place
---     CanSame, SameAt         two written expressions: what a test of them asks for and promises
+--     CanSame                 two written expressions: what the tests of them ask for
+--     SameAssertionAt, SameAt two assertions; two consequents: what the tests promise
 --     startNumbers, nextNumbers
 --                             the words before and after the body in the meaning of a `for`
 --     CanMean, MeaningAt      a written command and the meaning of a written `for` (document 01, rules 14 and 30)
 --     CanKeep, KeptAt         a command modifies no identifier of a written expression or set
 use mathlib.Core.Path.{_≡_}
-use mathlib.Core.Bool.{Bool, _&&_}
+use mathlib.Core.Bool.{Bool}
 use mathlib.Core.List.{List, [], _∷_}
 use Prim.Native.Nat.{ℕ, _+_, _<_}
-use lib.Dec.{eqb}
 use lib.ListN.{length}
-use Rattle.language.specs.Syntax.{Sort, Expr, Command, for}
+use Rattle.language.specs.Syntax.{Sort, Boolean, Expr, Command, for}
 use Rattle.language.specs.Runs.{meaning}
 use Rattle.language.specs.Modifies.{identifiers}
 use Rattle.rules.specs.Assertion.{Members}
 use Rattle.rules.specs.Context.{Limits}
 use Rattle.rules.specs.Sets.{setIdentifiers}
-use Rattle.rules.specs.Tests.{unmodified}
-use Rattle.rules.specs.Words.{words, commandWords, sameWords}
+use Rattle.rules.specs.Tests.{sameAntecedent, sameConsequent, unmodified}
+use Rattle.rules.specs.Words.{commandWords, sameWords}
 use Rattle.ends.specs.Ends.{EndsOf}
-use Rattle.compare.specs.declared.cursor.Match.{Match}
 use Rattle.rule_laws.specs.Places.{WrittenAt, CommandAt, SetAt, PartKnown}
-
-unfoldable pub came : Match → ℕ → Bool
-came m to = m .same && eqb (m .at) to
 
 -- 25:0 27:q 1:1 30:0 8:2 2:q 2:m 25:0
 unfoldable pub startNumbers : ℕ → ℕ → List ℕ
@@ -43,9 +38,12 @@ module _ (file ends : List ℕ) where
     pub first : PartKnown file ends f
     pub second : PartKnown file ends g
 
+  pub record SameAssertionAt (f g : ℕ) (r : Bool) : Type 0 where
+    pub is : (φ ψ : Expr Boolean) → WrittenAt file ends φ f → WrittenAt file ends ψ g → r ≡ sameAntecedent φ ψ
+
   pub record SameAt (f g : ℕ) (r : Bool) : Type 0 where
     pub is : {j k : Sort} (d : Expr j) (e : Expr k) → WrittenAt file ends d f → WrittenAt file ends e g →
-        r ≡ sameWords (words d) (words e)
+        r ≡ sameConsequent d e
 
   -- a `for` at c has its body after its word
   pub record CanMean (d c : ℕ) : Type 0 where

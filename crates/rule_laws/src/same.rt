@@ -1,7 +1,11 @@
-use super::part::came_to_end;
-use super::part::match_part;
+use compare::antecedent::Antecedent;
+use compare::antecedent::same_antecedent;
+use compare::consequent::Consequent;
+use compare::consequent::same_consequent;
 use compare::cursor::Match;
 use compare::cursor::match_word;
+use compare::part::came_to_end;
+use compare::part::match_part;
 use words::kinds::AT_MOST_WORD;
 use words::kinds::KIND;
 use words::kinds::PLUS_WORD;
@@ -12,15 +16,22 @@ use words::kinds::WHILE_WORD;
 ghost use mathlib.Core.Path.{_≡_};
 ghost use Prim.Native.Nat.{_≤_};
 ghost use Rattle.compare.specs.Matching.{matched};
-ghost use Rattle.rule_laws.specs.Sameness.{CanSame, SameAt, startNumbers, nextNumbers, CanMean, MeaningAt};
+ghost use Rattle.rule_laws.specs.Sameness.{CanSame, SameAssertionAt, SameAt, startNumbers, nextNumbers, CanMean, MeaningAt};
 
-// Whether the expressions at f and g are the same.
-pub fn is_same(w: &[u32], ends: &[u32], f: usize, g: usize) -> bool
+// Rules 22 and 27: whether the assertions at f and g are the same.
+pub fn is_same_assertion(w: &[u32], ends: &[u32], f: usize, g: usize) -> bool
+    requires { ⌜ CanSame (now w) (now ends) f g ⌝ }
+    ensures { λ r. ⌜ SameAssertionAt (now (w .entry)) (now (ends .entry)) f g r ⌝ }
+{
+    same_antecedent(w, ends, f, Antecedent::Written(g))
+}
+
+// Rules 11 and 18: whether the consequents at f and g are the same.
+pub fn is_same_consequent(w: &[u32], ends: &[u32], f: usize, g: usize) -> bool
     requires { ⌜ CanSame (now w) (now ends) f g ⌝ }
     ensures { λ r. ⌜ SameAt (now (w .entry)) (now (ends .entry)) f g r ⌝ }
 {
-    let m = match_part(w, ends, Match { same: true, at: f }, g);
-    came_to_end(ends, m, f)
+    same_consequent(w, ends, f, Consequent::Written(g))
 }
 
 // The words before the body: 25:0 27:q 1:1 30:0 8:2 2:q 2:m 25:0, that is q := 1; while q ≤ m do (..

@@ -7,7 +7,7 @@ use ends::end_at;
 use goals::Step;
 use implication::Side;
 use implication::implies;
-use rule_laws::same::is_same;
+use rule_laws::same::is_same_consequent;
 use rule_laws::step::leaf;
 use scan::place::closed_at;
 use sets::pile::count;
@@ -66,7 +66,7 @@ pub fn rule_18(w: &[u32], ends: &[u32], limit: usize, at: usize, p: usize, q: us
     let e = end_at(ends, a);
     let b = q + 1;
     let f = end_at(ends, b);
-    if !is_same(w, ends, e, f) {
+    if !is_same_consequent(w, ends, e, f) {
         return Step::Stop(8);
     }
     conclude(at, implies(w, Side::One(b, f), Side::One(a, e), limit))

@@ -14,8 +14,7 @@ use native.Mathlib.Omega.{arith}
 use lib.Dec.{eqb}
 use borrow.Author.Tests.{eqb-true}
 use Rattle.laws.proofs.Bools.{clash, and-both}
-use Rattle.compare.specs.Matching.{between}
-use Rattle.sets.specs.Items.{pastMember, seenAs, itemNumbers, sameNumbers}
+use Rattle.sets.specs.Items.{pastMember, Halves, pairItem, itemHalves, seenAs, writtenHalves, sameHalves}
 use Rattle.sets.specs.Lists.{seenAll, written, standsIn, withinAll, sameAll}
 use Rattle.sets.specs.Standing.{MemberAt, MembersAt}
 use Rattle.sets.specs.Piles.{countAt, writtenSet, pileNumbers, pilesNumbers}
@@ -23,37 +22,35 @@ use Rattle.sets.specs.Aligned.{Parted, Aligns, Aligned}
 use Rattle.sets.specs.declared.item.View.{View}
 use Rattle.sets.specs.declared.item.View.the-variants.{Plain}
 use Rattle.sets.specs.declared.item.Item.{Item}
-use Rattle.sets.specs.declared.item.Item.the-variants.{Seen, Pair}
 use Rattle.sets.specs.declared.pile.Pile.{Pile}
 use Rattle.sets.specs.declared.pile.Pile.the-variants.{Empty, One, Set}
 use Rattle.sets.specs.declared.pile.Piles.{Piles}
 use Rattle.sets.specs.declared.align.Rest.{Rest}
-use Rattle.sets.proofs.Equal.{sameNumbers-decides}
+use Rattle.sets.proofs.Equal.{sameHalves-decides}
 use Rattle.sets.proofs.Loops.{members-first, members-rest, seenAll-none, seenAll-first}
 
 positive : {n : ℕ} → (n ≡ 0 → ⊥) → 0 < n
 positive f = omega arith
 
 module _ {file ends : List ℕ} where
-  pub aligns-not : {n at : ℕ} {l : List (List ℕ)} {r : Rest} → r .same ≡ false → Aligns file ends n at l r
+  pub aligns-not : {n at : ℕ} {l : List Halves} {r : Rest} → r .same ≡ false → Aligns file ends n at l r
   aligns-not h = record { does = λ k. clash k h }
 
 -- the n members at i and the j members at a are left, and what is said of them is said of all
 pub record Aligning (file ends : List ℕ) (view : View) (n₀ i₀ k from n i j a : ℕ) : Type 0 where
   pub members : MembersAt file ends n i
   pub part : MembersAt file ends j a
-  pub keeps : (z : List (List ℕ)) → written file ends n i ≡ seenAll file ends view j a ++ z →
+  pub keeps : (z : List Halves) → written file ends n i ≡ seenAll file ends view j a ++ z →
       written file ends n₀ i₀ ≡ seenAll file ends view k from ++ z
 
 -- the first member is the item
-first-same : (file ends : List ℕ) (n i next : ℕ) (y : List ℕ) {b : Bool} → 0 < n → next ≡ pastMember ends i →
-    b ≡ sameNumbers (between file i (pastMember ends i)) y → b ≡ true →
+first-same : (file ends : List ℕ) (n i next : ℕ) (y : Halves) {b : Bool} → 0 < n → next ≡ pastMember ends i →
+    b ≡ sameHalves (writtenHalves file ends i) y → b ≡ true →
     written file ends n i ≡ y ∷ written file ends (n - 1) next
-unfolding seenAs
 first-same file ends n i next y h e s t =
     seenAll-first file ends Plain n i next h e
     ∙ ap (λ x. x ∷ written file ends (n - 1) next)
-    (sameNumbers-decides (between file i (pastMember ends i)) y .sound (sym s ∙ t))
+    (sameHalves-decides (writtenHalves file ends i) y .sound (sym s ∙ t))
 
 module _ {file ends : List ℕ} where
   pub first-member : {n i : ℕ} → MembersAt file ends n i → (n ≡ 0 → ⊥) → MemberAt file ends i
@@ -69,10 +66,9 @@ module _ {file ends : List ℕ} where
       part-first h = members-first file ends j a (l .part) h
 
       pub aligning-on : {b : Bool} {i′ a′ : ℕ} → 0 < j → (n ≡ 0 → ⊥) →
-          b ≡ sameNumbers (between file i (pastMember ends i)) (itemNumbers file ends (Seen a view)) → b ≡ true →
+          b ≡ sameHalves (writtenHalves file ends i) (seenAs file ends view a) → b ≡ true →
           i′ ≡ pastMember ends i → a′ ≡ pastMember ends a →
           Aligning file ends view n₀ i₀ k from (n - 1) i′ (j - 1) a′
-      unfolding itemNumbers
       aligning-on {i′ = i′} {a′} h f s t e g = record {
         members = members-rest file ends n i i′ (l .members) (positive f) e;
         part = members-rest file ends j a a′ (l .part) h g;
@@ -95,16 +91,16 @@ module _ {file ends : List ℕ} where
       }
 
   pub one-aligned : {n i next : ℕ} (item : Item) {b : Bool} {r : Rest} → MembersAt file ends n i → (n ≡ 0 → ⊥) →
-      b ≡ sameNumbers (between file i (pastMember ends i)) (itemNumbers file ends item) → b ≡ true →
-      next ≡ pastMember ends i → r .n ≡ n - 1 → r .at ≡ next → Aligns file ends n i (itemNumbers file ends item ∷ []) r
+      b ≡ sameHalves (writtenHalves file ends i) (itemHalves file ends item) → b ≡ true →
+      next ≡ pastMember ends i → r .n ≡ n - 1 → r .at ≡ next → Aligns file ends n i (itemHalves file ends item ∷ []) r
   one-aligned {n} {i} {next} item {r = r} m f s t e g h = record {
     does = λ q.
         let e′ : r .at ≡ pastMember ends i = h ∙ e in
         record {
           members = subst (λ k. MembersAt file ends k (r .at)) (sym g) (members-rest file ends n i (r .at) m (positive f) e′);
           split =
-              first-same file ends n i (r .at) (itemNumbers file ends item) (positive f) e′ s t
-              ∙ ap (λ k. itemNumbers file ends item ∷ written file ends k (r .at)) (sym g);
+              first-same file ends n i (r .at) (itemHalves file ends item) (positive f) e′ s t
+              ∙ ap (λ k. itemHalves file ends item ∷ written file ends k (r .at)) (sym g);
         };
   }
 
@@ -123,7 +119,7 @@ module _ {file ends : List ℕ} where
               };
         })
 
-    pub of-pile-one : (f b : ℕ) → pile ≡ One f b → Aligns file ends n i (itemNumbers file ends (Pair f b) ∷ []) r →
+    pub of-pile-one : (f b : ℕ) → pile ≡ One f b → Aligns file ends n i (itemHalves file ends (pairItem f b) ∷ []) r →
         Aligns file ends n i (pileNumbers file ends pile) r
     unfolding pileNumbers
     of-pile-one f b e x = rw e x
@@ -159,28 +155,28 @@ module _ {file ends : List ℕ} where
     }
 
 -- a list and itself
-stands-self : (x : List ℕ) (k l : List (List ℕ)) → standsIn x (k ++ (x ∷ l)) ≡ true
+stands-self : (x : Halves) (k l : List Halves) → standsIn x (k ++ (x ∷ l)) ≡ true
 unfolding standsIn
-stands-self x [] l = rw (sameNumbers-decides x x .complete refl)
-stands-self x (y ∷ k) l = rw (stands-self x k l) (or-true (sameNumbers x y))
+stands-self x [] l = rw (sameHalves-decides x x .complete refl)
+stands-self x (y ∷ k) l = rw (stands-self x k l) (or-true (sameHalves x y))
   where
     or-true : (b : Bool) → (b || true) ≡ true
     or-true true = refl
     or-true false = refl
 
-within-tail : (l k : List (List ℕ)) → withinAll l (k ++ l) ≡ true
+within-tail : (l k : List Halves) → withinAll l (k ++ l) ≡ true
 unfolding withinAll
 within-tail [] k = refl
 within-tail (x ∷ l) k =
     and-both (stands-self x k l)
     (ap (withinAll l) (sym (append-assoc k (x ∷ []) l)) ∙ within-tail l (k ++ (x ∷ [])))
 
-pub sameAll-self : (k l : List (List ℕ)) → k ≡ l → true ≡ sameAll k l
+pub sameAll-self : (k l : List Halves) → k ≡ l → true ≡ sameAll k l
 sameAll-self k l e = rw e (sym (and-both (within-tail l []) (within-tail l [])))
 
 -- a written set by the code's count of its members
 module _ (file ends : List ℕ) (p : ℕ) (piles : Piles) {k at : ℕ} (e : k ≡ countAt file p) (f : at ≡ p + 1) where
-  abbrev all : List (List ℕ)
+  abbrev all : List Halves
   all = pilesNumbers file ends piles
 
   set-is : written file ends k at ≡ writtenSet file ends p

@@ -1,57 +1,26 @@
--- Equality of lists of numbers as a test, and a written member compared by a cursor.
+-- Equality of two halves as a test.
 -- Assumes nothing.
---     sameNumbers-decides             equality of numbers
---     item-lost, item-end             a cursor that passes the item from the member's first place to its end finds it there
-use mathlib.Core.Path.{_≡_, refl, sym, ap, ap₂, _∙_}
-use mathlib.Core.Bool.{Bool, true, false}
-use mathlib.Core.List.{List, [], _∷_, head-eq-of-cons-eq, tail-eq-of-cons-eq, cons≢nil, nil≢cons}
+--     halves                                  two halves together
+--     sameHalves-decides, sameHalves-sym      it decides equality; from either side
+use mathlib.Core.Path.{_≡_, sym, ap, ap₂}
+use mathlib.Core.List.{List}
 use Prim.Native.Nat.{ℕ}
-use native.Mathlib.Omega.{arith}
-use lib.Dec.{eqb}
-use Rattle.laws.proofs.Bools.{clash}
-use Rattle.laws.proofs.Decides.{Decides, decides-same, decides-map, decides-and, decides-yes, decides-no, eqb-decides}
-use Rattle.compare.specs.Matching.{between, matched}
-use Rattle.compare.specs.declared.cursor.Match.{Match}
-use Rattle.compare.proofs.Operands.{Inside}
-use Rattle.compare.proofs.Whole.{cursor, whole-sound, whole-complete}
-use Rattle.sets.specs.Items.{sameNumbers}
+use Rattle.laws.proofs.Decides.{Decides, decides-same, decides-map, decides-and}
+use Rattle.compare.proofs.SameNumbers.{sameNumbers-decides}
+use Rattle.sets.specs.Items.{Halves, sameHalves}
 
--- a test of what does not hold
-pub decides-false : (b : Bool) {P : Type 0} → Decides b P → (P → ⊥) → false ≡ b
-decides-false b d f = decides-same false b (decides-no f) d
+abbrev pub halves : List ℕ → List ℕ → Halves
+halves a c = record { left = a; right = c }
 
-pub sameNumbers-decides : (k l : List ℕ) → Decides (sameNumbers k l) (k ≡ l)
-unfolding sameNumbers
-sameNumbers-decides [] [] = decides-yes refl
-sameNumbers-decides [] (y ∷ l) = decides-no nil≢cons
-sameNumbers-decides (x ∷ k) [] = decides-no cons≢nil
-sameNumbers-decides (x ∷ k) (y ∷ l) =
+pub sameHalves-decides : (x y : Halves) → Decides (sameHalves x y) (x ≡ y)
+unfolding sameHalves
+sameHalves-decides x y =
     decides-map
-    (λ h. ap₂ _∷_ (h .0) (h .1))
-    (λ h. (head-eq-of-cons-eq h, tail-eq-of-cons-eq h))
-    (decides-and (eqb-decides x y) (sameNumbers-decides k l))
+    (λ h. ap₂ halves (h .0) (h .1))
+    (λ h. (ap (λ (z : Halves). z .left) h, ap (λ (z : Halves). z .right) h))
+    (decides-and (sameNumbers-decides (x .left) (y .left)) (sameNumbers-decides (x .right) (y .right)))
 
-module _ (file : List ℕ) (m : Match) (l : List ℕ) (at to : ℕ) (i : Inside file at to) (e : m ≡ matched file (cursor true at) l) where
-  reached : between file at to ≡ l → m ≡ cursor true to
-  reached h =
-      let s = i .start in
-      e ∙ ap (matched file (cursor true at)) (sym h) ∙ whole-complete file at to (omega arith) (i .within)
-
-  pub item-lost : m .same ≡ false → false ≡ sameNumbers (between file at to) l
-  item-lost h =
-      decides-false (sameNumbers (between file at to) l) (sameNumbers-decides (between file at to) l)
-      λ q. clash (ap (λ (c : Match). c .same) (reached q)) h
-
-  pub item-end : {end : ℕ} → end ≡ to → m .same ≡ true → eqb (m .at) end ≡ sameNumbers (between file at to) l
-  item-end {end} k h =
-      let s = i .start in
-      let w = i .within in
-      decides-same (eqb (m .at) end) (sameNumbers (between file at to) l)
-      (decides-map
-      (λ q.
-      whole-sound file l at to (omega arith)
-      (ap (λ (c : Match). c .same) (sym e) ∙ h)
-      (ap (λ (c : Match). c .at) (sym e) ∙ q ∙ k))
-      (λ q. ap (λ (c : Match). c .at) (reached q) ∙ sym k)
-      (eqb-decides (m .at) end))
-      (sameNumbers-decides (between file at to) l)
+pub sameHalves-sym : (x y : Halves) → sameHalves x y ≡ sameHalves y x
+sameHalves-sym x y =
+    decides-same (sameHalves x y) (sameHalves y x) (sameHalves-decides x y)
+    (decides-map (λ h. sym h) (λ h. sym h) (sameHalves-decides y x))

@@ -6,27 +6,19 @@
 --     stands-found, stands-skip                        an element is looked for
 --     within-stop, within-skip                         each is looked for in a list
 --     rest-stop, rest-skip                             each that is not in another
+--     same-as, has-as, item-sym, either-first, either-second
+--                                                      what the functions that compare items say
 use mathlib.Core.Path.{_≡_, refl, sym, ap, subst, _∙_}
 use mathlib.Core.Bool.{Bool, true, false, _&&_, _||_, cond}
 use mathlib.Core.List.{List, [], _∷_}
 use Prim.Native.Nat.{ℕ, zero, suc, _-_, _<_, _≤_}
 use native.Mathlib.Omega.{arith}
-use Rattle.laws.proofs.Decides.{decides-map}
-use Rattle.compare.specs.Matching.{between}
-use Rattle.compare.specs.Places.{AnyAt}
-use Rattle.sets.specs.Items.{pastMember, seenAs, itemNumbers, sameNumbers}
+use Rattle.sets.specs.Items.{pastMember, Halves, itemHalves, seenAs, writtenHalves, sameHalves}
 use Rattle.sets.specs.Lists.{seenAll, standsIn, withinAll, withoutAll}
-use Rattle.sets.specs.Standing.{MemberAt, MembersAt, ViewAt, ItemAt}
+use Rattle.sets.specs.Standing.{MemberAt, MembersAt}
 use Rattle.sets.specs.declared.item.View.{View}
-use Rattle.sets.specs.declared.item.View.the-variants.{Plain}
-use Rattle.sets.specs.declared.item.Item.the-variants.{Seen, Pair}
-use Rattle.laws.proofs.Decides.{decides-same}
-use Rattle.sets.proofs.Equal.{sameNumbers-decides}
-
-pub sameNumbers-sym : (x y : List ℕ) → sameNumbers x y ≡ sameNumbers y x
-sameNumbers-sym x y =
-    decides-same (sameNumbers x y) (sameNumbers y x) (sameNumbers-decides x y)
-    (decides-map (λ h. sym h) (λ h. sym h) (sameNumbers-decides y x))
+use Rattle.sets.specs.declared.item.Item.{Item}
+use Rattle.sets.proofs.Equal.{sameHalves-sym}
 
 module _ (file ends : List ℕ) where
   pub members-first : (n i : ℕ) → MembersAt file ends n i → 0 < n → MemberAt file ends i
@@ -56,11 +48,11 @@ module _ (file ends : List ℕ) where
         rw (k, e)
 
   -- of the k members at `at` the n members at i are left, and the test of all is the test of those
-  pub record Left (view : View) (test : List (List ℕ) → Bool) (k at n i : ℕ) : Type 0 where
+  pub record Left (view : View) (test : List Halves → Bool) (k at n i : ℕ) : Type 0 where
     pub members : MembersAt file ends n i
     pub same : test (seenAll file ends view n i) ≡ test (seenAll file ends view k at)
 
-module _ {file ends : List ℕ} {view : View} {test : List (List ℕ) → Bool} {k at : ℕ} where
+module _ {file ends : List ℕ} {view : View} {test : List Halves → Bool} {k at : ℕ} where
   pub left-start : MembersAt file ends k at → Left file ends view test k at k at
   left-start m = record { members = m; same = refl }
 
@@ -68,7 +60,7 @@ module _ {file ends : List ℕ} {view : View} {test : List (List ℕ) → Bool} 
     pub left-first : 0 < n → MemberAt file ends i
     left-first h = members-first file ends n i (l .members) h
 
-    pub left-stop : {b : Bool} → 0 < n → ((z : List (List ℕ)) → b ≡ test (seenAs file ends view i ∷ z)) →
+    pub left-stop : {b : Bool} → 0 < n → ((z : List Halves) → b ≡ test (seenAs file ends view i ∷ z)) →
         b ≡ test (seenAll file ends view k at)
     left-stop h f =
         f (seenAll file ends view (n - 1) (pastMember ends i))
@@ -76,7 +68,7 @@ module _ {file ends : List ℕ} {view : View} {test : List (List ℕ) → Bool} 
         ∙ l .same
 
     pub left-on : {j : ℕ} → 0 < n → j ≡ pastMember ends i →
-        ((z : List (List ℕ)) → test (seenAs file ends view i ∷ z) ≡ test z) →
+        ((z : List Halves) → test (seenAs file ends view i ∷ z) ≡ test z) →
         Left file ends view test k at (n - 1) j
     left-on {j} h e f = record {
       members = members-rest file ends n i j (l .members) h e;
@@ -90,28 +82,28 @@ module _ {file ends : List ℕ} {view : View} {test : List (List ℕ) → Bool} 
     left-end h e = e ∙ ap test (sym (seenAll-none file ends view n i h)) ∙ l .same
 
 -- an element is looked for
-module _ (x y : List ℕ) (b : Bool) (e : b ≡ sameNumbers x y) where
-  pub stands-found : b ≡ true → (z : List (List ℕ)) → true ≡ standsIn x (y ∷ z)
+module _ (x y : Halves) (b : Bool) (e : b ≡ sameHalves x y) where
+  pub stands-found : b ≡ true → (z : List Halves) → true ≡ standsIn x (y ∷ z)
   unfolding standsIn
   stands-found h z = rw (← e, h)
 
-  pub stands-skip : b ≡ false → (z : List (List ℕ)) → standsIn x (y ∷ z) ≡ standsIn x z
+  pub stands-skip : b ≡ false → (z : List Halves) → standsIn x (y ∷ z) ≡ standsIn x z
   unfolding standsIn
   stands-skip h z = rw (← e, h)
 
 -- each is looked for in p
-module _ (p : List (List ℕ)) (x : List ℕ) (b : Bool) (e : b ≡ standsIn x p) where
-  pub within-stop : b ≡ false → (z : List (List ℕ)) → false ≡ withinAll (x ∷ z) p
+module _ (p : List Halves) (x : Halves) (b : Bool) (e : b ≡ standsIn x p) where
+  pub within-stop : b ≡ false → (z : List Halves) → false ≡ withinAll (x ∷ z) p
   unfolding withinAll
   within-stop h z = rw (← e, h)
 
-  pub within-skip : b ≡ true → (z : List (List ℕ)) → withinAll (x ∷ z) p ≡ withinAll z p
+  pub within-skip : b ≡ true → (z : List Halves) → withinAll (x ∷ z) p ≡ withinAll z p
   unfolding withinAll
   within-skip h z = rw (← e, h)
 
 -- each that is not in q
-module _ (p q : List (List ℕ)) (x : List ℕ) (b : Bool) (e : b ≡ (standsIn x p || standsIn x q)) where
-  rest : (z : List (List ℕ)) →
+module _ (p q : List Halves) (x : Halves) (b : Bool) (e : b ≡ (standsIn x p || standsIn x q)) where
+  rest : (z : List Halves) →
       withinAll (withoutAll (x ∷ z) q) p ≡ ((standsIn x p || standsIn x q) && withinAll (withoutAll z q) p)
   unfolding withinAll withoutAll
   rest z = go (standsIn x q) (standsIn x p) refl
@@ -123,73 +115,41 @@ module _ (p q : List (List ℕ)) (x : List ℕ) (b : Bool) (e : b ≡ (standsIn 
       go false true h = rw h
       go false false h = rw h
 
-  pub rest-stop : b ≡ false → (z : List (List ℕ)) → false ≡ withinAll (withoutAll (x ∷ z) q) p
+  pub rest-stop : b ≡ false → (z : List Halves) → false ≡ withinAll (withoutAll (x ∷ z) q) p
   rest-stop h z = rw (rest z, ← e, h)
 
-  pub rest-skip : b ≡ true → (z : List (List ℕ)) → withinAll (withoutAll (x ∷ z) q) p ≡ withinAll (withoutAll z q) p
+  pub rest-skip : b ≡ true → (z : List Halves) → withinAll (withoutAll (x ∷ z) q) p ≡ withinAll (withoutAll z q) p
   rest-skip h z = rw (rest z, ← e, h)
 
--- what the functions that compare items ask for and say, in the terms of the loops
-module _ {file ends : List ℕ} where
-  pub seen-at : {a : ℕ} (view : View) → MemberAt file ends a → ViewAt file ends view → ItemAt file ends (Seen a view)
-  unfolding ItemAt
-  seen-at view m v = (m, v)
+-- what the functions that compare items say, in the terms of the loops
+module _ (file ends : List ℕ) {item other : Item} (s : item ≡ other) {b : Bool} where
+  pub same-as : (x : Halves) → b ≡ sameHalves x (itemHalves file ends item) → b ≡ sameHalves x (itemHalves file ends other)
+  same-as x e = rw (← s) e
 
-  pub pair-at : {f b : ℕ} → AnyAt file ends f → AnyAt file ends b → ItemAt file ends (Pair f b)
-  unfolding ItemAt
-  pair-at x y = (x, y)
-
-  pub plain-at : {a : ℕ} → MemberAt file ends a → ItemAt file ends (Seen a Plain)
-  unfolding ItemAt ViewAt
-  plain-at m = (m, tt)
+  pub has-as : (p : List Halves) → b ≡ standsIn (itemHalves file ends item) p → b ≡ standsIn (itemHalves file ends other) p
+  has-as p e = rw (← s) e
 
 module _ (file ends : List ℕ) (i : ℕ) where
-  pub item-sym : (y : List ℕ) {b : Bool} → b ≡ sameNumbers (between file i (pastMember ends i)) y →
-      b ≡ sameNumbers y (seenAs file ends Plain i)
-  unfolding seenAs
-  item-sym y e = e ∙ sameNumbers-sym (between file i (pastMember ends i)) y
+  pub item-sym : (y : Halves) {b : Bool} → b ≡ sameHalves (writtenHalves file ends i) y →
+      b ≡ sameHalves y (writtenHalves file ends i)
+  item-sym y e = e ∙ sameHalves-sym (writtenHalves file ends i) y
 
-  pub same-seen : (view : View) (x : List ℕ) {b : Bool} → b ≡ sameNumbers x (itemNumbers file ends (Seen i view)) →
-      b ≡ sameNumbers x (seenAs file ends view i)
-  unfolding itemNumbers
-  same-seen view x e = e
-
-  pub has-seen : (view : View) (p : List (List ℕ)) {b : Bool} → b ≡ standsIn (itemNumbers file ends (Seen i view)) p →
-      b ≡ standsIn (seenAs file ends view i) p
-  unfolding itemNumbers
-  has-seen view p e = e
-
-  pub stands-plain : (p : List (List ℕ)) {b : Bool} → b ≡ standsIn (between file i (pastMember ends i)) p →
-      b ≡ standsIn (seenAs file ends Plain i) p
-  unfolding seenAs
-  stands-plain p e = e
-
-  abbrev here : List ℕ
-  here = between file i (pastMember ends i)
-
-  pub has-plain : (p q : List (List ℕ)) {b : Bool} → b ≡ (standsIn here p || standsIn here q) →
-      b ≡ (standsIn (seenAs file ends Plain i) p || standsIn (seenAs file ends Plain i) q)
-  unfolding seenAs
-  has-plain p q e = e
-
-  module _ (p q : List (List ℕ)) {b : Bool} (e : b ≡ standsIn (itemNumbers file ends (Seen i Plain)) p) where
-    pub either-first : b ≡ true → true ≡ (standsIn here p || standsIn here q)
-    unfolding itemNumbers seenAs
+  module _ (p q : List Halves) {b : Bool} (e : b ≡ standsIn (writtenHalves file ends i) p) where
+    pub either-first : b ≡ true → true ≡ (standsIn (writtenHalves file ends i) p || standsIn (writtenHalves file ends i) q)
     either-first h = rw (← e, h)
 
-    pub either-second : {c : Bool} → b ≡ false → c ≡ standsIn (itemNumbers file ends (Seen i Plain)) q →
-        c ≡ (standsIn here p || standsIn here q)
-    unfolding itemNumbers seenAs
+    pub either-second : {c : Bool} → b ≡ false → c ≡ standsIn (writtenHalves file ends i) q →
+        c ≡ (standsIn (writtenHalves file ends i) p || standsIn (writtenHalves file ends i) q)
     either-second h g = rw (← e, h) g
 
-pub end-stands : (x : List ℕ) → false ≡ standsIn x []
+pub end-stands : (x : Halves) → false ≡ standsIn x []
 unfolding standsIn
 end-stands x = refl
 
-pub end-within : (p : List (List ℕ)) → true ≡ withinAll [] p
+pub end-within : (p : List Halves) → true ≡ withinAll [] p
 unfolding withinAll
 end-within p = refl
 
-pub end-rest : (p q : List (List ℕ)) → true ≡ withinAll (withoutAll [] q) p
+pub end-rest : (p q : List Halves) → true ≡ withinAll (withoutAll [] q) p
 unfolding withinAll withoutAll
 end-rest p q = refl

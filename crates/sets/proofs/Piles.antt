@@ -10,19 +10,16 @@ use mathlib.Core.Path.{_≡_, refl, sym, ap, subst, _∙_}
 use mathlib.Core.Bool.{Bool, true, false, not, _&&_, _||_, cond}
 use mathlib.Core.List.{List, [], _∷_, _++_}
 use Prim.Native.Nat.{ℕ, _+_}
-use Rattle.compare.specs.Matching.{between}
 use Rattle.compare.specs.Places.{AnyAt}
-use Rattle.sets.specs.Items.{pastMember, seenAs, itemNumbers, sameNumbers}
+use Rattle.sets.specs.Items.{Halves, pairItem, itemHalves, writtenHalves, sameHalves}
 use Rattle.sets.specs.Lists.{seenAll, written, standsIn, withinAll, withoutAll}
 use Rattle.sets.specs.Standing.{MembersAt, ViewAt}
 use Rattle.sets.specs.Piles.{countAt, pileNumbers, pilesNumbers, SetAt, PileAt}
 use Rattle.sets.specs.declared.item.View.{View}
-use Rattle.sets.specs.declared.item.View.the-variants.{Plain}
-use Rattle.sets.specs.declared.item.Item.the-variants.{Seen, Pair}
 use Rattle.sets.specs.declared.pile.Pile.{Pile}
 use Rattle.sets.specs.declared.pile.Pile.the-variants.{Empty, One, Set, Without}
 use Rattle.sets.specs.declared.pile.Piles.{Piles}
-use Rattle.sets.proofs.Equal.{sameNumbers-decides}
+use Rattle.sets.proofs.Equal.{sameHalves-decides}
 
 or-assoc : (a b c : Bool) → ((a || b) || c) ≡ (a || (b || c))
 or-assoc true b c = refl
@@ -40,13 +37,13 @@ and-none : (a : Bool) → a ≡ (a && true)
 and-none true = refl
 and-none false = refl
 
-pub stands-append : (x : List ℕ) (k l : List (List ℕ)) → standsIn x (k ++ l) ≡ (standsIn x k || standsIn x l)
+pub stands-append : (x : Halves) (k l : List Halves) → standsIn x (k ++ l) ≡ (standsIn x k || standsIn x l)
 unfolding standsIn
 stands-append x [] l = refl
 stands-append x (y ∷ k) l =
-    ap (λ b. sameNumbers x y || b) (stands-append x k l) ∙ sym (or-assoc (sameNumbers x y) (standsIn x k) (standsIn x l))
+    ap (λ b. sameHalves x y || b) (stands-append x k l) ∙ sym (or-assoc (sameHalves x y) (standsIn x k) (standsIn x l))
 
-pub within-append : (k l p : List (List ℕ)) → withinAll (k ++ l) p ≡ (withinAll k p && withinAll l p)
+pub within-append : (k l p : List Halves) → withinAll (k ++ l) p ≡ (withinAll k p && withinAll l p)
 unfolding withinAll
 within-append [] l p = refl
 within-append (x ∷ k) l p =
@@ -63,38 +60,35 @@ without-step true false e f h = refl
 without-step false true e f h = rw (h refl)
 without-step false false e f h = refl
 
-pub stands-without : (y : List ℕ) (k l : List (List ℕ)) →
+pub stands-without : (y : Halves) (k l : List Halves) →
     standsIn y (withoutAll k l) ≡ (standsIn y k && not (standsIn y l))
 unfolding standsIn withoutAll
 stands-without y [] l = refl
 stands-without y (x ∷ k) l =
     choose (standsIn x l)
-    ∙ ap (λ b. cond (standsIn x l) b (sameNumbers y x || b)) (stands-without y k l)
-    ∙ without-step (standsIn x l) (sameNumbers y x) (standsIn y l) (standsIn y k)
-    (λ h. ap (λ z. standsIn z l) (sameNumbers-decides y x .sound h))
+    ∙ ap (λ b. cond (standsIn x l) b (sameHalves y x || b)) (stands-without y k l)
+    ∙ without-step (standsIn x l) (sameHalves y x) (standsIn y l) (standsIn y k)
+    (λ h. ap (λ z. standsIn z l) (sameHalves-decides y x .sound h))
   where
     choose : (c : Bool) → standsIn y (cond c (withoutAll k l) (x ∷ withoutAll k l)) ≡
-        cond c (standsIn y (withoutAll k l)) (sameNumbers y x || standsIn y (withoutAll k l))
+        cond c (standsIn y (withoutAll k l)) (sameHalves y x || standsIn y (withoutAll k l))
     choose true = refl
     choose false = refl
 
 -- a written member of a list without another
-module _ (file ends : List ℕ) (x : ℕ) (k l : List (List ℕ)) where
-  abbrev here : List ℕ
-  here = between file x (pastMember ends x)
+module _ (file ends : List ℕ) (x : ℕ) (k l : List Halves) where
+  abbrev here : Halves
+  here = writtenHalves file ends x
 
-  module _ {a : Bool} (e : a ≡ standsIn (itemNumbers file ends (Seen x Plain)) k) where
+  module _ {a : Bool} (e : a ≡ standsIn here k) where
     pub rest-not : a ≡ false → false ≡ standsIn here (withoutAll k l)
-    unfolding itemNumbers seenAs
     rest-not h = rw (stands-without here k l, ← e, h)
 
-    module _ {b : Bool} (f : b ≡ standsIn (itemNumbers file ends (Seen x Plain)) l) where
+    module _ {b : Bool} (f : b ≡ standsIn here l) where
       pub rest-listed : a ≡ true → b ≡ true → false ≡ standsIn here (withoutAll k l)
-      unfolding itemNumbers seenAs
       rest-listed h g = rw (stands-without here k l, ← e, ← f, h, g)
 
       pub rest-is : a ≡ true → b ≡ false → true ≡ standsIn here (withoutAll k l)
-      unfolding itemNumbers seenAs
       rest-is h g = rw (stands-without here k l, ← e, ← f, h, g)
 
 -- what a pile names stands there
@@ -118,16 +112,16 @@ module _ {file ends : List ℕ} where
   set-members {q} s e = subst (λ k. MembersAt file ends k (q + 1)) (sym e) (s .members)
 
 -- the test whether a list holds each of another
-abbrev pub heldBy : List (List ℕ) → List (List ℕ) → Bool
+abbrev pub heldBy : List Halves → List Halves → Bool
 heldBy p l = withinAll l p
 
 -- a test of a pile's numbers, by pile
-module _ (file ends : List ℕ) (test : List (List ℕ) → Bool) (pile : Pile) where
+module _ (file ends : List ℕ) (test : List Halves → Bool) (pile : Pile) where
   pub of-empty : {r : Bool} → pile ≡ Empty → r ≡ test [] → r ≡ test (pileNumbers file ends pile)
   unfolding pileNumbers
   of-empty e h = rw e h
 
-  pub of-one : {r : Bool} (f b : ℕ) → pile ≡ One f b → r ≡ test (itemNumbers file ends (Pair f b) ∷ []) →
+  pub of-one : {r : Bool} (f b : ℕ) → pile ≡ One f b → r ≡ test (itemHalves file ends (pairItem f b) ∷ []) →
       r ≡ test (pileNumbers file ends pile)
   unfolding pileNumbers
   of-one f b e h = rw e h
@@ -146,25 +140,25 @@ module _ (file ends : List ℕ) (test : List (List ℕ) → Bool) (pile : Pile) 
       (subst (λ n. r ≡ test (withoutAll (written file ends (countAt file t) (t + 1)) (written file ends n (s + 1)))) d
       (subst (λ n. r ≡ test (withoutAll (written file ends n (t + 1)) (written file ends l (s + 1)))) c h))
 
-pub stands-one : (x y : List ℕ) {r : Bool} → r ≡ sameNumbers x y → r ≡ standsIn x (y ∷ [])
+pub stands-one : (x y : Halves) {r : Bool} → r ≡ sameHalves x y → r ≡ standsIn x (y ∷ [])
 unfolding standsIn
-stands-one x y e = e ∙ or-none (sameNumbers x y)
+stands-one x y e = e ∙ or-none (sameHalves x y)
 
-pub stands-none : (x : List ℕ) → false ≡ standsIn x []
+pub stands-none : (x : Halves) → false ≡ standsIn x []
 unfolding standsIn
 stands-none x = refl
 
-pub within-one : (y : List ℕ) (p : List (List ℕ)) {r : Bool} → r ≡ standsIn y p → r ≡ withinAll (y ∷ []) p
+pub within-one : (y : Halves) (p : List Halves) {r : Bool} → r ≡ standsIn y p → r ≡ withinAll (y ∷ []) p
 unfolding withinAll
 within-one y p e = e ∙ and-none (standsIn y p)
 
-pub within-none : (p : List (List ℕ)) → true ≡ withinAll [] p
+pub within-none : (p : List Halves) → true ≡ withinAll [] p
 unfolding withinAll
 within-none p = refl
 
 -- three piles together
 module _ (file ends : List ℕ) (piles : Piles) where
-  module _ (x : List ℕ) where
+  module _ (x : Halves) where
     stands-three : standsIn x (pilesNumbers file ends piles) ≡
         (standsIn x (pileNumbers file ends (piles .first))
         || (standsIn x (pileNumbers file ends (piles .second)) || standsIn x (pileNumbers file ends (piles .third))))
@@ -187,7 +181,7 @@ module _ (file ends : List ℕ) (piles : Piles) where
             r ≡ standsIn x (pilesNumbers file ends piles)
         any-third h g k = rw (stands-three, ← e, ← f, h, g) k
 
-  module _ (p : List (List ℕ)) where
+  module _ (p : List Halves) where
     within-three : withinAll (pilesNumbers file ends piles) p ≡
         (withinAll (pileNumbers file ends (piles .first)) p
         && (withinAll (pileNumbers file ends (piles .second)) p && withinAll (pileNumbers file ends (piles .third)) p))

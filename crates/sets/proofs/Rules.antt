@@ -5,21 +5,19 @@
 --     find-test, rule-test                   rule 13
 use mathlib.Core.Path.{_≡_, sym, ap, ap₂, _∙_}
 use mathlib.Core.Bool.{Bool, true}
-use mathlib.Core.List.{List, [], _∷_, _++_, append-nil}
+use mathlib.Core.List.{List, [], _++_, append-nil}
 use Prim.Native.Nat.{ℕ, _+_}
-use native.Mathlib.Omega.{arith}
 use Rattle.language.specs.Syntax.{truth, neg}
-use Rattle.rules.specs.Words.{words}
 use Rattle.rules.specs.Assertion.{member, one}
 use Rattle.rules.specs.Replace.{replacement, replaceMembers}
 use Rattle.rules.specs.Sets.{under}
 use Rattle.rules.specs.Tests.{stands, same}
 use Rattle.ends.specs.Ends.{EndsOf}
-use Rattle.compare.specs.Matching.{numbers}
 use Rattle.compare.specs.declared.cursor.Put.{Put}
-use Rattle.sets.specs.Items.{itemNumbers}
+use Rattle.compare.proofs.Halves.{is-true, is-plain}
+use Rattle.sets.specs.Items.{certainItem, itemHalves}
 use Rattle.sets.specs.Lists.{written, standsIn, sameAll}
-use Rattle.sets.specs.Standing.{MembersAt, ItemAt, CanFind}
+use Rattle.sets.specs.Standing.{MembersAt, CanFind}
 use Rattle.sets.specs.Piles.{countAt, writtenSet, pilesNumbers, CanSame}
 use Rattle.sets.specs.Trees.{HasSet, HasPile, CanSameSet, SameSet}
 use Rattle.sets.specs.Trees.{stands-empty, stands-one, stands-plain, stands-under, stands-unless, stands-replaced}
@@ -27,13 +25,13 @@ use Rattle.sets.specs.Rules.{CanTwo, SameWritten, CanReplaced, SameRepla
 use Rattle.sets.specs.Rules.{CanBranches, SameBranches, CanThree, SameUnion}
 use Rattle.sets.specs.Rules.{CanTest, TestStands}
 use Rattle.sets.specs.declared.item.View.the-variants.{Plain, Under, Unless, Replaced}
-use Rattle.sets.specs.declared.item.Item.the-variants.{Certain}
 use Rattle.sets.specs.declared.pile.Pile.{Pile}
 use Rattle.sets.specs.declared.pile.Pile.the-variants.{Empty, One, Set}
 use Rattle.sets.specs.declared.pile.Piles.{Piles}
 use Rattle.sets.proofs.Tests.{stands-numbers}
+use Rattle.sets.proofs.Items.{certain-at}
 use Rattle.sets.proofs.Piles.{set-members}
-use Rattle.sets.proofs.Trees.{expression-is, any-place, fits-part, set-is, set-place, written-is, pile-is, same-trees}
+use Rattle.sets.proofs.Trees.{expression-is, any-place, item-shows, set-is, set-place, written-is, pile-is, same-trees}
 
 abbrev pub three : Pile → Pile → Pile → Piles
 three a b c = record { first = a; second = b; third = c }
@@ -149,24 +147,20 @@ module _ {file ends : List ℕ} where
   set-counted o h e = set-members (set-place (set-is o (h .stands))) e
 
   -- rule 13: the word of true is 9:1
-  pub find-test : {p b k : ℕ} → CanTest file ends p b → k ≡ countAt file p → CanFind file ends k (p + 1) (Certain b)
-  unfolding ItemAt
+  pub find-test : {p b k : ℕ} → CanTest file ends p b → k ≡ countAt file p → CanFind file ends k (p + 1) (certainItem b)
   find-test c e = record {
     ends-of = c .ends-of;
     members = set-counted (c .ends-of) (c .first-set) e;
-    item-at = any-place (expression-is (c .ends-of) (c .test .stands));
+    item-at = certain-at (c .ends-of) (any-place (expression-is (c .ends-of) (c .test .stands)));
   }
 
   pub rule-test : {p b k : ℕ} {r : Bool} → EndsOf file ends → k ≡ countAt file p →
-      r ≡ standsIn (itemNumbers file ends (Certain b)) (written file ends k (p + 1)) → TestStands file p b r
-  unfolding itemNumbers words numbers
+      r ≡ standsIn (itemHalves file ends (certainItem b)) (written file ends k (p + 1)) → TestStands file p b r
   rule-test {p} {b} o e h = record {
     does = λ x β g t.
         let a = written-is o g in
-        let c = expression-is o t in
+        let c = item-shows {item = certainItem b} is-true (is-plain (expression-is o t .part-has)) in
         h
-        ∙ ap₂ standsIn
-        (ap (λ l. 603979777 ∷ l) (c .same))
-        (ap (λ n. written file ends n (p + 1)) e ∙ a .numbers-are)
-        ∙ sym (stands-numbers (member (truth true) β) x (omega arith, fits-part c) (a .fit-all));
+        ∙ ap₂ standsIn (c .0) (ap (λ n. written file ends n (p + 1)) e ∙ a .numbers-are)
+        ∙ sym (stands-numbers (member (truth true) β) x (c .1) (a .fit-all));
   }

@@ -1,35 +1,29 @@
--- The tests of `Tests` in rules, of sets whose words are in range, are those of the numbers of their members.
+-- The tests of `Tests` in rules, of sets whose words are in range, are those of their members' halves.
 -- Assumes nothing.
---     numbersOf, membersNumbers, FitsAll     the numbers of a member, of a set; their words are in range
+--     halvesOf, membersNumbers, FitsAll      the halves of a member, of a set; their words are in range
 --     stands-numbers, within-numbers, same-numbers, without-numbers
-use mathlib.Core.Path.{_≡_, refl, ap, ap₂, _∙_}
+use mathlib.Core.Path.{_≡_, refl, sym, ap, ap₂, _∙_}
 use mathlib.Core.Bool.{Bool, true, false, _&&_, _||_, cond}
 use mathlib.Core.List.{List, [], _∷_, _++_}
-use Prim.Native.Nat.{ℕ}
-use Rattle.laws.proofs.Decides.{decides-map}
 use Rattle.rules.specs.Words.{words}
 use Rattle.rules.specs.Assertion.{Member, Members}
-use Rattle.rules.specs.Sets.{SameMember, listed, without}
+use Rattle.rules.specs.Sets.{listed, without}
 use Rattle.rules.specs.Tests.{sameMember, stands, within, same}
-use Rattle.rules.proofs.Unique.{expression-prefix}
-use Rattle.rules.proofs.Decides.{sameMember-decides}
-use Rattle.layout.specs.Spelling.{memberWords}
 use Rattle.compare.specs.Matching.{numbers}
 use Rattle.compare.proofs.Numbers.{FitsWords, numbers-words}
-use Rattle.sets.specs.Items.{sameNumbers}
+use Rattle.compare.proofs.SameNumbers.{numbers-same}
+use Rattle.sets.specs.Items.{Halves, sameHalves}
 use Rattle.sets.specs.Lists.{standsIn, withinAll, sameAll, withoutAll}
-use Rattle.laws.proofs.Decides.{decides-same}
-use Rattle.sets.proofs.Equal.{sameNumbers-decides}
 
-abbrev pub numbersOf : Member → List ℕ
-numbersOf m = numbers (memberWords m)
+abbrev pub halvesOf : Member → Halves
+halvesOf m = record { left = numbers (words (m .antecedent)); right = numbers (words (m .consequent)) }
 
-unfoldable pub membersNumbers : Members → List (List ℕ)
+unfoldable pub membersNumbers : Members → List Halves
 membersNumbers [] = []
-membersNumbers (m ∷ p) = numbersOf m ∷ membersNumbers p
+membersNumbers (m ∷ p) = halvesOf m ∷ membersNumbers p
 
 abbrev pub FitsMember : Member → Type 0
-FitsMember m = FitsWords (memberWords m)
+FitsMember m = FitsWords (words (m .antecedent)) × FitsWords (words (m .consequent))
 
 abbrev pub FitsAll : Members → Type 0
 FitsAll [] = Unit {0}
@@ -42,24 +36,21 @@ fits-all-append (m ∷ p) q f g = (f .0, fits-all-append p q (f .1) g)
 pub members-append : (p q : Members) → membersNumbers (p ++ q) ≡ membersNumbers p ++ membersNumbers q
 unfolding membersNumbers
 members-append [] q = refl
-members-append (m ∷ p) q = ap (λ l. numbersOf m ∷ l) (members-append p q)
+members-append (m ∷ p) q = ap (λ l. halvesOf m ∷ l) (members-append p q)
 
--- a member's words are one spelling of its two parts
-same-member : (m n : Member) → memberWords m ≡ memberWords n → SameMember m n
-same-member m n h =
-    let x = expression-prefix (m .antecedent) (n .antecedent) (words (m .consequent)) (words (n .consequent)) h in
-    record { antecedents = ap words (x .0); consequents = x .1 }
-
-member-numbers : (m n : Member) → FitsMember m → FitsMember n → sameMember m n ≡ sameNumbers (numbersOf m) (numbersOf n)
+member-numbers : (m n : Member) → FitsMember m → FitsMember n → sameMember m n ≡ sameHalves (halvesOf m) (halvesOf n)
+unfolding sameHalves
 member-numbers m n f g =
-    decides-same (sameMember m n) (sameNumbers (numbersOf m) (numbersOf n)) (sameMember-decides m n)
-    (decides-map
-    (λ h. same-member m n (numbers-words (memberWords m) (memberWords n) f g h))
-    (λ h. ap numbers (ap₂ _++_ (h .antecedents) (h .consequents)))
-    (sameNumbers-decides (numbersOf m) (numbersOf n)))
+    let a = words (m .antecedent) in
+    let b = words (n .antecedent) in
+    let c = words (m .consequent) in
+    let d = words (n .consequent) in
+    ap₂ _&&_
+    (sym (numbers-same a b (numbers-words a b (f .0) (g .0))))
+    (sym (numbers-same c d (numbers-words c d (f .1) (g .1))))
 
 pub stands-numbers : (m : Member) (p : Members) → FitsMember m → FitsAll p →
-    stands m p ≡ standsIn (numbersOf m) (membersNumbers p)
+    stands m p ≡ standsIn (halvesOf m) (membersNumbers p)
 unfolding standsIn membersNumbers
 stands-numbers m [] f g = refl
 stands-numbers m (n ∷ p) f g = ap₂ _||_ (member-numbers m n f (g .0)) (stands-numbers m p f (g .1))
@@ -84,10 +75,10 @@ unfolding membersNumbers withoutAll
 without-numbers [] q f g = refl
 without-numbers (m ∷ p) q f g =
     choose (listed m q)
-    ∙ ap₂ (λ b l. cond b l (numbersOf m ∷ l)) (listed-stands m q ∙ stands-numbers m q (f .0) g) (without-numbers p q (f .1) g)
+    ∙ ap₂ (λ b l. cond b l (halvesOf m ∷ l)) (listed-stands m q ∙ stands-numbers m q (f .0) g) (without-numbers p q (f .1) g)
   where
     choose : (b : Bool) → membersNumbers (cond b (without p q) (m ∷ without p q)) ≡
-        cond b (membersNumbers (without p q)) (numbersOf m ∷ membersNumbers (without p q))
+        cond b (membersNumbers (without p q)) (halvesOf m ∷ membersNumbers (without p q))
     choose true = refl
     choose false = refl
 

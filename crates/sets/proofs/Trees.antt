@@ -2,17 +2,17 @@
 -- Assumes nothing.
 --     PartIs, expression-is                  an expression at its place
 --     MemberIs, MembersAre, SetIs, set-is    a member; members one after the other; a written set
---     Shows, plain-shows .. seen-all         members as a view shows them
+--     Shows, item-shows, plain-shows .. seen-all
+--                                            members as a view shows them
 --     PileIs, pile-is                        a pile is a set that a rule makes
 --     same-trees                             a written set is the same as three piles
 use mathlib.Core.Path.{_≡_, refl, sym, ap, ap₂, subst, _∙_}
-use mathlib.Core.List.{List, [], _∷_, _++_, append-assoc, map}
+use mathlib.Core.List.{List, [], _∷_, _++_, map}
 use Prim.Native.Nat.{ℕ, zero, suc, _+_, _<_, _≤_}
-use native.Mathlib.Omega.{arith}
 use lib.IntN.{pos}
 use lib.ListN.{length}
 use Rattle.language.specs.Syntax.{Sort, Boolean, Expr, and, neg, Assignment}
-use Rattle.rules.specs.Words.{word, words}
+use Rattle.rules.specs.Words.{words}
 use Rattle.rules.specs.Assertion.{Member, Members, member}
 use Rattle.rules.specs.Context.{Limits}
 use Rattle.rules.specs.Replace.{Replacement, replacement, replace, replaceMembers}
@@ -24,14 +24,15 @@ use Rattle.layout.specs.Standing.{Stands, PartStands}
 use Rattle.layout.proofs.Stands.{parted}
 use Rattle.layout.proofs.Words.{payload-of-word}
 use Rattle.ends.specs.Ends.{EndsOf}
-use Rattle.compare.specs.Matching.{between, numbers, exchanged}
+use Rattle.compare.specs.Matching.{between, numbers}
 use Rattle.compare.specs.Places.{endAt, ExpressionAt, AnyAt}
 use Rattle.compare.specs.declared.cursor.Put.{Put}
-use Rattle.compare.proofs.Ranges.{between-join}
 use Rattle.compare.proofs.Operands.{to-end, expression-inside}
-use Rattle.compare.proofs.Numbers.{stands-between, numbers-append, FitsWords, fits-append, fits-words}
-use Rattle.compare.proofs.Replaced.{Replaces, replaces, scalar-replaces, array-replaces}
-use Rattle.sets.specs.Items.{pastMember, part, underNumbers, unlessNumbers, exchangedMember, seenAs, itemNumbers}
+use Rattle.compare.proofs.Numbers.{stands-between, FitsWords, fits-words}
+use Rattle.compare.proofs.Replaced.{Replaces, scalar-replaces, array-replaces}
+use Rattle.compare.proofs.Halves.{PartHas, has, AntecedentIs, is-written, is-and, is-and-not, is-replaced}
+use Rattle.compare.proofs.Halves.{ConsequentIs, is-plain, is-exchanged}
+use Rattle.sets.specs.Items.{pastMember, Halves, seenItem, pairItem, itemHalves, seenAs}
 use Rattle.sets.specs.Lists.{seenAll, sameAll, withoutAll}
 use Rattle.sets.specs.Standing.{MemberAt, MembersAt, ViewAt}
 use Rattle.sets.specs.Piles.{countAt, writtenSet, pileNumbers, pilesNumbers, SetAt, PileAt}
@@ -40,17 +41,17 @@ use Rattle.sets.specs.Trees.{stands-empty, stands-one, stands-plain, sta
 use Rattle.sets.specs.Trees.{stands-without}
 use Rattle.sets.specs.declared.item.View.{View}
 use Rattle.sets.specs.declared.item.View.the-variants.{Plain, Under, Unless, Replaced}
+use Rattle.sets.specs.declared.item.Item.{Item}
 use Rattle.sets.specs.declared.pile.Pile.{Pile}
 use Rattle.sets.specs.declared.pile.Piles.{Piles}
-use Rattle.sets.proofs.Tests.{numbersOf, membersNumbers, FitsMember, FitsAll, fits-all-append, members-append}
+use Rattle.sets.proofs.Equal.{halves}
+use Rattle.sets.proofs.Tests.{halvesOf, membersNumbers, FitsMember, FitsAll, fits-all-append, members-append}
 use Rattle.sets.proofs.Tests.{same-numbers, without-numbers, without-fits}
 
 -- an expression at its place: where it ends, its numbers, its words in range
 pub record PartIs (file ends : List ℕ) {k : Sort} (e : Expr k) (at : ℕ) : Type 0 where
   pub place : ExpressionAt file ends k at
-  pub same : part file ends at ≡ numbers (words e)
-  pub levels : ℕ
-  pub fits : FitsExpression e levels
+  pub part-has : PartHas file ends e at
 
 pub record MemberIs (file ends : List ℕ) (m : Member) (at : ℕ) : Type 0 where
   pub antecedent-is : PartIs file ends (m .antecedent) at
@@ -65,23 +66,13 @@ pub record SetIs (file ends : List ℕ) (p : Members) (at : ℕ) : Type 0 where
   pub count : countAt file at ≡ length p
   pub members : MembersAre file ends p (at + 1)
 
-pub fits-part : {file ends : List ℕ} {k : Sort} {e : Expr k} {at : ℕ} → PartIs file ends e at → FitsWords (words e)
-fits-part {e = e} x = fits-words (x .levels) e (x .fits)
-
 module _ {file ends : List ℕ} (ends-of : EndsOf file ends) where
   part-to : {k : Sort} (e : Expr k) (d at p : ℕ) → PartStands file (expressionPart e) d at p →
       PartIs file ends e at × (endAt ends at ≡ p)
   part-to e d at p s =
       let x = to-end ends-of (record { tree = e; levels = d; stands = s }) in
-      let same = stands-between file at (words e) p (s .stand) in (
-        record {
-          place = x .0;
-          same = ap (between file at) (x .1) ∙ same;
-          levels = d;
-          fits = s .fit;
-        },
-        x .1,
-      )
+      let y = subst (λ i. PartStands file (expressionPart e) d at i) (sym (x .1)) s in
+      (record { place = x .0; part-has = has d y }, x .1)
 
   pub expression-is : {k : Sort} {e : Expr k} {at : ℕ} → ExpressionStands file e at → PartIs file ends e at
   expression-is {e = e} {at} x = part-to e (x .levels) at (x .next) (x .stands) .0
@@ -142,11 +133,21 @@ module _ {file ends : List ℕ} where
 -- a member as a view shows it is the member that g makes
 pub record Shows (file ends : List ℕ) (view : View) (g : Member → Member) : Type 0 where
   pub shows : (m : Member) (at : ℕ) → MemberIs file ends m at →
-      (seenAs file ends view at ≡ numbersOf (g m)) × FitsMember (g m)
+      (seenAs file ends view at ≡ halvesOf (g m)) × FitsMember (g m)
 
-pub record AllShown (file ends : List ℕ) (l : List (List ℕ)) (p : Members) : Type 0 where
+pub record AllShown (file ends : List ℕ) (l : List Halves) (p : Members) : Type 0 where
   pub numbers-are : l ≡ membersNumbers p
   pub fit-all : FitsAll p
+
+-- an item, half by half
+pub item-shows : {file ends : List ℕ} {item : Item} {φ : Expr Boolean} {k : Sort} {e : Expr k} →
+    AntecedentIs file ends (item .antecedent) φ → ConsequentIs file ends (item .consequent) e →
+    (itemHalves file ends item ≡ halvesOf (member φ e)) × FitsMember (member φ e)
+unfolding itemHalves
+item-shows x y = (
+  ap₂ halves (x .numbers-are) (y .numbers-are),
+  (x .fits, y .fits),
+)
 
 module _ {file ends : List ℕ} {view : View} {g : Member → Member} (s : Shows file ends view g) where
   seen-each : (p : Members) (at : ℕ) → MembersAre file ends p at →
@@ -168,23 +169,10 @@ module _ {file ends : List ℕ} {view : View} {g : Member → Member} (s : Shows
       }
 
 module _ {file ends : List ℕ} where
-  fits-member : {m : Member} {at : ℕ} → MemberIs file ends m at → FitsMember m
-  fits-member {m} x =
-      fits-append (words (m .antecedent)) (words (m .consequent)) (fits-part (x .antecedent-is)) (fits-part (x .consequent-is))
-
   pub plain-shows : Shows file ends Plain (λ m. m)
-  unfolding seenAs
+  unfolding seenItem
   plain-shows = record {
-    shows = λ m at x.
-        let i = expression-inside (x .antecedent-is .place) in
-        let j = expression-inside (x .consequent-is .place) in
-        let h = i .start in
-        let k = j .start in (
-          between-join file at (endAt ends at) (pastMember ends at) (omega arith) (omega arith) (j .within)
-              ∙ ap₂ _++_ (x .antecedent-is .same) (x .consequent-is .same)
-              ∙ sym (numbers-append (words (m .antecedent)) (words (m .consequent))),
-          fits-member x,
-        );
+    shows = λ m at x. item-shows (is-written (x .antecedent-is .part-has)) (is-plain (x .consequent-is .part-has));
   }
 
   module _ {β : Expr Boolean} {b : ℕ} (t : PartIs file ends β b) where
@@ -192,58 +180,25 @@ module _ {file ends : List ℕ} where
     guarded γ m = member (and (m .antecedent) γ) (m .consequent)
 
     pub under-shows : Shows file ends (Under b) (guarded β)
-    unfolding seenAs underNumbers words numbers
+    unfolding seenItem
     under-shows = record {
       shows = λ m at x.
-          let a = words (m .antecedent) in
-          let c = words (m .consequent) in (
-            ap (λ l. 671088640 ∷ l)
-                (ap₂ _++_ (x .antecedent-is .same) (ap₂ _++_ (t .same) (x .consequent-is .same))
-                ∙ sym (append-assoc (numbers a) (numbers (words β)) (numbers c))
-                ∙ ap (λ l. l ++ numbers c) (sym (numbers-append a (words β)))
-                ∙ sym (numbers-append (a ++ words β) c)),
-            (
-              omega arith,
-              fits-append (a ++ words β) c
-                  (fits-append a (words β) (fits-part (x .antecedent-is)) (fits-part t)) (fits-part (x .consequent-is)),
-            ),
-          );
+          item-shows (is-and (x .antecedent-is .part-has) (t .part-has)) (is-plain (x .consequent-is .part-has));
     }
 
     pub unless-shows : Shows file ends (Unless b) (guarded (neg β))
-    unfolding seenAs unlessNumbers words numbers
+    unfolding seenItem
     unless-shows = record {
       shows = λ m at x.
-          let a = words (m .antecedent) in
-          let c = words (m .consequent) in
-          let n = word 12 (pos 0) ∷ words β in (
-            ap (λ l. 671088640 ∷ l)
-                (ap₂ _++_ (x .antecedent-is .same)
-                (ap (λ l. 805306368 ∷ l) (ap₂ _++_ (t .same) (x .consequent-is .same)))
-                ∙ sym (append-assoc (numbers a) (numbers n) (numbers c))
-                ∙ ap (λ l. l ++ numbers c) (sym (numbers-append a n))
-                ∙ sym (numbers-append (a ++ n) c)),
-            (
-              omega arith,
-              fits-append (a ++ n) c
-                  (fits-append a n (fits-part (x .antecedent-is)) (omega arith, fits-part t)) (fits-part (x .consequent-is)),
-            ),
-          );
+          item-shows (is-and-not (x .antecedent-is .part-has) (t .part-has)) (is-plain (x .consequent-is .part-has));
     }
 
   pub replaced-shows : {put : Put} {f : Replacement} → Replaces file put f →
       Shows file ends (Replaced put) (λ m. member (replace (m .antecedent) f) (replace (m .consequent) f))
-  unfolding seenAs exchangedMember
-  replaced-shows {put} {f} r = record {
+  unfolding seenItem
+  replaced-shows r = record {
     shows = λ m at x.
-        let a = replaces r (x .antecedent-is .levels) (m .antecedent) (x .antecedent-is .fits) in
-        let c = replaces r (x .consequent-is .levels) (m .consequent) (x .consequent-is .fits) in (
-          ap₂ _++_
-              (ap (exchanged file put) (x .antecedent-is .same) ∙ sym (a .same))
-              (ap (exchanged file put) (x .consequent-is .same) ∙ sym (c .same))
-              ∙ sym (numbers-append (words (replace (m .antecedent) f)) (words (replace (m .consequent) f))),
-          fits-append (words (replace (m .antecedent) f)) (words (replace (m .consequent) f)) (a .fit) (c .fit),
-        );
+        item-shows (is-replaced r (x .antecedent-is .part-has)) (is-exchanged r (x .consequent-is .part-has));
   }
 
 -- what a pile names stands there, and its members' numbers are those of a set
@@ -287,18 +242,15 @@ module _ {file ends : List ℕ} (ends-of : EndsOf file ends) where
   written-is {p} {at} s = subst (AllShown file ends (writtenSet file ends at)) (map-same p) (seen-all plain-shows (set-is ends-of s))
 
   pub pile-is : {pile : Pile} {x : Members} → PileStands file pile x → PileIs file ends pile x
-  unfolding pileNumbers PileAt ViewAt membersNumbers itemNumbers
+  unfolding pileNumbers PileAt ViewAt membersNumbers
   pile-is stands-empty = record { pile-place = tt; shown = record { numbers-are = refl; fit-all = tt } }
-  pile-is (stands-one {φ = φ} {e = e} u v) =
+  pile-is (stands-one u v) =
       let a = expression-is ends-of u in
       let c = expression-is ends-of v in
+      let h = item-shows {item = pairItem _ _} (is-written (a .part-has)) (is-plain (c .part-has)) in
       record {
         pile-place = (any-place a, any-place c);
-        shown =
-            record {
-              numbers-are = ap (λ l. l ∷ []) (ap₂ _++_ (a .same) (c .same) ∙ sym (numbers-append (words φ) (words e)));
-              fit-all = (fits-append (words φ) (words e) (fits-part a) (fits-part c), tt);
-            };
+        shown = record { numbers-are = ap (λ l. l ∷ []) (h .0); fit-all = (h .1, tt) };
       }
   pile-is (stands-plain s) = record { pile-place = (set-place (set-is ends-of s), tt); shown = written-is s }
   pile-is (stands-under {at} {b} {q} {β} s t) =

@@ -10,6 +10,7 @@ use mathlib.Core.List.{List, _++_}
 use Prim.Native.Nat.{ℕ}
 use Rattle.ends.specs.Ends.{EndsOf}
 use Rattle.compare.specs.Places.{AnyAt}
+use Rattle.sets.specs.Items.{Halves}
 use Rattle.sets.specs.Lists.{written}
 use Rattle.sets.specs.Standing.{MembersAt, ViewAt}
 use Rattle.sets.specs.Piles.{pilesNumbers, PileAt}
@@ -20,11 +21,11 @@ use Rattle.sets.specs.declared.align.Rest.{Rest}
 
 module _ (file ends : List ℕ) where
   -- of the n members at `at`, the first are those of the list, and the m members at i are left
-  pub record Parted (n at : ℕ) (l : List (List ℕ)) (m i : ℕ) : Type 0 where
+  pub record Parted (n at : ℕ) (l : List Halves) (m i : ℕ) : Type 0 where
     pub members : MembersAt file ends m i
     pub split : written file ends n at ≡ l ++ written file ends m i
 
-  pub record Aligns (n at : ℕ) (l : List (List ℕ)) (r : Rest) : Type 0 where
+  pub record Aligns (n at : ℕ) (l : List Halves) (r : Rest) : Type 0 where
     pub does : r .same ≡ true → Parted n at l (r .n) (r .at)
 
   pub record Aligned (k at : ℕ) (piles : Piles) (r : Bool) : Type 0 where

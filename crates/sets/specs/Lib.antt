@@ -1,6 +1,6 @@
--- Written sets compared by the numbers of their members.
---     Items       the numbers of members as the rules make them, and their comparison
---     Lists       sets as lists of the numbers of their members
+-- Written sets compared by the two halves of their members.
+--     Items       members as the rules make them, in two halves, and their comparison
+--     Lists       sets as lists of their members' halves
 --     Standing    members, views and items stand in a file
 --     Piles       the sets that the rules make of written ones
 --     Aligned     a written set matched with piles in order

@@ -1,4 +1,4 @@
--- Sets as lists of the numbers of their members, compared as document 01 compares sets ("Language", "Rules").
+-- Sets as lists of their members' halves, compared as document 01 compares sets ("Language", "Rules").
 -- Working: `stands-numbers`, `within-numbers`, `same-numbers` and `without-numbers` of proofs/Tests say that these are
 -- the tests of `Tests` in rules, `seen-all` and `written-is` of proofs/Trees that they are of the sets that stand
 -- there. Assumes nothing.
@@ -8,29 +8,29 @@
 use mathlib.Core.Bool.{Bool, true, false, _&&_, _||_, cond}
 use mathlib.Core.List.{List, [], _∷_}
 use Prim.Native.Nat.{ℕ, zero, suc}
-use Rattle.sets.specs.Items.{pastMember, seenAs, sameNumbers}
+use Rattle.sets.specs.Items.{pastMember, Halves, seenAs, sameHalves}
 use Rattle.sets.specs.declared.item.View.{View}
 use Rattle.sets.specs.declared.item.View.the-variants.{Plain}
 
 module _ (file ends : List ℕ) where
-  unfoldable pub seenAll : View → ℕ → ℕ → List (List ℕ)
+  unfoldable pub seenAll : View → ℕ → ℕ → List Halves
   seenAll view zero at = []
   seenAll view (suc n) at = seenAs file ends view at ∷ seenAll view n (pastMember ends at)
 
-  abbrev pub written : ℕ → ℕ → List (List ℕ)
+  abbrev pub written : ℕ → ℕ → List Halves
   written k at = seenAll Plain k at
 
-unfoldable pub standsIn : List ℕ → List (List ℕ) → Bool
+unfoldable pub standsIn : Halves → List Halves → Bool
 standsIn x [] = false
-standsIn x (y ∷ l) = sameNumbers x y || standsIn x l
+standsIn x (y ∷ l) = sameHalves x y || standsIn x l
 
-unfoldable pub withinAll : List (List ℕ) → List (List ℕ) → Bool
+unfoldable pub withinAll : List Halves → List Halves → Bool
 withinAll [] l = true
 withinAll (x ∷ k) l = standsIn x l && withinAll k l
 
-abbrev pub sameAll : List (List ℕ) → List (List ℕ) → Bool
+abbrev pub sameAll : List Halves → List Halves → Bool
 sameAll k l = withinAll k l && withinAll l k
 
-unfoldable pub withoutAll : List (List ℕ) → List (List ℕ) → List (List ℕ)
+unfoldable pub withoutAll : List Halves → List Halves → List Halves
 withoutAll [] l = []
 withoutAll (x ∷ k) l = cond (standsIn x l) (withoutAll k l) (x ∷ withoutAll k l)

@@ -1,6 +1,6 @@
--- Piles: the sets that the rules make of written ones, as lists of the numbers of their members.
+-- Piles: the sets that the rules make of written ones, as lists of their members' halves.
 -- Working: `pile-is` and `same-trees` of proofs/Trees say that these are the sets that the rules name. Assumes nothing.
---     countAt, writtenSet            how many members a written set has; the numbers of its members
+--     countAt, writtenSet            how many members a written set has; its members' halves
 --     pileNumbers, pilesNumbers      by pile; of three piles together
 --     SetAt, PileAt, PilesAt         what a pile names stands in the file
 --     CanSearch .. CanSame           what the functions on piles ask for
@@ -10,10 +10,9 @@ use lib.ListN.{length}
 use Rattle.layout.specs.Bytes.{payloadAt}
 use Rattle.ends.specs.Ends.{EndsOf}
 use Rattle.compare.specs.Places.{AnyAt}
-use Rattle.sets.specs.Items.{itemNumbers}
+use Rattle.sets.specs.Items.{Halves, pairItem, itemHalves}
 use Rattle.sets.specs.Lists.{seenAll, written, withoutAll}
 use Rattle.sets.specs.Standing.{MemberAt, MembersAt, ViewAt}
-use Rattle.sets.specs.declared.item.Item.the-variants.{Pair}
 use Rattle.sets.specs.declared.pile.Pile.{Pile}
 use Rattle.sets.specs.declared.pile.Pile.the-variants.{Empty, One, Set, Without}
 use Rattle.sets.specs.declared.pile.Piles.{Piles}
@@ -22,16 +21,16 @@ abbrev pub countAt : List ℕ → ℕ → ℕ
 countAt file q = payloadAt file q
 
 module _ (file ends : List ℕ) where
-  abbrev pub writtenSet : ℕ → List (List ℕ)
+  abbrev pub writtenSet : ℕ → List Halves
   writtenSet q = written file ends (countAt file q) (q + 1)
 
-  unfoldable pub pileNumbers : Pile → List (List ℕ)
+  unfoldable pub pileNumbers : Pile → List Halves
   pileNumbers Empty = []
-  pileNumbers (One f b) = itemNumbers file ends (Pair f b) ∷ []
+  pileNumbers (One f b) = itemHalves file ends (pairItem f b) ∷ []
   pileNumbers (Set q view) = seenAll file ends view (countAt file q) (q + 1)
   pileNumbers (Without t s) = withoutAll (writtenSet t) (writtenSet s)
 
-  unfoldable pub pilesNumbers : Piles → List (List ℕ)
+  unfoldable pub pilesNumbers : Piles → List Halves
   pilesNumbers piles = pileNumbers (piles .first) ++ (pileNumbers (piles .second) ++ pileNumbers (piles .third))
 
   -- a written set stands there

@@ -3,9 +3,8 @@
 -- the file stand so. Assumes nothing.
 --     CanPass                         a member's two places are in the list of ends
 --     MemberAt                        a boolean and an expression of any sort stand there
---     CanGuard, CanReplace            a member under a test; with words put for a word
---     ViewAt, CanSee                  what a view names stands there
---     ItemAt, CanItem, CanCompare     what an item names
+--     ViewAt                          what a view names stands there
+--     ItemAt, CanCompare, CanSee      what an item names; a written member compared with one, with a member that is seen
 --     MembersAt                       so many members, one after the other
 --     CanFind, CanLook                an item among members; a member among members that are seen
 --     CanHold, CanRest                each of some members among others; without those that are listed
@@ -15,12 +14,11 @@ use lib.ListN.{length}
 use Rattle.language.specs.Syntax.{Boolean}
 use Rattle.ends.specs.Ends.{EndsOf}
 use Rattle.compare.specs.Places.{endAt, ExpressionAt, AnyAt}
-use Rattle.compare.specs.declared.cursor.Put.{Put}
+use Rattle.compare.specs.Forms.{AntecedentAt, ConsequentAt}
 use Rattle.sets.specs.Items.{pastMember}
 use Rattle.sets.specs.declared.item.View.{View}
 use Rattle.sets.specs.declared.item.View.the-variants.{Plain, Under, Unless, Replaced}
 use Rattle.sets.specs.declared.item.Item.{Item}
-use Rattle.sets.specs.declared.item.Item.the-variants.{Seen, Pair, Certain}
 
 -- a member's two places are in the list of ends
 pub record CanPass (ends : List ℕ) (at : ℕ) : Type 0 where
@@ -32,40 +30,26 @@ module _ (file ends : List ℕ) where
     pub antecedent : ExpressionAt file ends Boolean at
     pub consequent : AnyAt file ends (endAt ends at)
 
-  pub record CanGuard (a b : ℕ) : Type 0 where
-    pub ends-of : EndsOf file ends
-    pub member : MemberAt a
-    pub test : AnyAt file ends b
-
-  pub record CanReplace (a : ℕ) (put : Put) : Type 0 where
-    pub ends-of : EndsOf file ends
-    pub member : MemberAt a
-    pub inside : put .to ≤ length file
-
   unfoldable pub ViewAt : View → Type 0
   ViewAt Plain = Unit {0}
   ViewAt (Under b) = AnyAt file ends b
   ViewAt (Unless b) = AnyAt file ends b
   ViewAt (Replaced put) = put .to ≤ length file
 
-  pub record CanSee (a : ℕ) (view : View) : Type 0 where
-    pub ends-of : EndsOf file ends
-    pub member : MemberAt a
-    pub view-at : ViewAt view
-
-  unfoldable pub ItemAt : Item → Type 0
-  ItemAt (Seen a view) = MemberAt a × ViewAt view
-  ItemAt (Pair f b) = AnyAt file ends f × AnyAt file ends b
-  ItemAt (Certain b) = AnyAt file ends b
-
-  pub record CanItem (item : Item) : Type 0 where
-    pub ends-of : EndsOf file ends
-    pub item-at : ItemAt item
+  pub record ItemAt (item : Item) : Type 0 where
+    pub antecedent-at : AntecedentAt file ends (item .antecedent)
+    pub consequent-at : ConsequentAt file ends (item .consequent)
 
   pub record CanCompare (at : ℕ) (item : Item) : Type 0 where
     pub ends-of : EndsOf file ends
     pub member : MemberAt at
     pub item-at : ItemAt item
+
+  pub record CanSee (at a : ℕ) (view : View) : Type 0 where
+    pub ends-of : EndsOf file ends
+    pub member : MemberAt at
+    pub other : MemberAt a
+    pub view-at : ViewAt view
 
   -- so many members stand one after the other
   unfoldable pub MembersAt : ℕ → ℕ → Type 0

@@ -1,12 +1,13 @@
-use crate::item::Item;
 use crate::item::View;
+use crate::item::pair_item;
 use crate::item::past_member;
 use crate::item::same_item;
+use crate::item::same_seen;
 use crate::pile::Pile;
 use crate::pile::Piles;
 use crate::pile::count;
 ghost use mathlib.Core.List.{[], _∷_};
-ghost use Rattle.sets.specs.Items.{itemNumbers};
+ghost use Rattle.sets.specs.Items.{pairItem, itemHalves};
 ghost use Rattle.sets.specs.Lists.{seenAll};
 ghost use Rattle.sets.specs.Piles.{pileNumbers, CanKeepAll};
 ghost use Rattle.sets.specs.Aligned.{Aligns, Aligned, CanAlign, CanAlignOne, CanAlignPile};
@@ -43,7 +44,7 @@ fn align_seen(
                 at: i,
             };
         }
-        if !same_item(w, ends, i, Item::Seen(a, view)) {
+        if !same_seen(w, ends, i, a, view) {
             return Rest {
                 same: false,
                 n: left,
@@ -66,12 +67,12 @@ fn align_seen(
 fn align_one(w: &[u32], ends: &[u32], n: usize, at: usize, f: usize, b: usize) -> Rest
     requires { ⌜ CanAlignOne (now w) (now ends) n «at» f b ⌝ }
     ensures { λ r. ⌜ Aligns (now (w .entry)) (now (ends .entry)) n «at»
-        (itemNumbers (now (w .entry)) (now (ends .entry)) (Item.Pair f b) ∷ []) r ⌝ }
+        (itemHalves (now (w .entry)) (now (ends .entry)) (pairItem f b) ∷ []) r ⌝ }
 {
     if n == 0 {
         return Rest { same: false, n, at };
     }
-    if !same_item(w, ends, at, Item::Pair(f, b)) {
+    if !same_item(w, ends, at, pair_item(f, b)) {
         return Rest { same: false, n, at };
     }
     let next = past_member(ends, at);

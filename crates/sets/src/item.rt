@@ -1,17 +1,16 @@
-use compare::cursor::Match;
+use compare::antecedent::Antecedent;
+use compare::antecedent::same_antecedent;
+use compare::consequent::Consequent;
+use compare::consequent::same_consequent;
 use compare::cursor::Put;
-use compare::cursor::match_range;
-use compare::cursor::match_word;
-use compare::expression::match_boolean;
-use compare::expression::match_expression;
+use compare::part::same_parts;
 use ends::end_at;
-use words::kinds::AND_WORD;
-use words::kinds::NOT_WORD;
-use words::kinds::TRUE_WORD;
 ghost use mathlib.Core.Path.{_≡_};
-ghost use Rattle.compare.specs.Matching.{matched, between};
-ghost use Rattle.sets.specs.Items.{underNumbers, unlessNumbers, exchangedMember, seenAs, itemNumbers, sameNumbers, pastMember};
-ghost use Rattle.sets.specs.Standing.{CanPass, CanGuard, CanReplace, CanSee, CanItem, CanCompare};
+ghost use Prim.Native.Nat.{_<_};
+ghost use lib.ListN.{length};
+ghost use Rattle.sets.specs.Items.{seenItem, pairItem, itemHalves, seenAs, writtenHalves, sameHalves};
+ghost use Rattle.sets.specs.Items.{pastMember};
+ghost use Rattle.sets.specs.Standing.{CanPass, CanCompare, CanSee};
 
 // How a member of a written set is seen: as it stands; φ made φ ∧ B, or φ ∧ ¬B, B at a place; with words put for a word.
 pub enum View {
@@ -21,11 +20,10 @@ pub enum View {
     Replaced(Put),
 }
 
-// A member as the rules make it: one of a written set seen as the view says; φ ⇒ E by the places of φ and E; true ⇒ E.
-pub enum Item {
-    Seen(usize, View),
-    Pair(usize, usize),
-    Certain(usize),
+// A member φ ⇒ E as the rules form it: φ and E, each compared in its own way.
+pub struct Item {
+    pub antecedent: Antecedent,
+    pub consequent: Consequent,
 }
 
 // The place past the member that starts at `at`.
@@ -37,93 +35,91 @@ pub fn past_member(ends: &[u32], at: usize) -> usize
     end_at(ends, middle)
 }
 
-// The member at a, with its antecedent φ made φ ∧ B.
-fn match_under(w: &[u32], ends: &[u32], m: Match, a: usize, b: usize) -> Match
-    requires { ⌜ CanGuard (now w) (now ends) a b ⌝ }
-    ensures { λ r. ⌜ r ≡ matched (now (w .entry)) m (underNumbers (now (w .entry)) (now (ends .entry)) a b) ⌝ }
+// The member at a, seen as the view says.
+pub fn seen_item(ends: &[u32], a: usize, view: View) -> Item
+    requires { ⌜ a < length (now ends) ⌝ }
+    ensures { λ r. ⌜ r ≡ seenItem (now (ends .entry)) view a ⌝ }
 {
     let middle = end_at(ends, a);
-    let past = end_at(ends, middle);
-    let to = end_at(ends, b);
-    let head = match_word(w, m, AND_WORD);
-    let antecedent = match_range(w, head, a, middle);
-    let test = match_range(w, antecedent, b, to);
-    match_range(w, test, middle, past)
-}
-
-// The member at a, with its antecedent φ made φ ∧ ¬B.
-fn match_unless(w: &[u32], ends: &[u32], m: Match, a: usize, b: usize) -> Match
-    requires { ⌜ CanGuard (now w) (now ends) a b ⌝ }
-    ensures { λ r. ⌜ r ≡ matched (now (w .entry)) m (unlessNumbers (now (w .entry)) (now (ends .entry)) a b) ⌝ }
-{
-    let middle = end_at(ends, a);
-    let past = end_at(ends, middle);
-    let to = end_at(ends, b);
-    let head = match_word(w, m, AND_WORD);
-    let antecedent = match_range(w, head, a, middle);
-    let negation = match_word(w, antecedent, NOT_WORD);
-    let test = match_range(w, negation, b, to);
-    match_range(w, test, middle, past)
-}
-
-// The member at a, with words put for a word.
-fn match_replaced(w: &[u32], ends: &[u32], m: Match, a: usize, put: Put) -> Match
-    requires { ⌜ CanReplace (now w) (now ends) a put ⌝ }
-    ensures { λ r. ⌜ r ≡ matched (now (w .entry)) m (exchangedMember (now (w .entry)) (now (ends .entry)) a put) ⌝ }
-{
-    let antecedent = match_boolean(w, ends, m, a, put);
-    let middle = end_at(ends, a);
-    match_expression(w, ends, antecedent, middle, put)
-}
-
-// The member at a as the view says.
-fn match_seen(w: &[u32], ends: &[u32], m: Match, a: usize, view: View) -> Match
-    requires { ⌜ CanSee (now w) (now ends) a view ⌝ }
-    ensures { λ r. ⌜ r ≡ matched (now (w .entry)) m (seenAs (now (w .entry)) (now (ends .entry)) view a) ⌝ }
-{
     match view {
-        View::Plain => {
-            let to = past_member(ends, a);
-            match_range(w, m, a, to)
-        }
-        View::Under(b) => match_under(w, ends, m, a, b),
-        View::Unless(b) => match_unless(w, ends, m, a, b),
-        View::Replaced(put) => match_replaced(w, ends, m, a, put),
+        View::Plain => Item {
+            antecedent: Antecedent::Written(a),
+            consequent: Consequent::Written(middle),
+        },
+        View::Under(b) => Item {
+            antecedent: Antecedent::And(a, b),
+            consequent: Consequent::Written(middle),
+        },
+        View::Unless(b) => Item {
+            antecedent: Antecedent::AndNot(a, b),
+            consequent: Consequent::Written(middle),
+        },
+        View::Replaced(put) => Item {
+            antecedent: Antecedent::Replaced(a, put),
+            consequent: Consequent::Replaced(middle, put),
+        },
     }
 }
 
-fn match_item(w: &[u32], ends: &[u32], m: Match, item: Item) -> Match
-    requires { ⌜ CanItem (now w) (now ends) item ⌝ }
-    ensures { λ r. ⌜ r ≡ matched (now (w .entry)) m (itemNumbers (now (w .entry)) (now (ends .entry)) item) ⌝ }
+// φ ⇒ E by the places of φ and E.
+pub fn pair_item(f: usize, b: usize) -> Item
+    ensures { λ r. ⌜ r ≡ pairItem f b ⌝ }
 {
-    match item {
-        Item::Seen(a, view) => match_seen(w, ends, m, a, view),
-        Item::Pair(f, b) => {
-            let middle = end_at(ends, f);
-            let to = end_at(ends, b);
-            let antecedent = match_range(w, m, f, middle);
-            match_range(w, antecedent, b, to)
-        }
-        Item::Certain(b) => {
-            let to = end_at(ends, b);
-            let antecedent = match_word(w, m, TRUE_WORD);
-            match_range(w, antecedent, b, to)
-        }
+    Item {
+        antecedent: Antecedent::Written(f),
+        consequent: Consequent::Written(b),
     }
 }
 
-// Whether the written member at `at` is the item, by words.
+// Whether the written member at `at` is the item: its antecedent as antecedents are compared, its consequent by words.
 pub fn same_item(w: &[u32], ends: &[u32], at: usize, item: Item) -> bool
     requires { ⌜ CanCompare (now w) (now ends) «at» item ⌝ }
-    ensures { λ r. ⌜ r ≡ sameNumbers (between (now (w .entry)) «at» (pastMember (now (ends .entry)) «at»))
-        (itemNumbers (now (w .entry)) (now (ends .entry)) item) ⌝ }
+    ensures { λ r. ⌜ r ≡ sameHalves (writtenHalves (now (w .entry)) (now (ends .entry)) «at»)
+        (itemHalves (now (w .entry)) (now (ends .entry)) item) ⌝ }
 {
-    let to = past_member(ends, at);
-    let m = match_item(w, ends, Match { same: true, at }, item);
-    let same = m.same;
-    if !same {
+    let antecedent = item.antecedent;
+    if !same_antecedent(w, ends, at, antecedent) {
         return false;
     }
-    let end = m.at;
-    end == to
+    let middle = end_at(ends, at);
+    let consequent = item.consequent;
+    // the usual one at once
+    if let Consequent::Written(b) = consequent {
+        return same_parts(w, ends, middle, b);
+    }
+    same_consequent(w, ends, middle, consequent)
+}
+
+// Whether the written member at `at` is the one at a, seen as the view says. Each view has its own call, so that the
+// compiler sees which halves are compared.
+pub fn same_seen(w: &[u32], ends: &[u32], at: usize, a: usize, view: View) -> bool
+    requires { ⌜ CanSee (now w) (now ends) «at» a view ⌝ }
+    ensures { λ r. ⌜ r ≡ sameHalves (writtenHalves (now (w .entry)) (now (ends .entry)) «at»)
+        (seenAs (now (w .entry)) (now (ends .entry)) view a) ⌝ }
+{
+    let middle = end_at(ends, a);
+    match view {
+        View::Plain => same_item(w, ends, at, pair_item(a, middle)),
+        View::Under(b) => {
+            let item = Item {
+                antecedent: Antecedent::And(a, b),
+                consequent: Consequent::Written(middle),
+            };
+            same_item(w, ends, at, item)
+        }
+        View::Unless(b) => {
+            let item = Item {
+                antecedent: Antecedent::AndNot(a, b),
+                consequent: Consequent::Written(middle),
+            };
+            same_item(w, ends, at, item)
+        }
+        View::Replaced(put) => {
+            let item = Item {
+                antecedent: Antecedent::Replaced(a, put),
+                consequent: Consequent::Replaced(middle, put),
+            };
+            same_item(w, ends, at, item)
+        }
+    }
 }

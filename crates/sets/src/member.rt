@@ -2,17 +2,18 @@ use crate::item::Item;
 use crate::item::View;
 use crate::item::past_member;
 use crate::item::same_item;
+use crate::item::same_seen;
+use crate::item::seen_item;
 ghost use mathlib.Core.Path.{_≡_};
 ghost use mathlib.Core.Bool.{_||_};
-ghost use Rattle.compare.specs.Matching.{between};
-ghost use Rattle.sets.specs.Items.{pastMember, itemNumbers};
+ghost use Rattle.sets.specs.Items.{itemHalves, writtenHalves};
 ghost use Rattle.sets.specs.Lists.{seenAll, written, standsIn, withinAll, withoutAll};
 ghost use Rattle.sets.specs.Standing.{CanFind, CanLook, CanHold, CanEither, CanRest};
 
 // Whether the item is one of the k written members at `at`.
 pub fn has_item(w: &[u32], ends: &[u32], k: usize, at: usize, item: Item) -> bool
     requires { ⌜ CanFind (now w) (now ends) k «at» item ⌝ }
-    ensures { λ r. ⌜ r ≡ standsIn (itemNumbers (now (w .entry)) (now (ends .entry)) item)
+    ensures { λ r. ⌜ r ≡ standsIn (itemHalves (now (w .entry)) (now (ends .entry)) item)
         (written (now (w .entry)) (now (ends .entry)) k «at») ⌝ }
 {
     let mut n = k;
@@ -30,13 +31,13 @@ pub fn has_item(w: &[u32], ends: &[u32], k: usize, at: usize, item: Item) -> boo
 // Whether the written member at x is one of the k members at `at` seen as the view says.
 pub fn in_seen(w: &[u32], ends: &[u32], x: usize, k: usize, at: usize, view: View) -> bool
     requires { ⌜ CanLook (now w) (now ends) x k «at» view ⌝ }
-    ensures { λ r. ⌜ r ≡ standsIn (between (now (w .entry)) x (pastMember (now (ends .entry)) x))
+    ensures { λ r. ⌜ r ≡ standsIn (writtenHalves (now (w .entry)) (now (ends .entry)) x)
         (seenAll (now (w .entry)) (now (ends .entry)) view k «at») ⌝ }
 {
     let mut n = k;
     let mut i = at;
     while 0 < n {
-        if same_item(w, ends, x, Item::Seen(i, view)) {
+        if same_seen(w, ends, x, i, view) {
             return true;
         }
         i = past_member(ends, i);
@@ -62,7 +63,8 @@ pub fn seen_in(
     let mut n = j;
     let mut i = from;
     while 0 < n {
-        if !has_item(w, ends, k, at, Item::Seen(i, view)) {
+        let item = seen_item(ends, i, view);
+        if !has_item(w, ends, k, at, item) {
             return false;
         }
         i = past_member(ends, i);
@@ -82,15 +84,16 @@ fn has_either(
     at: usize,
 ) -> bool
     requires { ⌜ CanEither (now w) (now ends) x l leave k «at» ⌝ }
-    ensures { λ r. ⌜ r ≡ (standsIn (between (now (w .entry)) x (pastMember (now (ends .entry)) x))
+    ensures { λ r. ⌜ r ≡ (standsIn (writtenHalves (now (w .entry)) (now (ends .entry)) x)
         (written (now (w .entry)) (now (ends .entry)) k «at»)
-        || standsIn (between (now (w .entry)) x (pastMember (now (ends .entry)) x))
+        || standsIn (writtenHalves (now (w .entry)) (now (ends .entry)) x)
         (written (now (w .entry)) (now (ends .entry)) l leave)) ⌝ }
 {
-    if has_item(w, ends, k, at, Item::Seen(x, View::Plain)) {
+    let item = seen_item(ends, x, View::Plain);
+    if has_item(w, ends, k, at, item) {
         return true;
     }
-    has_item(w, ends, l, leave, Item::Seen(x, View::Plain))
+    has_item(w, ends, l, leave, item)
 }
 
 // The same for the j members at `from` without those that stand among the l members at `leave`.
@@ -132,13 +135,14 @@ pub fn in_rest(
     at: usize,
 ) -> bool
     requires { ⌜ CanEither (now w) (now ends) x l leave k «at» ⌝ }
-    ensures { λ r. ⌜ r ≡ standsIn (between (now (w .entry)) x (pastMember (now (ends .entry)) x))
+    ensures { λ r. ⌜ r ≡ standsIn (writtenHalves (now (w .entry)) (now (ends .entry)) x)
         (withoutAll (written (now (w .entry)) (now (ends .entry)) k «at») (written (now (w .entry)) (now (ends .entry)) l leave)) ⌝ }
 {
-    if !has_item(w, ends, k, at, Item::Seen(x, View::Plain)) {
+    let item = seen_item(ends, x, View::Plain);
+    if !has_item(w, ends, k, at, item) {
         return false;
     }
-    if has_item(w, ends, l, leave, Item::Seen(x, View::Plain)) {
+    if has_item(w, ends, l, leave, item) {
         return false;
     }
     true

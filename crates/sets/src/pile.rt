@@ -1,5 +1,5 @@
-use crate::item::Item;
 use crate::item::View;
+use crate::item::pair_item;
 use crate::item::past_member;
 use crate::item::same_item;
 use crate::member::has_item;
@@ -11,8 +11,7 @@ use words::kinds::KIND;
 ghost use mathlib.Core.Path.{_≡_};
 ghost use Prim.Native.Nat.{_<_};
 ghost use lib.ListN.{length};
-ghost use Rattle.compare.specs.Matching.{between};
-ghost use Rattle.sets.specs.Items.{pastMember};
+ghost use Rattle.sets.specs.Items.{writtenHalves};
 ghost use Rattle.sets.specs.Lists.{written, standsIn, withinAll};
 ghost use Rattle.sets.specs.Piles.{countAt, pileNumbers, pilesNumbers};
 ghost use Rattle.sets.specs.Piles.{CanSearch, CanSearchAll, CanKeep, CanKeepAll};
@@ -45,12 +44,12 @@ pub fn count(w: &[u32], q: usize) -> usize
 // Whether the written member at x stands in the pile.
 fn in_pile(w: &[u32], ends: &[u32], x: usize, pile: Pile) -> bool
     requires { ⌜ CanSearch (now w) (now ends) x pile ⌝ }
-    ensures { λ r. ⌜ r ≡ standsIn (between (now (w .entry)) x (pastMember (now (ends .entry)) x))
+    ensures { λ r. ⌜ r ≡ standsIn (writtenHalves (now (w .entry)) (now (ends .entry)) x)
         (pileNumbers (now (w .entry)) (now (ends .entry)) pile) ⌝ }
 {
     match pile {
         Pile::Empty => false,
-        Pile::One(f, b) => same_item(w, ends, x, Item::Pair(f, b)),
+        Pile::One(f, b) => same_item(w, ends, x, pair_item(f, b)),
         Pile::Set(q, view) => {
             let k = count(w, q);
             in_seen(w, ends, x, k, q + 1, view)
@@ -71,7 +70,7 @@ fn pile_in(w: &[u32], ends: &[u32], pile: Pile, k: usize, at: usize) -> bool
 {
     match pile {
         Pile::Empty => true,
-        Pile::One(f, b) => has_item(w, ends, k, at, Item::Pair(f, b)),
+        Pile::One(f, b) => has_item(w, ends, k, at, pair_item(f, b)),
         Pile::Set(q, view) => {
             let j = count(w, q);
             seen_in(w, ends, j, q + 1, view, k, at)
@@ -87,7 +86,7 @@ fn pile_in(w: &[u32], ends: &[u32], pile: Pile, k: usize, at: usize) -> bool
 // Whether the written member at x stands in one of the piles.
 fn in_piles(w: &[u32], ends: &[u32], x: usize, piles: Piles) -> bool
     requires { ⌜ CanSearchAll (now w) (now ends) x piles ⌝ }
-    ensures { λ r. ⌜ r ≡ standsIn (between (now (w .entry)) x (pastMember (now (ends .entry)) x))
+    ensures { λ r. ⌜ r ≡ standsIn (writtenHalves (now (w .entry)) (now (ends .entry)) x)
         (pilesNumbers (now (w .entry)) (now (ends .entry)) piles) ⌝ }
 {
     let first = piles.first;

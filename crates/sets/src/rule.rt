@@ -5,6 +5,8 @@ use crate::pile::Pile;
 use crate::pile::Piles;
 use crate::pile::count;
 use crate::set::same_set;
+use compare::antecedent::Antecedent;
+use compare::consequent::Consequent;
 use compare::cursor::Put;
 ghost use Rattle.sets.specs.Rules.{CanTwo, SameWritten, CanReplaced, SameReplaced, CanUnder, SameUnder};
 ghost use Rattle.sets.specs.Rules.{CanBranches, SameBranches, CanThree, SameUnion, CanTest, TestStands};
@@ -108,5 +110,9 @@ pub fn test_stands(w: &[u32], ends: &[u32], p: usize, b: usize) -> bool
     ensures { λ r. ⌜ TestStands (now (w .entry)) p b r ⌝ }
 {
     let k = count(w, p);
-    has_item(w, ends, k, p + 1, Item::Certain(b))
+    let item = Item {
+        antecedent: Antecedent::True,
+        consequent: Consequent::Written(b),
+    };
+    has_item(w, ends, k, p + 1, item)
 }

@@ -9,7 +9,7 @@ use Rattle.flow_rules.proofs.Single.{consequent-before, consequent-afte
 use Rattle.flow_rules.proofs.one.rule_11.Statement.{statement}
 use Rattle.flow_rules.proofs.one.rule_11.Tie as tie
 
-same-requires : tie.Need-is-same-requires
+same-requires : tie.Need-is-same-consequent-requires
 same-requires c κs =
     let p = c .before .before .before .before .before .before .before .before .pre in
     record {
@@ -27,7 +27,7 @@ other-consequents c =
     (c .before .before .before .before .before .before .if1 .left)
     (c .before .before .before .before .before .count2 .ensures) (c .before .before .before .before .if2 .left)
     (c .before .before .before .end-at .ensures) (c .before .before .end-at2 .ensures)
-    (c .before .is-same .ensures) (not-true _ (c .if3 .taken))
+    (c .before .is-same-consequent .ensures) (not-true _ (c .if3 .taken))
 
 kept-requires : tie.Need-is-kept-requires
 kept-requires c κs =
@@ -60,7 +60,7 @@ goes c =
     (c .before .before .before .before .before .before .before .count2 .ensures)
     (c .before .before .before .before .before .before .if2 .left)
     (c .before .before .before .before .before .end-at .ensures) (c .before .before .before .before .end-at2 .ensures)
-    (c .before .before .before .is-same .ensures) (not-false _ (c .before .before .if3 .left))
+    (c .before .before .before .is-same-consequent .ensures) (not-false _ (c .before .before .if3 .left))
     (c .before .is-kept .ensures) (not-false _ (c .if4 .left))
 
 pub rule-11-spec : {M : Type 1} → statement M

@@ -11,9 +11,9 @@ returns c =
     let tested = c .before in
     let form = tested .before in
     let p = form .before .before .before .before .pre in
-    skip-tried p (form .if1 .left) (tested .is-same .ensures) (c .leaf .ensures)
+    skip-tried p (form .if1 .left) (tested .is-same-assertion .ensures) (c .leaf .ensures)
 
-known : tie.Need-is-same-requires
+known : tie.Need-is-same-assertion-requires
 known c κs =
     let p = c .before .before .before .before .pre in
     record { first = first-known p; second = second-known p }

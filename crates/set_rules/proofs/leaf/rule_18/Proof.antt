@@ -66,7 +66,7 @@ rule-18-spec =
     let c₁₀ = c₇ .before .before .before in
     let can = c₁₀ .pre .0 in
     differ-stops (can .ends-of) (can .rule-is) (c₇ .count .ensures) (c₆ .if1 .left) (c₅ .count2 .ensures)
-    (c₄ .if2 .left) (c₃ .end-at .ensures) (c₂ .end-at2 .ensures) (c₁ .is-same .ensures) (not-true _ (c .if3 .taken)))
+    (c₄ .if2 .left) (c₃ .end-at .ensures) (c₂ .end-at2 .ensures) (c₁ .is-same-consequent .ensures) (not-true _ (c .if3 .taken)))
     (λ c κs.
     let c₂ = c .before .before in
     let c₃ = c₂ .before in
@@ -95,5 +95,5 @@ rule-18-spec =
     let c₁₂ = c₉ .before .before .before in
     let can = c₁₂ .pre .0 in
     implied-step (can .ends-of) (can .rule-is) (c₉ .count .ensures) (c₈ .if1 .left) (c₇ .count2 .ensures)
-    (c₆ .if2 .left) (c₅ .end-at .ensures) (c₄ .end-at2 .ensures) (c₃ .is-same .ensures) (not-false _ (c₂ .if3 .left))
+    (c₆ .if2 .left) (c₅ .end-at .ensures) (c₄ .end-at2 .ensures) (c₃ .is-same-consequent .ensures) (not-false _ (c₂ .if3 .left))
     (c₁ .implies .ensures) (c .conclude .ensures)))

@@ -5,7 +5,6 @@ use borrow.Author.Needs.{needs}
 use native.Mathlib.Omega.{arith}
 use borrow.Author.Tests.{not-false}
 use Rattle.sets.proofs.Members.{member-pass}
-use Rattle.sets.proofs.Loops.{seen-at}
 use Rattle.sets.proofs.Aligned.{Aligning, aligning-start, aligning-on, aligning-end, aligns-not, first-member, part-first}
 use Rattle.sets.proofs.align.align_seen.Statement.{statement}
 use Rattle.sets.proofs.align.align_seen.Tie as tie
@@ -22,34 +21,36 @@ align-seen-spec =
     (tie.spec
     Inv-loop
     μ-loop
-    (λ c. let s = c .before .before in let p = s .pre in aligning-start (p .members) (p .part))
+    (λ c. let p = c .before .before .pre in aligning-start (p .members) (p .part))
     (λ c. aligns-not refl)
     (λ c κs.
-    let l = c .before .before .loop in
-    let s = c .before .before .before .before .before in
-    let p = s .pre in
+    let l = c .before .before in
+    let p = l .before .before .before .pre in
     record {
       ends-of = p .ends-of;
-      member = first-member (l .inv .members) (c .if1 .left);
-      item-at = seen-at _ (part-first (l .inv) (c .before .loop-test .taken)) (p .view-at);
+      member = first-member (l .loop .inv .members) (c .if1 .left);
+      other = part-first (l .loop .inv) (c .before .loop-test .taken);
+      view-at = p .view-at;
     })
     (λ c. aligns-not refl)
     (λ c κs.
-    let l = c .before .before .before .before .loop in
-    let s = c .before .before .before .before .before .before .before in
-    let p = s .pre in
-    member-pass (p .ends-of) (first-member (l .inv .members) (c .before .before .if1 .left)))
+    let some = c .before .before in
+    let l = some .before .before in
+    let p = l .before .before .before .pre in
+    member-pass (p .ends-of) (first-member (l .loop .inv .members) (some .if1 .left)))
     (λ c κs.
-    let l = c .before .before .before .before .before .loop in
-    let s = c .before .before .before .before .before .before .before .before in
-    let p = s .pre in
-    member-pass (p .ends-of) (part-first (l .inv) (c .before .before .before .before .loop-test .taken)))
+    let some = c .before .before .before in
+    let l = some .before .before in
+    let p = l .before .before .before .pre in
+    member-pass (p .ends-of) (part-first (l .loop .inv) (some .before .loop-test .taken)))
     (λ c. let h = c .before .before .before .before .if1 .left in omega arith)
     (λ c. search needs)
     (λ c. search needs)
     (λ c.
-    let l = c .before .before .before .before .before .before .loop in
-    aligning-on (l .inv) (c .before .before .before .before .before .loop-test .taken)
-    (c .before .before .before .before .if1 .left) (c .before .before .before .same-item .ensures)
-    (not-false _ (c .before .before .if2 .left)) (c .before .past-member .ensures) (c .past-member2 .ensures))
-    (λ c. let l = c .before .loop in aligning-end (l .inv) (c .loop-test .left) refl refl))
+    let passed = c .before in
+    let other = passed .before in
+    let some = other .before .before in
+    aligning-on (some .before .before .loop .inv) (some .before .loop-test .taken) (some .if1 .left)
+    (other .before .same-seen .ensures)
+    (not-false _ (other .if2 .left)) (passed .past-member .ensures) (c .past-member2 .ensures))
+    (λ c. aligning-end (c .before .loop .inv) (c .loop-test .left) refl refl))

@@ -1,8 +1,10 @@
--- `sets::item::same_item` meets its contract: a cursor that reaches the member's end has passed the same words.
+-- `sets::item::same_item` meets its contract, half by half.
 -- Assumes nothing.
+use borrow.Author.Needs.{needs}
 use borrow.Author.Tests.{not-true, not-false}
-use Rattle.sets.proofs.Members.{member-inside, member-pass}
-use Rattle.sets.proofs.Equal.{item-lost, item-end}
+use Rattle.compare.proofs.Forms.{of-plain, consequent-written}
+use Rattle.sets.proofs.Members.{antecedent-any, consequent-any, any-known}
+use Rattle.sets.proofs.Items.{item-not, item-so}
 use Rattle.sets.proofs.item.same_item.Statement.{statement}
 use Rattle.sets.proofs.item.same_item.Tie as tie
 
@@ -10,14 +12,39 @@ pub same-item-spec : {M : Type 1} → statement M
 same-item-spec =
     tie.close
     (tie.spec
-    (λ c κs. let s = c .before .before in let p = s .pre in member-pass (p .ends-of) (p .member))
-    (λ c κs. let s = c .before .before .before in let p = s .pre in record { ends-of = p .ends-of; item-at = p .item-at })
+    (λ c κs.
+    let p = c .before .before .pre in
+    record { whole = any-known (p .ends-of) (antecedent-any (p .member)); form-at = p .item-at .antecedent-at })
+    (λ c. item-not _ _ _ _ (c .before .same-antecedent .ensures) (not-true _ (c .if1 .taken)))
+    (λ c κs.
+    let p = c .before .before .before .before .pre in
+    any-known (p .ends-of) (antecedent-any (p .member)) .listed)
+    (λ c. search needs)
+    (λ c κs.
+    let e = c .before in
+    let ended = e .before .before in
+    let p = ended .before .before .before .before .before .pre in (
+      any-known (p .ends-of) (consequent-any (p .member) (ended .end-at .ensures)),
+      of-plain (p .item-at .consequent-at) (e .consequent .given .1),
+    ))
     (λ c.
-    let s = c .before .before .before .before .before in
-    let p = s .pre in
-    item-lost _ _ _ _ _ (member-inside (p .member)) (c .before .match-item .ensures) (not-true _ (c .if1 .taken)))
+    let e = c .before .before in
+    let ended = e .before .before in
+    let first = ended .before in
+    let p = first .before .before .before .before .pre in
+    item-so _ _ _ _ (first .before .same-antecedent .ensures) _ (not-false _ (first .if1 .left)) (ended .end-at .ensures)
+    (consequent-written _ _ _ (any-known (p .ends-of) (consequent-any (p .member) (ended .end-at .ensures))) _ _
+    (e .consequent .given .1) (c .same-parts .ensures)))
+    (λ c. search needs)
+    (λ c κs.
+    let ended = c .before .before in
+    let p = ended .before .before .before .before .before .pre in
+    record {
+      whole = any-known (p .ends-of) (consequent-any (p .member) (ended .end-at .ensures));
+      form-at = p .item-at .consequent-at;
+    })
     (λ c.
-    let s = c .before .before .before .before .before in
-    let p = s .pre in
-    item-end _ _ _ _ _ (member-inside (p .member)) (c .before .match-item .ensures)
-    (c .before .before .past-member .ensures) (not-false _ (c .if1 .left))))
+    let ended = c .before .before .before in
+    let first = ended .before in
+    item-so _ _ _ _ (first .before .same-antecedent .ensures) _ (not-false _ (first .if1 .left)) (ended .end-at .ensures)
+    (c .same-consequent .ensures)))

@@ -2,7 +2,7 @@
 -- of those that are left.
 -- Assumes nothing.
 use borrow.Author.Needs.{needs}
-use Rattle.sets.specs.Items.{itemNumbers}
+use Rattle.sets.specs.Items.{itemHalves}
 use Rattle.sets.specs.Lists.{standsIn}
 use Rattle.sets.proofs.Members.{member-pass}
 use Rattle.sets.specs.declared.item.View.the-variants.{Plain}
@@ -12,7 +12,7 @@ use Rattle.sets.proofs.member.has_item.Statement.{statement}
 use Rattle.sets.proofs.member.has_item.Tie as tie
 
 abbrev Inv-loop : tie.InvT-loop
-Inv-loop w ends k at item n₀ i₀ n i = Left w ends Plain (standsIn (itemNumbers w ends item)) n₀ i₀ n i
+Inv-loop w ends k at item n₀ i₀ n i = Left w ends Plain (standsIn (itemHalves w ends item)) n₀ i₀ n i
 
 abbrev μ-loop : tie.MeasureT-loop
 μ-loop w ends k at item n₀ i₀ n i = n

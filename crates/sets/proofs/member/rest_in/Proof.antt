@@ -5,7 +5,7 @@ use Rattle.sets.specs.Lists.{written, withinAll, withoutAll}
 use Rattle.sets.proofs.Members.{member-pass}
 use borrow.Author.Tests.{not-true, not-false}
 use Rattle.sets.specs.declared.item.View.the-variants.{Plain}
-use Rattle.sets.proofs.Loops.{Left, left-start, left-first, left-stop, left-on, left-end, rest-stop, rest-skip, has-plain, end-rest}
+use Rattle.sets.proofs.Loops.{Left, left-start, left-first, left-stop, left-on, left-end, rest-stop, rest-skip, end-rest}
 use Rattle.sets.proofs.member.rest_in.Statement.{statement}
 use Rattle.sets.proofs.member.rest_in.Tie as tie
 
@@ -36,7 +36,7 @@ rest-in-spec =
     (λ c.
     let l = c .before .before .before .loop in
     left-stop (l .inv) (c .before .before .loop-test .taken)
-    (rest-stop _ _ _ (c .before .has-either .result) (has-plain _ _ _ _ _ (c .before .has-either .ensures))
+    (rest-stop _ _ _ (c .before .has-either .result) (c .before .has-either .ensures)
     (not-true _ (c .if1 .taken))))
     (λ c κs.
     let l = c .before .before .before .loop in
@@ -49,5 +49,5 @@ rest-in-spec =
     let l = c .before .before .before .before .loop in
     left-on (l .inv) (c .before .before .before .loop-test .taken) (c .past-member .ensures)
     (rest-skip _ _ _ (c .before .before .has-either .result)
-    (has-plain _ _ _ _ _ (c .before .before .has-either .ensures)) (not-false _ (c .before .if1 .left))))
+    (c .before .before .has-either .ensures) (not-false _ (c .before .if1 .left))))
     (λ c. let l = c .before .loop in left-end (l .inv) (c .loop-test .left) (end-rest _ _)))

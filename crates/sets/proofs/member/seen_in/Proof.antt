@@ -4,8 +4,9 @@ use borrow.Author.Needs.{needs}
 use Rattle.sets.specs.Lists.{written, withinAll}
 use Rattle.sets.proofs.Members.{member-pass}
 use borrow.Author.Tests.{not-true, not-false}
+use Rattle.sets.proofs.Items.{seen-at}
 use Rattle.sets.proofs.Loops.{Left, left-start, left-first, left-stop, left-on, left-end, within-stop}
-use Rattle.sets.proofs.Loops.{within-skip, seen-at, has-seen, end-within}
+use Rattle.sets.proofs.Loops.{within-skip, has-as, end-within}
 use Rattle.sets.proofs.member.seen_in.Statement.{statement}
 use Rattle.sets.proofs.member.seen_in.Tie as tie
 
@@ -21,31 +22,39 @@ seen-in-spec =
     (tie.spec
     Inv-loop
     μ-loop
-    (λ c. let s = c .before .before in let p = s .pre in left-start (p .part))
+    (λ c. left-start (c .before .before .pre .part))
     (λ c κs.
-    let l = c .before .loop in
-    let s = c .before .before .before .before in
-    let p = s .pre in
+    let l = c .before in
+    let p = l .before .before .before .pre in
+    member-pass (p .ends-of) (left-first (l .loop .inv) (c .loop-test .taken)) .first)
+    (λ c κs.
+    let t = c .before in
+    let l = t .before in
+    let p = l .before .before .before .pre in
     record {
       ends-of = p .ends-of;
       members = p .members;
-      item-at = seen-at _ (left-first (l .inv) (c .loop-test .taken)) (p .view-at);
+      item-at =
+          seen-at (p .ends-of) _ (c .seen-item .ensures) (left-first (l .loop .inv) (t .loop-test .taken)) (p .view-at);
     })
     (λ c.
-    let l = c .before .before .before .loop in
-    left-stop (l .inv) (c .before .before .loop-test .taken)
-    (within-stop _ _ (c .before .has-item .result) (has-seen _ _ _ _ _ (c .before .has-item .ensures))
+    let item = c .before .before in
+    let t = item .before in
+    left-stop (t .before .loop .inv) (t .loop-test .taken)
+    (within-stop _ _ (c .before .has-item .result) (has-as _ _ (item .seen-item .ensures) _ (c .before .has-item .ensures))
     (not-true _ (c .if1 .taken))))
     (λ c κs.
-    let l = c .before .before .before .loop in
-    let s = c .before .before .before .before .before .before in
-    let p = s .pre in
-    member-pass (p .ends-of) (left-first (l .inv) (c .before .before .loop-test .taken)))
+    let t = c .before .before .before in
+    let l = t .before in
+    let p = l .before .before .before .pre in
+    member-pass (p .ends-of) (left-first (l .loop .inv) (t .loop-test .taken)))
     (λ c. search needs)
     (λ c. search needs)
     (λ c.
-    let l = c .before .before .before .before .loop in
-    left-on (l .inv) (c .before .before .before .loop-test .taken) (c .past-member .ensures)
-    (within-skip _ _ (c .before .before .has-item .result)
-    (has-seen _ _ _ _ _ (c .before .before .has-item .ensures)) (not-false _ (c .before .if1 .left))))
-    (λ c. let l = c .before .loop in left-end (l .inv) (c .loop-test .left) (end-within _)))
+    let tested = c .before .before in
+    let item = tested .before in
+    let t = item .before in
+    left-on (t .before .loop .inv) (t .loop-test .taken) (c .past-member .ensures)
+    (within-skip _ _ (tested .has-item .result) (has-as _ _ (item .seen-item .ensures) _ (tested .has-item .ensures))
+    (not-false _ (c .before .if1 .left))))
+    (λ c. left-end (c .before .loop .inv) (c .loop-test .left) (end-within _)))

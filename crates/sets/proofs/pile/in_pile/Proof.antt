@@ -3,7 +3,8 @@
 use borrow.Author.Needs.{needs}
 use native.Mathlib.Omega.{arith}
 use Rattle.sets.specs.Lists.{standsIn}
-use Rattle.sets.proofs.Loops.{pair-at}
+use Rattle.sets.proofs.Items.{pair-at}
+use Rattle.sets.proofs.Loops.{same-as}
 use Rattle.sets.proofs.Piles.{pile-one, pile-set, pile-without, set-members}
 use Rattle.sets.proofs.Piles.{of-empty, of-one, of-set, of-without, stands-one, stands-none}
 use Rattle.sets.proofs.pile.in_pile.Statement.{statement}
@@ -15,11 +16,12 @@ in-pile-spec =
     (tie.spec
     (λ c. search needs)
     (λ c. search needs)
+    (λ c κs. search needs)
     (λ c κs.
-    let s = c .before .before .before .before .before in
+    let s = c .before .before .before .before .before .before in
     let p = s .pre in
-    let d = pile-one _ (p .pile-at) (c .before .pile .given .1) in
-    record { ends-of = p .ends-of; member = p .member; item-at = pair-at (d .0) (d .1) })
+    let d = pile-one _ (p .pile-at) (c .before .before .pile .given .1) in
+    record { ends-of = p .ends-of; member = p .member; item-at = pair-at (p .ends-of) (c .pair-item .ensures) (d .0) (d .1) })
     (λ c. search needs)
     (λ c κs.
     let s = c .before .before .before .before .before in
@@ -76,7 +78,9 @@ in-pile-spec =
       listed = set-members (d .1) (c .count3 .ensures);
     })
     (λ c. of-empty _ _ (standsIn _) _ (c .enum-told .given .1) (stands-none _))
-    (λ c. of-one _ _ (standsIn _) _ _ _ (c .before .before .pile .given .1) (stands-one _ _ (c .same-item .ensures)))
+    (λ c.
+    of-one _ _ (standsIn _) _ _ _ (c .before .before .before .pile .given .1)
+    (stands-one _ _ (same-as _ _ (c .before .pair-item .ensures) _ (c .same-item .ensures))))
     (λ c. of-set _ _ (standsIn _) _ _ _ _ (c .before .before .before .pile2 .given .1) (c .before .count .ensures) (c .in-seen .ensures))
     (λ c.
     of-without _ _ (standsIn _) _ _ _ _ _ (c .before .before .before .before .pile3 .given .1)

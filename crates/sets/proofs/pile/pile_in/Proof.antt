@@ -2,7 +2,8 @@
 -- Assumes nothing.
 use borrow.Author.Needs.{needs}
 use native.Mathlib.Omega.{arith}
-use Rattle.sets.proofs.Loops.{pair-at}
+use Rattle.sets.proofs.Items.{pair-at}
+use Rattle.sets.proofs.Loops.{has-as}
 use Rattle.sets.proofs.Piles.{pile-one, pile-set, pile-without, set-members}
 use Rattle.sets.proofs.Piles.{of-empty, of-one, of-set, of-without, within-one, within-none, heldBy}
 use Rattle.sets.proofs.pile.pile_in.Statement.{statement}
@@ -14,11 +15,12 @@ pile-in-spec =
     (tie.spec
     (λ c. search needs)
     (λ c. search needs)
+    (λ c κs. search needs)
     (λ c κs.
-    let s = c .before .before .before .before .before in
+    let s = c .before .before .before .before .before .before in
     let p = s .pre in
-    let d = pile-one _ (p .pile-at) (c .before .pile .given .1) in
-    record { ends-of = p .ends-of; members = p .members; item-at = pair-at (d .0) (d .1) })
+    let d = pile-one _ (p .pile-at) (c .before .before .pile .given .1) in
+    record { ends-of = p .ends-of; members = p .members; item-at = pair-at (p .ends-of) (c .pair-item .ensures) (d .0) (d .1) })
     (λ c. search needs)
     (λ c κs.
     let s = c .before .before .before .before .before in
@@ -75,7 +77,9 @@ pile-in-spec =
       members = p .members;
     })
     (λ c. of-empty _ _ (heldBy _) _ (c .enum-told .given .1) (within-none _))
-    (λ c. of-one _ _ (heldBy _) _ _ _ (c .before .before .pile .given .1) (within-one _ _ (c .has-item .ensures)))
+    (λ c.
+    of-one _ _ (heldBy _) _ _ _ (c .before .before .before .pile .given .1)
+    (within-one _ _ (has-as _ _ (c .before .pair-item .ensures) _ (c .has-item .ensures))))
     (λ c. of-set _ _ (heldBy _) _ _ _ _ (c .before .before .before .pile2 .given .1) (c .before .count .ensures) (c .seen-in .ensures))
     (λ c.
     of-without _ _ (heldBy _) _ _ _ _ _ (c .before .before .before .before .pile3 .given .1)

@@ -7,7 +7,7 @@ use Rattle.sets.specs.Piles.{pilesNumbers}
 use Rattle.sets.specs.declared.item.View.the-variants.{Plain}
 use Rattle.sets.proofs.Members.{member-pass}
 use Rattle.sets.proofs.Loops.{Left, left-start, left-first, left-stop, left-on, left-end, within-stop}
-use Rattle.sets.proofs.Loops.{within-skip, stands-plain, end-within}
+use Rattle.sets.proofs.Loops.{within-skip, end-within}
 use Rattle.sets.proofs.pile.set_in.Statement.{statement}
 use Rattle.sets.proofs.pile.set_in.Tie as tie
 
@@ -32,7 +32,7 @@ set-in-spec =
     (λ c.
     let l = c .before .before .before .loop in
     left-stop (l .inv) (c .before .before .loop-test .taken)
-    (within-stop _ _ (c .before .in-piles .result) (stands-plain _ _ _ _ (c .before .in-piles .ensures))
+    (within-stop _ _ (c .before .in-piles .result) (c .before .in-piles .ensures)
     (not-true _ (c .if1 .taken))))
     (λ c κs.
     let l = c .before .before .before .loop in
@@ -45,5 +45,5 @@ set-in-spec =
     let l = c .before .before .before .before .loop in
     left-on (l .inv) (c .before .before .before .loop-test .taken) (c .past-member .ensures)
     (within-skip _ _ (c .before .before .in-piles .result)
-    (stands-plain _ _ _ _ (c .before .before .in-piles .ensures)) (not-false _ (c .before .if1 .left))))
+    (c .before .before .in-piles .ensures) (not-false _ (c .before .if1 .left))))
     (λ c. let l = c .before .loop in left-end (l .inv) (c .loop-test .left) (end-within _)))

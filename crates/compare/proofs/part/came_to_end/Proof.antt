@@ -1,10 +1,10 @@
--- `rule_laws::part::came_to_end` meets its contract.
+-- `compare::part::came_to_end` meets its contract.
 -- Assumes nothing.
 use borrow.Author.Needs.{needs}
 use borrow.Author.Tests.{not-true, not-false}
-use Rattle.rule_laws.proofs.Passing.{came-lost, came-end}
-use Rattle.rule_laws.proofs.part.came_to_end.Statement.{statement}
-use Rattle.rule_laws.proofs.part.came_to_end.Tie as tie
+use Rattle.compare.proofs.SameNumbers.{came-lost, came-end}
+use Rattle.compare.proofs.part.came_to_end.Statement.{statement}
+use Rattle.compare.proofs.part.came_to_end.Tie as tie
 
 pub came-to-end-spec : {M : Type 1} → statement M
 came-to-end-spec =

@@ -1,0 +1,29 @@
+use crate::cursor::Match;
+use crate::cursor::Put;
+use crate::expression::match_expression;
+use crate::part::came_to_end;
+use crate::part::same_parts;
+ghost use mathlib.Core.Path.{_≡_};
+ghost use Rattle.compare.specs.Matching.{sameNumbers};
+ghost use Rattle.compare.specs.Forms.{part, consequentNumbers, CanConsequent};
+
+// A consequent as the rules form it, by places: the expression at a place; the same with words put for a word.
+pub enum Consequent {
+    Written(usize),
+    Replaced(usize, Put),
+}
+
+// Whether the written consequent at `at` is the same as the one that a rule forms, by words.
+pub fn same_consequent(w: &[u32], ends: &[u32], at: usize, form: Consequent) -> bool
+    requires { ⌜ CanConsequent (now w) (now ends) «at» form ⌝ }
+    ensures { λ r. ⌜ r ≡ sameNumbers (part (now (w .entry)) (now (ends .entry)) «at»)
+        (consequentNumbers (now (w .entry)) (now (ends .entry)) form) ⌝ }
+{
+    match form {
+        Consequent::Written(a) => same_parts(w, ends, at, a),
+        Consequent::Replaced(a, put) => {
+            let m = match_expression(w, ends, Match { same: true, at }, a, put);
+            came_to_end(ends, m, at)
+        }
+    }
+}
