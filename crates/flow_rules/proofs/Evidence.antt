@@ -24,8 +24,8 @@ use Rattle.layout.proofs.Stands.{stands-chain}
 use Rattle.layout.proofs.Words.{payload-of-word}
 use Rattle.ends.specs.Ends.{EndsOf}
 use Rattle.compare.specs.Places.{endAt}
-use Rattle.rule_laws.specs.Places.{WrittenAt, CommandAt, SetAt}
-use Rattle.rule_laws.proofs.Places.{expression-past, command-past, written, commanded}
+use Rattle.goals.specs.Places.{WrittenAt, CommandAt, SetAt}
+use Rattle.goals.proofs.Places.{expression-past, command-past, written, commanded}
 use Rattle.set_laws.proofs.Sets.{carried-set}
 
 -- evidence by its rule

@@ -25,10 +25,10 @@ use Rattle.goals.specs.Goals.{TreeGoal, flow, set, pre, verdict, GoalStands, fl
 use Rattle.goals.specs.declared.Goal.the-variants.{Flow, Set, Pre}
 use Rattle.goals.specs.declared.Step.{Step}
 use Rattle.goals.specs.declared.Step.the-variants.{Stop}
-use Rattle.rule_laws.specs.Places.{WrittenAt, CommandAt, SetAt, PartKnown}
+use Rattle.goals.specs.Places.{WrittenAt, CommandAt, SetAt, PartKnown}
 use Rattle.rule_laws.specs.Steps.{leafStep}
-use Rattle.rule_laws.proofs.Places.{command-at, set-at, command-inside, set-known, at-written, at-command, at-set}
-use Rattle.rule_laws.proofs.Places as places
+use Rattle.goals.proofs.Places.{command-at, set-at, command-inside, set-known, at-written, at-command, at-set}
+use Rattle.goals.proofs.Places as places
 use Rattle.rule_laws.proofs.Children.{leaf-comes}
 use Rattle.flow_rules.specs.Tried.{CanTry, Tried}
 use Rattle.flow_rules.proofs.Evidence.{ChildAt, EvidenceAt, LeafAt}

@@ -28,10 +28,10 @@ use Rattle.compare.specs.Places.{endAt}
 use Rattle.compare.specs.declared.cursor.Put.{Put}
 use Rattle.goals.specs.declared.Step.{Step}
 use Rattle.goals.specs.declared.Step.the-variants.{Stop}
-use Rattle.rule_laws.specs.Places.{WrittenAt, PartKnown}
+use Rattle.goals.specs.Places.{WrittenAt, PartKnown}
 use Rattle.rule_laws.specs.Sameness.{CanKeep, KeptAt}
 use Rattle.rule_laws.specs.Steps.{leafStep}
-use Rattle.rule_laws.proofs.Places.{written-known}
+use Rattle.goals.proofs.Places.{written-known}
 use Rattle.rule_laws.proofs.Commands.{is-skip, is-scalar, is-array, is-assert, other-kind, other-than-skip}
 use Rattle.rule_laws.proofs.Commands.{other-than-scalar, other-than-array, other-than-assert}
 use Rattle.sets.specs.Trees.{ExpressionStands, PutStands, put-scalar, put-array, HasExpression}

@@ -23,9 +23,9 @@ use Rattle.ends.specs.Ends.{EndsOf}
 use Rattle.compare.specs.Places.{endAt}
 use Rattle.goals.specs.declared.Goal.the-variants.{Nothing, Flow, Set}
 use Rattle.goals.specs.declared.Step.the-variants.{Stop, Go}
-use Rattle.rule_laws.specs.Places.{CommandAt, PartKnown}
+use Rattle.goals.specs.Places.{CommandAt, PartKnown}
 use Rattle.rule_laws.specs.Sameness.{CanMean, MeaningAt}
-use Rattle.rule_laws.proofs.Places.{command-to, command-known, set-known}
+use Rattle.goals.proofs.Places.{command-to, command-known, set-known}
 use Rattle.rule_laws.proofs.Commands.{kindOf, is-sequence, is-for, other-kind, other-than-sequence, other-than-for}
 use Rattle.rule_laws.proofs.Children.{word-passes, word-fails, one-child, two-children}
 use Rattle.flow_rules.specs.Tried.{CanTry, Tried}

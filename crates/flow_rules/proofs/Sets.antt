@@ -27,8 +27,8 @@ use Rattle.ends.specs.Ends.{EndsOf}
 use Rattle.compare.specs.Places.{endAt}
 use Rattle.goals.specs.declared.Goal.the-variants.{Nothing, Flow, Pre}
 use Rattle.goals.specs.declared.Step.the-variants.{Stop, Go}
-use Rattle.rule_laws.specs.Places.{PartKnown}
-use Rattle.rule_laws.proofs.Places.{command-to, set-to, written-to, known-to, written-known, set-known}
+use Rattle.goals.specs.Places.{PartKnown}
+use Rattle.goals.proofs.Places.{command-to, set-to, written-to, known-to, written-known, set-known}
 use Rattle.rule_laws.proofs.Commands.{kindOf, is-while, other-kind, other-than-while}
 use Rattle.rule_laws.proofs.Children.{one-child, two-children}
 use Rattle.sets.specs.Rules.{CanThree, CanUnder, CanTest, SameUnion, SameUnder, SameWritten, TestStands}

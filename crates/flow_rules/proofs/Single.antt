@@ -29,10 +29,10 @@ use Rattle.ends.specs.Ends.{EndsOf}
 use Rattle.compare.specs.Places.{endAt}
 use Rattle.goals.specs.declared.Goal.the-variants.{Nothing, Flow, Pre}
 use Rattle.goals.specs.declared.Step.the-variants.{Stop, Go}
-use Rattle.rule_laws.specs.Places.{PartKnown}
+use Rattle.goals.specs.Places.{PartKnown}
 use Rattle.rule_laws.specs.Sameness.{SameAt, KeptAt}
-use Rattle.rule_laws.proofs.Places.{command-to, set-to, written-to, known-to, written-known, set-known, set-inside}
-use Rattle.rule_laws.proofs.Places as places
+use Rattle.goals.proofs.Places.{command-to, set-to, written-to, known-to, written-known, set-known, set-inside}
+use Rattle.goals.proofs.Places as places
 use Rattle.rule_laws.proofs.Commands.{kindOf, is-if, other-kind, other-than-if}
 use Rattle.rule_laws.proofs.Children.{word-passes, word-fails, one-child, three-children}
 use Rattle.sets.specs.Piles.{countAt}

@@ -103,7 +103,7 @@ module _ {file ends : List ℕ} where
   known-to h x = subst (λ n. PartKnown file ends n) (sym h) x
 
   known : {at : ℕ} → EndsOf file ends → Inside file at (endAt ends at) → PartKnown file ends at
-  known o i = let s = i .start in let w = i .within in let l = o .long in record { listed = omega arith; inside = w }
+  known o i = let s = i .start in let w = i .within in let l = o .long in record { listed = omega arith; start = s; inside = w }
 
   pub written-known : {k : Sort} {e : Expr k} {at : ℕ} → EndsOf file ends → WrittenAt file ends e at →
       PartKnown file ends at

@@ -19,7 +19,7 @@ use Rattle.compare.specs.declared.antecedent.Antecedent.{Antecedent}
 use Rattle.compare.specs.declared.antecedent.Antecedent.the-variants.{And, Split, Replaced, True}
 use Rattle.compare.proofs.Replaced.{scalar-replaces, array-replaces}
 use Rattle.compare.proofs.Halves.{has-fits, is-and, is-split, is-replaced, is-true, antecedent-same}
-use Rattle.rule_laws.specs.Places.{WrittenAt, PartKnown}
+use Rattle.goals.specs.Places.{WrittenAt, PartKnown}
 use Rattle.rule_laws.proofs.Passing.{written-has}
 use Rattle.pre_rules.specs.Conditions.{CanSplit, SplitAt, CanJoin, JoinAt, CanReplace, ReplacedAt, TrueAt}
 

@@ -21,10 +21,10 @@ use Rattle.ends.specs.Ends.{EndsOf}
 use Rattle.goals.specs.Goals.{TreeGoal, pre, verdict, GoalStands, pre-stands, Comes}
 use Rattle.goals.specs.declared.Goal.the-variants.{Pre}
 use Rattle.goals.specs.declared.Step.{Step}
-use Rattle.rule_laws.specs.Places.{WrittenAt, CommandAt, PartKnown}
+use Rattle.goals.specs.Places.{WrittenAt, CommandAt, PartKnown}
 use Rattle.rule_laws.specs.Steps.{leafStep}
-use Rattle.rule_laws.proofs.Places.{written-at, command-at, command-inside, written-known}
-use Rattle.rule_laws.proofs.Places as places
+use Rattle.goals.proofs.Places.{written-at, command-at, command-inside, written-known}
+use Rattle.goals.proofs.Places as places
 use Rattle.rule_laws.proofs.Children.{leaf-comes}
 use Rattle.pre_rules.specs.Tried.{CanTry, Tried}
 use Rattle.pre_rules.proofs.Evidence.{EvidenceAt, LeafAt}

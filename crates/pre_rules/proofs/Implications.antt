@@ -28,10 +28,10 @@ use Rattle.goals.specs.Goals.{TreeGoal, Comes, StepOf}
 use Rattle.goals.specs.declared.Goal.the-variants.{Nothing, Pre}
 use Rattle.goals.specs.declared.Step.{Step}
 use Rattle.goals.specs.declared.Step.the-variants.{Stop, Go}
-use Rattle.rule_laws.specs.Places.{WrittenAt, PartKnown}
+use Rattle.goals.specs.Places.{WrittenAt, PartKnown}
 use Rattle.rule_laws.specs.Implications.{CanImplyAt, ImpliesAt}
 use Rattle.rule_laws.specs.Steps.{settledStep}
-use Rattle.rule_laws.proofs.Places.{command-to, written-known}
+use Rattle.goals.proofs.Places.{command-to, written-known}
 use Rattle.rule_laws.proofs.Commands.{kindOf, is-while, other-kind, other-than-while}
 use Rattle.rule_laws.proofs.Implying.{deep}
 use Rattle.rule_laws.proofs.Children.{one-child, settled-comes}

@@ -24,10 +24,10 @@ use Rattle.layout.specs.Bytes.{kindAt, payloadAt}
 use Rattle.ends.specs.Ends.{EndsOf}
 use Rattle.goals.specs.declared.Step.{Step}
 use Rattle.goals.specs.declared.Step.the-variants.{Stop}
-use Rattle.rule_laws.specs.Places.{WrittenAt, CommandAt, PartKnown}
+use Rattle.goals.specs.Places.{WrittenAt, CommandAt, PartKnown}
 use Rattle.rule_laws.specs.Sameness.{SameAssertionAt, KeptAt}
 use Rattle.rule_laws.specs.Steps.{leafStep}
-use Rattle.rule_laws.proofs.Places.{written-known}
+use Rattle.goals.proofs.Places.{written-known}
 use Rattle.rule_laws.proofs.Commands.{is-skip, is-scalar, is-array, is-assert, other-kind, other-than-skip}
 use Rattle.rule_laws.proofs.Commands.{other-than-scalar, other-than-array, other-than-assert}
 use Rattle.pre_rules.specs.Tried.{CanTry, Tried}

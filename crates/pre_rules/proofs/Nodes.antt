@@ -24,9 +24,9 @@ use Rattle.compare.specs.Places.{endAt}
 use Rattle.goals.specs.Goals.{pre, GoalStands, pre-stands}
 use Rattle.goals.specs.declared.Goal.the-variants.{Nothing, Pre}
 use Rattle.goals.specs.declared.Step.the-variants.{Stop, Go}
-use Rattle.rule_laws.specs.Places.{WrittenAt, CommandAt, PartKnown}
+use Rattle.goals.specs.Places.{WrittenAt, CommandAt, PartKnown}
 use Rattle.rule_laws.specs.Sameness.{CanMean, MeaningAt}
-use Rattle.rule_laws.proofs.Places.{at-written, at-command, written-to, command-to, written-known, command-known}
+use Rattle.goals.proofs.Places.{at-written, at-command, written-to, command-to, written-known, command-known}
 use Rattle.rule_laws.proofs.Commands.{kindOf, is-if, is-sequence, is-for, other-kind, other-than-if}
 use Rattle.rule_laws.proofs.Commands.{other-than-sequence, other-than-for}
 use Rattle.rule_laws.proofs.Children.{word-passes, word-fails, one-child, two-children}

@@ -21,7 +21,7 @@ use Rattle.compare.specs.Places.{ExpressionAt}
 use Rattle.implication.specs.Sides.{resultOf}
 use Rattle.implication.specs.declared.Condition.{Condition}
 use Rattle.rule_laws.specs.Implications.{AssertionAt}
-use Rattle.rule_laws.specs.Places.{WrittenAt, PartKnown}
+use Rattle.goals.specs.Places.{WrittenAt, PartKnown}
 
 module _ (file ends : List ℕ) where
   -- φ at f, the test at b, φ1 at p, φ2 at q

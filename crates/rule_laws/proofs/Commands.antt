@@ -23,8 +23,8 @@ use Rattle.layout.proofs.Stands.{parted}
 use Rattle.layout.proofs.Words.{quotient, remainder, kind-of-word, payload-of-word}
 use Rattle.ends.specs.Ends.{EndsOf}
 use Rattle.compare.specs.Places.{endAt}
-use Rattle.rule_laws.specs.Places.{WrittenAt, CommandAt}
-use Rattle.rule_laws.proofs.Places.{expression-past, command-past, written, commanded}
+use Rattle.goals.specs.Places.{WrittenAt, CommandAt}
+use Rattle.goals.proofs.Places.{expression-past, command-past, written, commanded}
 
 abbrev pub kindOf : Command → ℕ
 kindOf skip = 24

@@ -17,9 +17,9 @@ use Rattle.implication.specs.Sides.{CanImply, Implied}
 use Rattle.implication.specs.declared.Condition.{Condition}
 use Rattle.implication.proofs.Levels.{stands-deeper}
 use Rattle.implication.specs.declared.Side.the-variants.{One}
-use Rattle.rule_laws.specs.Places.{WrittenAt, PartKnown}
+use Rattle.goals.specs.Places.{WrittenAt, PartKnown}
 use Rattle.rule_laws.specs.Implications.{AssertionAt, CanImplyAt, ImpliesAt}
-use Rattle.rule_laws.proofs.Places.{written-known}
+use Rattle.goals.proofs.Places.{written-known}
 
 module _ {file ends : List ℕ} where
   -- up to a place that is its end

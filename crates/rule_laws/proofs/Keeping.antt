@@ -16,5 +16,5 @@ kept-at {file} {ends} {e} {c} {past} {to} {mask} {r} f m g u =
     let test = subst (λ p. Unmarked file e p mask r) g u in
     record {
       expression = λ d p x y. test .expression d (x .levels) (x .stands) p (marks .command p (y .levels) (y .stands));
-      set = λ limits q p x y. test .set limits q (x .levels) (x .stands) p (marks .command p (y .levels) (y .stands));
+      set = λ Γ q p x y. test .set Γ q (x .levels) (x .stands) p (marks .command p (y .levels) (y .stands));
     }

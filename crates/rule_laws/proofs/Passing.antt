@@ -33,9 +33,9 @@ use Rattle.compare.proofs.Numbers.{operator-fits, comparison-fits, truth-fits}
 use Rattle.compare.proofs.Whole.{cursor}
 use Rattle.compare.proofs.SameNumbers.{came-same, numbers-same}
 use Rattle.compare.proofs.Halves.{PartHas, has, is-written, antecedent-same, is-plain, consequent-same}
-use Rattle.rule_laws.specs.Places.{WrittenAt, CommandAt}
+use Rattle.goals.specs.Places.{WrittenAt, CommandAt}
 use Rattle.rule_laws.specs.Sameness.{CanSame, SameAssertionAt, SameAt}
-use Rattle.rule_laws.proofs.Places.{command-inside}
+use Rattle.goals.proofs.Places.{command-inside}
 
 -- a cursor after words
 pub record Passes (file : List ℕ) (m : Match) (l : List Word) (n : Match) : Type 0 where

@@ -12,7 +12,7 @@ use Rattle.rules.specs.Condition.{implication}
 use Rattle.ends.specs.Ends.{EndsOf}
 use Rattle.implication.specs.Sides.{resultOf}
 use Rattle.implication.specs.declared.Condition.{Condition}
-use Rattle.rule_laws.specs.Places.{WrittenAt}
+use Rattle.goals.specs.Places.{WrittenAt}
 
 module _ (file ends : List ℕ) where
   pub record AssertionAt (at : ℕ) : Type 0 where

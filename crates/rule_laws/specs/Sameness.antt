@@ -16,12 +16,12 @@ use Rattle.language.specs.Syntax.{Sort, Boolean, Expr, Command, for}
 use Rattle.language.specs.Runs.{meaning}
 use Rattle.language.specs.Modifies.{identifiers}
 use Rattle.rules.specs.Assertion.{Members}
-use Rattle.rules.specs.Context.{Limits}
+use Rattle.rules.specs.Context.{Context}
 use Rattle.rules.specs.Sets.{setIdentifiers}
 use Rattle.rules.specs.Tests.{sameAntecedent, sameConsequent, unmodified}
 use Rattle.rules.specs.Words.{commandWords, sameWords}
 use Rattle.ends.specs.Ends.{EndsOf}
-use Rattle.rule_laws.specs.Places.{WrittenAt, CommandAt, SetAt, PartKnown}
+use Rattle.goals.specs.Places.{WrittenAt, CommandAt, SetAt, PartKnown}
 
 -- 25:0 27:q 1:1 30:0 8:2 2:q 2:m 25:0
 unfoldable pub startNumbers : ℕ → ℕ → List ℕ
@@ -64,5 +64,5 @@ module _ (file ends : List ℕ) where
   pub record KeptAt (e c : ℕ) (r : Bool) : Type 0 where
     pub expression : {k : Sort} (d : Expr k) (p : Command) → WrittenAt file ends d e → CommandAt file ends p c →
         r ≡ unmodified (identifiers d) p
-    pub set : (limits : Limits) (q : Members) (p : Command) → SetAt file ends limits q e → CommandAt file ends p c →
+    pub set : (Γ : Context) (q : Members) (p : Command) → SetAt file ends Γ q e → CommandAt file ends p c →
         r ≡ unmodified (setIdentifiers q) p

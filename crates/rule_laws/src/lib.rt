@@ -3,4 +3,3 @@
 pub mod same; // sameness of what stands at two places
 pub mod kept; // what a command does not modify
 pub mod imply; // implications between written assertions
-pub mod step; // what the word of a rule comes to

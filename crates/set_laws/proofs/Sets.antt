@@ -13,7 +13,7 @@ use lib.IntN.{pos}
 use lib.ListN.{length}
 use Rattle.rules.specs.Words.{words}
 use Rattle.rules.specs.Assertion.{Member, Members}
-use Rattle.rules.specs.Context.{Limits}
+use Rattle.rules.specs.Context.{Context}
 use Rattle.rules.specs.Condition.{onEmpty, onOne}
 use Rattle.layout.specs.Spelling.{FitsExpression, memberWords, membersWords, FitsMembers, FitsSet}
 use Rattle.layout.specs.EvidenceWords.{Part, setPart}
@@ -22,29 +22,29 @@ use Rattle.layout.proofs.Stands.{parted}
 use Rattle.layout.proofs.Words.{payload-of-word}
 use Rattle.ends.specs.Ends.{EndsOf}
 use Rattle.compare.specs.Places.{endAt}
-use Rattle.rule_laws.specs.Places.{WrittenAt, SetAt}
-use Rattle.rule_laws.proofs.Places.{expression-past, set-past, written, member-set}
+use Rattle.goals.specs.Places.{WrittenAt, SetAt}
+use Rattle.goals.proofs.Places.{expression-past, set-past, written, member-set}
 use Rattle.sets.specs.Items.{pastMember}
 use Rattle.sets.specs.Piles.{countAt}
 use Rattle.sets.specs.Trees.{SetStands, HasSet}
 use Rattle.set_laws.specs.Members.{MemberWritten, MembersWritten, OneWritten}
 
-module _ {file ends : List ℕ} {limits : Limits} {m : Members} {at : ℕ} where
-  pub set-stands : SetAt file ends limits m at → SetStands file m at
-  set-stands x = record { limits = limits; levels = x .levels; next = endAt ends at; stands = x .stands }
+module _ {file ends : List ℕ} {Γ : Context} {m : Members} {at : ℕ} where
+  pub set-stands : SetAt file ends Γ m at → SetStands file m at
+  set-stands x = record { Γ = Γ; levels = x .levels; next = endAt ends at; stands = x .stands }
 
-  pub has-set : SetAt file ends limits m at → HasSet file at
+  pub has-set : SetAt file ends Γ m at → HasSet file at
   has-set x = record { tree = m; stands = set-stands x }
 
-count-is : (file : List ℕ) (limits : Limits) (m : Members) (d at p : ℕ) → PartStands file (setPart limits m) d at p →
+count-is : (file : List ℕ) (Γ : Context) (m : Members) (d at p : ℕ) → PartStands file (setPart Γ m) d at p →
     countAt file at ≡ length m
 unfolding FitsSet
-count-is file limits m zero at p s = absurd (s .fit)
-count-is file limits m (suc d) at p s = payload-of-word file at 32 (pos (length m)) (s .stand .1) (s .fit .0 .1)
+count-is file Γ m zero at p s = absurd (s .fit)
+count-is file Γ m (suc d) at p s = payload-of-word file at 32 (pos (length m)) (s .stand .1) (s .fit .0 .1)
 
-module _ {file ends : List ℕ} {limits : Limits} {m : Members} {at : ℕ} (x : SetAt file ends limits m at) where
+module _ {file ends : List ℕ} {Γ : Context} {m : Members} {at : ℕ} (x : SetAt file ends Γ m at) where
   pub set-count : countAt file at ≡ length m
-  set-count = count-is file limits m (x .levels) at (endAt ends at) (x .stands)
+  set-count = count-is file Γ m (x .levels) at (endAt ends at) (x .stands)
 
 module _ {file ends : List ℕ} (o : EndsOf file ends) where
   member-to : (m : Member) (d at p : ℕ) → d ≤ 256 →
@@ -69,22 +69,22 @@ module _ {file ends : List ℕ} (o : EndsOf file ends) where
       let z = member-to m d at q h x in
       (z .0, subst (MembersWritten file ends l) (sym (z .1)) (members-to l d q p h y))
 
-  set-to : (limits : Limits) (m : Members) (d at p : ℕ) → d ≤ 256 → PartStands file (setPart limits m) d at p →
+  set-to : (Γ : Context) (m : Members) (d at p : ℕ) → d ≤ 256 → PartStands file (setPart Γ m) d at p →
       MembersWritten file ends m (at + 1)
   unfolding FitsSet
-  set-to limits m zero at p l s = absurd (s .fit)
-  set-to limits m (suc d) at p l s =
+  set-to Γ m zero at p l s = absurd (s .fit)
+  set-to Γ m (suc d) at p l s =
       members-to m d (at + 1) p (omega arith) (record { stand = s .stand .2; fit = s .fit .1 })
 
-  pub set-written : {limits : Limits} {m : Members} {at : ℕ} → SetAt file ends limits m at →
+  pub set-written : {Γ : Context} {m : Members} {at : ℕ} → SetAt file ends Γ m at →
       MembersWritten file ends m (at + 1)
-  set-written {limits} {m} {at} x = set-to limits m (x .levels) at (endAt ends at) (x .low) (x .stands)
+  set-written {Γ} {m} {at} x = set-to Γ m (x .levels) at (endAt ends at) (x .low) (x .stands)
 
-  pub carried-set : (limits : Limits) (m : Members) (l : List Part) (d at p : ℕ) → d ≤ 256 →
-      Chain file (setPart limits m ∷ l) d at p → SetAt file ends limits m at × Chain file l d (endAt ends at) p
-  carried-set limits m l d at p h c = (
-    member-set o limits m d at (c .0) h (c .1),
-    subst (λ q. Chain file l d q p) (set-past o limits m d at (c .0) (c .1)) (c .2),
+  pub carried-set : (Γ : Context) (m : Members) (l : List Part) (d at p : ℕ) → d ≤ 256 →
+      Chain file (setPart Γ m ∷ l) d at p → SetAt file ends Γ m at × Chain file l d (endAt ends at) p
+  carried-set Γ m l d at p h c = (
+    member-set o Γ m d at (c .0) h (c .1),
+    subst (λ q. Chain file l d q p) (set-past o Γ m d at (c .0) (c .1)) (c .2),
   )
 
 empty-by : (m : Members) → length m ≡ 0 → m ≡ []
@@ -108,7 +108,7 @@ one-by file ends [] at e w = absurd (omega arith)
 one-by file ends (n ∷ []) at e w = record { only = n; is = refl; only-at = w .0 }
 one-by file ends (n ∷ (k ∷ m)) at e w = absurd (omega arith)
 
-module _ {file ends : List ℕ} {limits : Limits} {m : Members} {at : ℕ} (x : SetAt file ends limits m at) where
+module _ {file ends : List ℕ} {Γ : Context} {m : Members} {at : ℕ} (x : SetAt file ends Γ m at) where
   pub is-empty : countAt file at ≡ 0 → m ≡ []
   is-empty e = empty-by m (sym (set-count x) ∙ e)
 

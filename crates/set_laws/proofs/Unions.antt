@@ -9,4 +9,4 @@ use Rattle.set_laws.specs.Unions.{UnionAt}
 use Rattle.set_laws.proofs.Sets.{set-stands}
 
 pub union-at : {file ends : List ℕ} {p s t : ℕ} {r : Bool} → SameUnion file p s t r → UnionAt file ends p s t r
-union-at h = record { is = λ limits l x y a b c. h .does l x y (set-stands a) (set-stands b) (set-stands c) }
+union-at h = record { is = λ Γ l x y a b c. h .does l x y (set-stands a) (set-stands b) (set-stands c) }

@@ -7,7 +7,7 @@ use mathlib.Core.List.{List, [], _∷_}
 use Prim.Native.Nat.{ℕ}
 use Rattle.rules.specs.Assertion.{Member, Members}
 use Rattle.compare.specs.Places.{endAt}
-use Rattle.rule_laws.specs.Places.{WrittenAt}
+use Rattle.goals.specs.Places.{WrittenAt}
 use Rattle.sets.specs.Items.{pastMember}
 
 module _ (file ends : List ℕ) where

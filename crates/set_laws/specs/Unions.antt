@@ -6,10 +6,10 @@ use mathlib.Core.Bool.{Bool}
 use mathlib.Core.List.{List, _++_}
 use Prim.Native.Nat.{ℕ}
 use Rattle.rules.specs.Assertion.{Members}
-use Rattle.rules.specs.Context.{Limits}
+use Rattle.rules.specs.Context.{Context}
 use Rattle.rules.specs.Tests.{same}
-use Rattle.rule_laws.specs.Places.{SetAt}
+use Rattle.goals.specs.Places.{SetAt}
 
 pub record UnionAt (file ends : List ℕ) (p s t : ℕ) (r : Bool) : Type 0 where
-  pub is : (limits : Limits) (l x y : Members) → SetAt file ends limits l p → SetAt file ends limits x s →
-      SetAt file ends limits y t → r ≡ same l (x ++ y)
+  pub is : (Γ : Context) (l x y : Members) → SetAt file ends Γ l p → SetAt file ends Γ x s →
+      SetAt file ends Γ y t → r ≡ same l (x ++ y)

@@ -26,8 +26,8 @@ use Rattle.implication.specs.declared.Condition.the-variants.{Passes, Fails, To
 use Rattle.implication.specs.declared.Side.the-variants.{One, False}
 use Rattle.goals.specs.declared.Goal.the-variants.{Nothing}
 use Rattle.goals.specs.declared.Step.the-variants.{Stop, Go}
-use Rattle.rule_laws.specs.Places.{WrittenAt}
-use Rattle.rule_laws.proofs.Places.{written-known}
+use Rattle.goals.specs.Places.{WrittenAt}
+use Rattle.goals.proofs.Places.{written-known}
 use Rattle.sets.specs.Items.{pastMember}
 use Rattle.sets.specs.Lists.{seenAll, withinAll}
 use Rattle.sets.specs.Standing.{CanPass, ViewAt, CanHold}

@@ -20,7 +20,7 @@ use Rattle.layout.proofs.Stands.{stands-chain}
 use Rattle.layout.proofs.Words.{payload-of-word}
 use Rattle.ends.specs.Ends.{EndsOf}
 use Rattle.compare.specs.Places.{endAt}
-use Rattle.rule_laws.specs.Places.{SetAt}
+use Rattle.goals.specs.Places.{SetAt}
 use Rattle.set_laws.proofs.Sets.{carried-set}
 
 -- evidence by its rule

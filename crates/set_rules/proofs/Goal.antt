@@ -27,9 +27,9 @@ use Rattle.implication.specs.declared.Condition.the-variants.{Passes, Fails, To
 use Rattle.goals.specs.Goals.{TreeGoal, set, verdict, GoalStands, set-stands, Comes, CanStep, StepOf}
 use Rattle.goals.specs.declared.Goal.the-variants.{Set}
 use Rattle.goals.specs.declared.Step.{Step}
-use Rattle.rule_laws.specs.Places.{SetAt}
+use Rattle.goals.specs.Places.{SetAt}
 use Rattle.rule_laws.specs.Steps.{leafStep}
-use Rattle.rule_laws.proofs.Places.{set-at, set-inside}
+use Rattle.goals.proofs.Places.{set-at, set-inside}
 use Rattle.rule_laws.proofs.Children.{no-children, leaf-comes}
 use Rattle.set_rules.specs.Tried.{CanTry, Tried, conditionStep}
 use Rattle.set_rules.proofs.Evidence.{EvidenceAt, LeafAt, listed}

@@ -40,10 +40,10 @@ use Rattle.goals.specs.Goals.{StepOf}
 use Rattle.goals.specs.declared.Goal.the-variants.{Set}
 use Rattle.goals.specs.declared.Step.{Step}
 use Rattle.goals.specs.declared.Step.the-variants.{Stop}
-use Rattle.rule_laws.specs.Places.{WrittenAt, SetAt, PartKnown}
+use Rattle.goals.specs.Places.{WrittenAt, SetAt, PartKnown}
 use Rattle.rule_laws.specs.Sameness.{SameAt}
 use Rattle.rule_laws.specs.Steps.{leafStep}
-use Rattle.rule_laws.proofs.Places.{written-known}
+use Rattle.goals.proofs.Places.{written-known}
 use Rattle.sets.specs.Piles.{countAt}
 use Rattle.set_laws.specs.Members.{OneWritten}
 use Rattle.set_laws.proofs.Sets.{has-set, set-count, set-written, is-empty, not-empty, is-one, not-one}

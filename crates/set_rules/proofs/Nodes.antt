@@ -15,7 +15,7 @@ use Rattle.compare.specs.Places.{endAt}
 use Rattle.goals.specs.Goals.{TreeGoal, verdict, set-stands, ChildrenOf}
 use Rattle.goals.specs.declared.Goal.the-variants.{Nothing, Set}
 use Rattle.goals.specs.declared.Step.the-variants.{Stop, Go}
-use Rattle.rule_laws.proofs.Places.{at-set}
+use Rattle.goals.proofs.Places.{at-set}
 use Rattle.rule_laws.proofs.Children.{word-passes, word-fails, two-children}
 use Rattle.sets.specs.Rules.{CanThree}
 use Rattle.set_laws.specs.Unions.{UnionAt}

@@ -30,8 +30,8 @@ use Rattle.layout.proofs.Words.{kind-of-word, payload-small}
 use Rattle.ends.specs.Ends.{EndsOf}
 use Rattle.compare.specs.Places.{endAt}
 use Rattle.compare.proofs.Operands.{operator-small, comparison-small, truth-small}
-use Rattle.rule_laws.specs.Places.{WrittenAt, PartKnown}
-use Rattle.rule_laws.proofs.Places.{expression-past, written, written-inside, written-known}
+use Rattle.goals.specs.Places.{WrittenAt, PartKnown}
+use Rattle.goals.proofs.Places.{expression-past, written, written-inside, written-known}
 use Rattle.sets.specs.Trees.{ExpressionStands, stands-empty, stands-one, HasPile, CanSameSet, SameSet}
 use Rattle.sets.specs.declared.pile.Pile.the-variants.{Empty, One}
 use Rattle.sets.specs.declared.pile.Piles.{Piles}

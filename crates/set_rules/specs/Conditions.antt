@@ -22,7 +22,7 @@ use Rattle.rules.specs.Tests.{within, same}
 use Rattle.ends.specs.Ends.{EndsOf}
 use Rattle.implication.specs.Sides.{resultOf}
 use Rattle.implication.specs.declared.Condition.{Condition}
-use Rattle.rule_laws.specs.Places.{WrittenAt, SetAt}
+use Rattle.goals.specs.Places.{WrittenAt, SetAt}
 use Rattle.sets.specs.Trees.{HasSet}
 use Rattle.set_laws.specs.Members.{MembersWritten}
 

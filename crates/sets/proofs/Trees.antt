@@ -14,7 +14,7 @@ use lib.ListN.{length}
 use Rattle.language.specs.Syntax.{Sort, Boolean, Expr, and, neg, Assignment}
 use Rattle.rules.specs.Words.{words}
 use Rattle.rules.specs.Assertion.{Member, Members, member}
-use Rattle.rules.specs.Context.{Limits}
+use Rattle.rules.specs.Context.{Context}
 use Rattle.rules.specs.Replace.{Replacement, replacement, replace, replaceMembers}
 use Rattle.rules.specs.Sets.{under}
 use Rattle.rules.specs.Tests.{same}
@@ -98,17 +98,17 @@ module _ {file ends : List ℕ} (ends-of : EndsOf file ends) where
       let z = member-to m d at q x in
       (z .0, subst (MembersAre file ends l) (sym (z .1)) (members-to l d q p y))
 
-  set-to : (limits : Limits) (l : Members) (d at p : ℕ) → PartStands file (setPart limits l) d at p → SetIs file ends l at
+  set-to : (Γ : Context) (l : Members) (d at p : ℕ) → PartStands file (setPart Γ l) d at p → SetIs file ends l at
   unfolding FitsSet
-  set-to limits l zero at p s = absurd (s .fit)
-  set-to limits l (suc d) at p s = record {
+  set-to Γ l zero at p s = absurd (s .fit)
+  set-to Γ l (suc d) at p s = record {
     inside = s .stand .0;
     count = payload-of-word file at 32 (pos (length l)) (s .stand .1) (s .fit .0 .1);
     members = members-to l d (at + 1) p (record { stand = s .stand .2; fit = s .fit .1 });
   }
 
   pub set-is : {l : Members} {at : ℕ} → SetStands file l at → SetIs file ends l at
-  set-is {l} {at} x = set-to (x .limits) l (x .levels) at (x .next) (x .stands)
+  set-is {l} {at} x = set-to (x .Γ) l (x .levels) at (x .next) (x .stands)
 
 module _ {file ends : List ℕ} where
   pub member-place : {m : Member} {at : ℕ} → MemberIs file ends m at → MemberAt file ends at

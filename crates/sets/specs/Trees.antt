@@ -12,7 +12,7 @@ use mathlib.Core.List.{List, [], _++_}
 use Prim.Native.Nat.{ℕ, _+_, _*_, _≤_}
 use Rattle.language.specs.Syntax.{Sort, Arithmetic, Boolean, Array, Expr, neg, Assignment, toScalar, toArray}
 use Rattle.rules.specs.Assertion.{Members, one}
-use Rattle.rules.specs.Context.{Limits}
+use Rattle.rules.specs.Context.{Context}
 use Rattle.rules.specs.Replace.{replacement, replaceMembers}
 use Rattle.rules.specs.Sets.{under, without}
 use Rattle.rules.specs.Tests.{same}
@@ -32,10 +32,10 @@ module _ (file : List ℕ) where
     pub stands : PartStands file (expressionPart e) levels at next
 
   pub record SetStands (p : Members) (at : ℕ) : Type 0 where
-    pub limits : Limits
+    pub Γ : Context
     pub levels : ℕ
     pub next : ℕ
-    pub stands : PartStands file (setPart limits p) levels at next
+    pub stands : PartStands file (setPart Γ p) levels at next
 
   -- the word k:x, and a right side between the two places
   pub record RightSide {j : Sort} (put : Put) (k x : ℕ) (e : Expr j) : Type 0 where

@@ -2,7 +2,7 @@
 -- Assumes nothing.
 use native.Mathlib.Omega.{arith}
 use borrow.Author.Tests.{not-true, not-false}
-use Rattle.rule_laws.proofs.Places.{known-to}
+use Rattle.goals.proofs.Places.{known-to}
 use Rattle.pre_rules.proofs.Goal.{low-head, command-head}
 use Rattle.pre_rules.proofs.Nodes.{if-stops, split-stops, if-goes, if-places}
 use Rattle.pre_rules.proofs.node.rule_20.Statement.{statement}

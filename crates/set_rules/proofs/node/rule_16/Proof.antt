@@ -3,7 +3,7 @@
 use mathlib.Core.Path.{refl}
 use native.Mathlib.Omega.{arith}
 use borrow.Author.Tests.{not-true, not-false}
-use Rattle.rule_laws.proofs.Places.{set-known}
+use Rattle.goals.proofs.Places.{set-known}
 use Rattle.set_laws.proofs.Unions.{union-at}
 use Rattle.set_rules.proofs.Goal.{low-head}
 use Rattle.set_rules.proofs.Nodes.{carried-16, can-unite-first, can-unite-second, first-stops, second-stops}

@@ -3,7 +3,7 @@
 use mathlib.Core.Path.{refl}
 use native.Mathlib.Omega.{arith}
 use borrow.Author.Tests.{not-true, not-false}
-use Rattle.rule_laws.proofs.Places.{set-known}
+use Rattle.goals.proofs.Places.{set-known}
 use Rattle.set_rules.proofs.Goal.{low-head}
 use Rattle.set_rules.proofs.Nodes.{carried-17, can-rest, rest-stops, rest-tried}
 use Rattle.set_rules.proofs.node.rule_17.Statement.{statement}
