@@ -2,8 +2,10 @@
 -- Assumes nothing.
 --     Left                               what is left of a row, and its place
 --     past-start, past-step, past-end    at the start; past an item that is carried; where none is carried
+--     Passing, passing-start, passing-step, passing-end    the same of the code's row
+--     row-of                             the row of a goal, by its judgement
 --     carried-falls                      a row gets smaller by an item that is carried
-use mathlib.Core.Path.{_≡_, refl, sym, ap, _∙_}
+use mathlib.Core.Path.{_≡_, refl, sym, ap, subst, _∙_}
 use mathlib.Core.Bool.{Bool, true, false, _||_}
 use mathlib.Core.List.{List, [], _∷_}
 use Prim.Native.Nat.{ℕ, zero, suc, _/_, _<_}
@@ -12,9 +14,10 @@ use lib.Dec.{eqb}
 use Rattle.laws.proofs.Bools.{clash}
 use Rattle.rules.specs.Evidence.{Judgement, flow, implication, precondition, Item, assertionItem}
 use Rattle.rules.specs.Evidence.{commandItem, membersItem, childItem}
-use Rattle.words.specs.Rows.{digit, packed}
+use Rattle.words.specs.Rows.{digit, packed, rowOf}
 use Rattle.words.proofs.RowItems.{digit-first, digit-rest}
-use Rattle.goals.specs.Children.{carriedOff, pastCarried}
+use Rattle.goals.specs.declared.Goal.{Goal}
+use Rattle.goals.specs.Children.{judgementOf, carriedOff, pastCarried}
 use Rattle.compare.specs.Places.{endAt}
 use Rattle.judge.specs.Row.{isCarried, PastCarried}
 use Rattle.judge.specs.declared.row.First.{First}
@@ -41,7 +44,7 @@ child-item flow = refl
 child-item implication = refl
 child-item precondition = refl
 
-module _ {ends : List ℕ} {l : List Item} {at next : ℕ} where
+module _ (ends : List ℕ) (l : List Item) (at next : ℕ) where
   step : (m : List Item) {e : ℕ} → e ≡ endAt ends next → isCarried (packed m) ≡ true →
       pastCarried ends m next ≡ pastCarried ends l at → carriedOff m ≡ carriedOff l →
       Left ends l at (packed m / 8) e
@@ -75,3 +78,22 @@ module _ {ends : List ℕ} {l : List Item} {at next : ℕ} where
 pub carried-falls : (rest : ℕ) → isCarried rest ≡ true → rest / 8 < rest
 carried-falls zero c = clash c refl
 carried-falls (suc n) c = omega arith
+
+-- the same of the code's row, whatever its items
+pub record Passing (ends : List ℕ) (row at rest next : ℕ) : Type 0 where
+  pub left : (l : List Item) → row ≡ packed l → Left ends l at rest next
+
+pub passing-start : (ends : List ℕ) (row at : ℕ) → Passing ends row at row at
+passing-start ends row at = record { left = λ l e. past-start ends l at row e }
+
+module _ {ends : List ℕ} {row at rest next : ℕ} (p : Passing ends row at rest next) where
+  pub passing-step : {e : ℕ} → isCarried rest ≡ true → e ≡ endAt ends next → Passing ends row at (rest / 8) e
+  passing-step c h = record { left = λ l i. past-step ends l at next (p .left l i) h c }
+
+  pub passing-end : isCarried rest ≡ false → PastCarried ends row at (record { at = next; rest = rest })
+  passing-end c = record { past = λ l i. past-end ends l at next (p .left l i) c }
+
+-- the row of a goal by its judgement
+pub row-of : {goal g : Goal} {r : ℕ} (rule : ℕ) → goal ≡ g → r ≡ rowOf (judgementOf g) rule →
+    r ≡ rowOf (judgementOf goal) rule
+row-of {r = r} rule e h = subst (λ x. r ≡ rowOf (judgementOf x) rule) (sym e) h
