@@ -15,7 +15,8 @@ use Rattle.rules.specs.Judge.{Verdict, accepted}
 use Rattle.layout.specs.EvidenceWords.{spelledTree, FitsTree}
 use Rattle.layout.proofs.Stands.{stands-end, stands-inside}
 use Rattle.layout.proofs.SpelledEvidence.{TreeAt, head-inside}
-use Rattle.layout.proofs.Counted.{count-length, Counts, tally, tree-tally, flow-counts, set-counts, pre-counts}
+use Rattle.rules.proofs.Holds.{tally}
+use Rattle.layout.proofs.Counted.{count-length, Counts, tree-tally, flow-counts, set-counts, pre-counts}
 use Rattle.goals.specs.declared.Goal.{Goal}
 use Rattle.goals.specs.Goals.{TreeGoal, verdict, GoalStands, flow-stands, set-stands, pre-stands}
 use Rattle.goals.proofs.Places.{written-inside, command-inside, set-inside}

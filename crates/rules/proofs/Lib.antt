@@ -8,6 +8,7 @@
 --     Forms          commands and sets taken apart by their form
 --     Judged         the judge accepts exactly the derivations
 --     Verdicts       verdicts one after the other
+--     Holds          what holds of every verdict
 --     Replaced       substitution, in values
 --     Starts         what is known of commands and stores
 --     Agreement      agreement as sets demand
@@ -21,6 +22,7 @@ pub mod Implication
 pub mod Forms
 pub mod Judged
 pub mod Verdicts
+pub mod Holds
 pub mod Replaced
 pub mod Starts
 pub mod Agreement
