@@ -3,8 +3,7 @@
 --     parts-places                     the places of the parts, part by part
 --     empty-head, not-headed, headed-read    refusals 2 and 6, as the code has them
 --     words-read                       the layout's `wordsRead` is `readOf`, then refusal 7
---     found-file, refused-file         what places say of what was read
---     went                             a walk that goes on has read something
+--     refused-file                     what a refusal says of what was read
 use mathlib.Core.Path.{_≡_, refl, sym, _∙_, ap}
 use mathlib.Core.Bool.{Bool, true, false, cond, false≢true, true≢false}
 use mathlib.Core.List.{List}
@@ -29,7 +28,6 @@ use Rattle.reader.specs.File.{places, placesOf, byWalk, fromPre, fromPos
 use Rattle.reader.specs.File.{readOf}
 use Rattle.reader.specs.declared.Walk.{Walk}
 use Rattle.reader.specs.declared.Walk.the-variants.{Next}
-use Rattle.reader.specs.declared.Places.{Places}
 use Rattle.reader.specs.declared.Layout.{Layout}
 use Rattle.reader.specs.declared.Layout.the-variants.{Found, Refused}
 
@@ -150,30 +148,6 @@ module _ (Γ : Context) (w : List ℕ) where
       go true = finish-steady (parts Γ w)
       go false = refl
 
--- ---- what an answer says of the reading
--- the file that was read at these places
-pub record FileAt (x : Reading File) (s : Places) : Type 0 where
-  pub file : File
-  pub was-read : x ≡ read file (s .end)
-  pub pre : file .preAt ≡ s .pre
-  pub post : file .postAt ≡ s .post
-  pub evidence : file .evidenceAt ≡ s .evidence
-
-pub found-file : (x : Reading File) (s : Places) → Found s ≡ placesOf x → FileAt x s
-found-file (read f p) s e =
-    let k : p ≡ s .end = cc in
-    record { file = f; was-read = ap (λ q. read f q) k; pre = (cc); post = (cc); evidence = (cc) }
-found-file (fault n p) s e = let z : _≡_ {A = ℕ} 0 1 = cc in absurd (omega arith)
-
 pub refused-file : (x : Reading File) (r : Refusal) → Refused r ≡ placesOf x → x ≡ fault (r .number) (r .place)
 refused-file (read f q) r e = let z : _≡_ {A = ℕ} 0 1 = cc in absurd (omega arith)
 refused-file (fault m q) r e = cc
-
--- what a walk that goes on has read
-pub record ReadTo {A : Type 0} (x : Reading A) (p : ℕ) : Type 0 where
-  pub item : A
-  pub was-read : x ≡ read item p
-
-pub went : {A : Type 0} (x : Reading A) (p : ℕ) → Next p ≡ walkOf x → ReadTo x p
-went (read a q) p e = record { item = a; was-read = ap (λ n. read a n) (cc) }
-went (fault n q) p e = let z : _≡_ {A = ℕ} 0 1 = cc in absurd (omega arith)
