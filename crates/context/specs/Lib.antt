@@ -1,3 +1,3 @@
 -- The context in code.
---     Contexts    the context that it is
+--     Contexts    the context that it is, and refusals
 pub mod Contexts

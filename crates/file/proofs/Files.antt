@@ -1,6 +1,5 @@
 -- Refusals 2 to 7 on words, and 1 to 7 on bytes, by what the code finds.
 -- Assumes nothing.
---     can-table                                       room for the table
 --     steady-tabled, unsteady-tabled, refused-tabled  7 lets the words pass; 7; 2 to 6
 --     bad-read, loaded-room, loaded-file              1; the words that were loaded
 --     Words, file-words                               the words of a file that was read
@@ -17,10 +16,10 @@ use Rattle.words.specs.Load.{Loaded}
 use Rattle.words.proofs.Loading.{words-length, loaded-words}
 use Rattle.words.proofs.Lengths.{bad-file, good-file, good-length, AllLoaded, all-loaded}
 use Rattle.ends.specs.Ends.{EndsOf}
-use Rattle.ends.specs.Sizes.{CanTable}
-use Rattle.reader.specs.Walk.{limitsOf}
+use Rattle.context.specs.Contexts.{contextOf, refusal}
 use Rattle.reader.specs.File.{placesOf, readOf}
-use Rattle.reader.specs.declared.Context.{Context}
+use Rattle.context.specs.declared.Context.{Context}
+use Rattle.context.specs.declared.Refusal.{Refusal}
 use Rattle.reader.specs.declared.Places.{Places}
 use Rattle.reader.specs.declared.Layout.{Layout}
 use Rattle.reader.specs.declared.Layout.the-variants as Layout
@@ -32,49 +31,46 @@ use Rattle.file.proofs.Found.{found-read, found-whole, steady-none, ste
 use Rattle.file.proofs.Found.{words-steady, words-unsteady, words-refused}
 
 -- ---- refusals 2 to 7
-pub can-table : {w table : List ℕ} → Room w table → CanTable w table
-can-table r = record { room = r .room; small = omega (arith, r .size) }
-
 -- a refusal has no places
-not-found : {A : Type 0} {n p : ℕ} {s : Places} → Layout.Refused n p ≡ Layout.Found s → A
+not-found : {A : Type 0} {x : Refusal} {s : Places} → Layout.Refused x ≡ Layout.Found s → A
 not-found e = absurd (let z : _≡_ {A = ℕ} 0 1 = cc in omega arith)
 
 module _ {Γ : Context} {w table : List ℕ} where
   pub steady-tabled : {s : Places} → Found w Γ s → EndsOf w table → (r : Steadiness) → FirstFound w r →
       r ≡ Steady → Tabled w Γ (Layout.Found s) table
   steady-tabled {s} h k r f e =
-      let x = found-read (readOf (limitsOf Γ) w) s (h .found) in
-      let none = steady-none (limitsOf Γ) w (found-whole (limitsOf Γ) w s (h .found))
+      let x = found-read (readOf (contextOf Γ) w) s (h .found) in
+      let none = steady-none (contextOf Γ) w (found-whole (contextOf Γ) w s (h .found))
       (subst (λ (z : Steadiness). FirstFound w z) e f) in
       record {
         layout = ap Layout.Found (x .at)
-            ∙ sym (ap placesOf (words-steady (limitsOf Γ) w (x .file) (x .end) (x .was-read) none));
+            ∙ sym (ap placesOf (words-steady (contextOf Γ) w (x .file) (x .end) (x .was-read) none));
         ends-of = λ _ _. k;
       }
 
   pub unsteady-tabled : {s : Places} → Found w Γ s → (r : Steadiness) (at : ℕ) → FirstFound w r → r ≡ At at →
-      Tabled w Γ (Layout.Refused 7 at) table
+      Tabled w Γ (Layout.Refused (refusal 7 at)) table
   unsteady-tabled {s} h r at f e =
-      let x = found-read (readOf (limitsOf Γ) w) s (h .found) in
-      let some = steady-some (limitsOf Γ) w at (found-whole (limitsOf Γ) w s (h .found))
+      let x = found-read (readOf (contextOf Γ) w) s (h .found) in
+      let some = steady-some (contextOf Γ) w at (found-whole (contextOf Γ) w s (h .found))
       (subst (λ (z : Steadiness). FirstFound w z) e f) in
       record {
-        layout = sym (ap placesOf (words-unsteady (limitsOf Γ) w (x .file) (x .end) at (x .was-read) some));
+        layout = sym (ap placesOf (words-unsteady (contextOf Γ) w (x .file) (x .end) at (x .was-read) some));
         ends-of = λ s z. not-found z;
       }
 
-  pub refused-tabled : (r : Layout) (n p : ℕ) → r ≡ placesOf (readOf (limitsOf Γ) w) → r ≡ Layout.Refused n p →
-      Tabled w Γ (Layout.Refused n p) table
-  refused-tabled r n p e h = record {
-    layout = sym (ap placesOf (words-refused (limitsOf Γ) w n p (sym h ∙ e)));
-    ends-of = λ s z. not-found z;
+  pub refused-tabled : (r : Layout) (x : Refusal) → r ≡ placesOf (readOf (contextOf Γ) w) → r ≡ Layout.Refused x →
+      Tabled w Γ r table
+  refused-tabled r x e h = record {
+    layout = h ∙ sym (ap placesOf (words-refused (contextOf Γ) w x (sym h ∙ e)));
+    ends-of = λ s z. not-found (sym h ∙ z);
   }
 
 -- ---- refusal 1
 pub bad-read : {bytes words table : List ℕ} (Γ : Context) → badLength bytes ≡ true →
-    FileRead bytes Γ (Layout.Refused 1 0) words table
+    FileRead bytes Γ (Layout.Refused (refusal 1 0)) words table
 bad-read {bytes} Γ h = record {
-  layout = sym (ap placesOf (bad-file (limitsOf Γ) bytes h));
+  layout = sym (ap placesOf (bad-file (contextOf Γ) bytes h));
   size = λ s z. not-found z;
   from-words = λ s z. not-found z;
   loaded = λ s z. not-found z;
@@ -102,10 +98,10 @@ loaded-file {bytes} {after = after} {table′} {Γ} {n} {r} c h l t =
     let f = c .fits h in
     let whole : n ≡ length bytes / 4 = loaded-words l (omega arith) .0 in
     record {
-      layout = t .layout ∙ ap (λ z. placesOf (wordsRead (limitsOf Γ) z)) (a .words)
-          ∙ sym (ap placesOf (good-file (limitsOf Γ) bytes h));
+      layout = t .layout ∙ ap (λ z. placesOf (wordsRead (contextOf Γ) z)) (a .words)
+          ∙ sym (ap placesOf (good-file (contextOf Γ) bytes h));
       size = λ s e. good-length bytes h;
-      from-words = λ s e. good-file (limitsOf Γ) bytes h;
+      from-words = λ s e. good-file (contextOf Γ) bytes h;
       loaded = λ s e. subst (λ k. take k after ≡ wordsOf bytes) whole (a .words);
       inside = λ s e. subst (λ k. k ≤ length after) whole (a .inside);
       ends-of = λ s e. subst (λ z. EndsOf z table′) (a .words) (t .ends-of s e);
@@ -117,8 +113,8 @@ pub record Words (bytes : List ℕ) (Γ : Context) (s : Places) (words table : L
   pub inside : length bytes / 4 ≤ length words
   pub size : length (take (length bytes / 4) words) ≤ 8192
   pub ends-of : EndsOf (take (length bytes / 4) words) table
-  pub was-read : Layout.Found s ≡ placesOf (wordsRead (limitsOf Γ) (take (length bytes / 4) words))
-  pub of-file : wordsRead (limitsOf Γ) (take (length bytes / 4) words) ≡ fileOf (limitsOf Γ) bytes
+  pub was-read : Layout.Found s ≡ placesOf (wordsRead (contextOf Γ) (take (length bytes / 4) words))
+  pub of-file : wordsRead (contextOf Γ) (take (length bytes / 4) words) ≡ fileOf (contextOf Γ) bytes
 
 pub file-words : {bytes words table : List ℕ} {Γ : Context} {r : Layout} {s : Places} →
     FileRead bytes Γ r words table → r ≡ Layout.Found s → Words bytes Γ s words table
@@ -126,8 +122,8 @@ file-words {bytes} {words} {table} {Γ} {r} {s} f e =
     let w = f .loaded s e in
     let long : length (take (length bytes / 4) words) ≡ length bytes / 4 = ap length w ∙ words-length bytes in
     let small = f .size s e in
-    let read : wordsRead (limitsOf Γ) (take (length bytes / 4) words) ≡ fileOf (limitsOf Γ) bytes =
-    ap (wordsRead (limitsOf Γ)) w ∙ sym (f .from-words s e) in
+    let read : wordsRead (contextOf Γ) (take (length bytes / 4) words) ≡ fileOf (contextOf Γ) bytes =
+    ap (wordsRead (contextOf Γ)) w ∙ sym (f .from-words s e) in
     record {
       count = sym long;
       inside = f .inside s e;

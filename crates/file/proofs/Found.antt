@@ -5,6 +5,7 @@
 --     steady-none, steady-some                       refusal 7, by the scan's answer
 --     words-steady, words-unsteady, words-refused    refusals 2 to 7, by what the code finds
 --     read-stands                                    the parts of a file that they let pass
+--     standard-context                               document 01's context, in code
 use mathlib.Core.Path.{_≡_, refl, sym, _∙_}
 use mathlib.Core.Bool.{Bool, true, false}
 use mathlib.Core.List.{List}
@@ -13,11 +14,13 @@ use Prim.Native.Nat.{ℕ, _≤_}
 use native.Mathlib.Omega.{arith}
 use borrow.Author.Tests.{eqb-true, ltb-false}
 use lib.Dec.{ltb}
-use Rattle.rules.specs.Context.{Context}
+use Rattle.rules.specs.Context.{Context, standard}
 use Rattle.layout.specs.Bytes.{wordCount}
 use Rattle.layout.specs.Reading.{Reading, read, fault, onRead}
 use Rattle.layout.specs.For.{firstUnsteady}
 use Rattle.layout.specs.File.{File, parts, steadyFile, wordsRead}
+use Rattle.context.specs.Contexts.{contextOf}
+use Rattle.context.specs.declared.Refusal.{Refusal}
 use Rattle.reader.specs.File.{places, placesOf, ended, headed, readOf}
 use Rattle.reader.specs.declared.Places.{Places}
 use Rattle.reader.specs.declared.Layout.the-variants as Layout
@@ -104,8 +107,9 @@ module _ (Γ : Context) (w : List ℕ) where
   unfolding steadyFile
   words-unsteady f p at e h = words-read Γ w ∙ rw e (rw (h, steadyFile) refl)
 
-  pub words-refused : (n p : ℕ) → Layout.Refused n p ≡ placesOf (readOf Γ w) → wordsRead Γ w ≡ fault n p
-  words-refused n p e = words-read Γ w ∙ rw (refused-file (readOf Γ w) n p e) refl
+  pub words-refused : (x : Refusal) → Layout.Refused x ≡ placesOf (readOf Γ w) →
+      wordsRead Γ w ≡ fault (x .number) (x .place)
+  words-refused x e = words-read Γ w ∙ rw (refused-file (readOf Γ w) x e) refl
 
   -- a file that 2 to 7 let pass
   steady-read : (x : Reading File) (f : File) (p : ℕ) → onRead x (steadyFile Γ w) ≡ read f p → x ≡ read f p
@@ -119,3 +123,7 @@ module _ (Γ : Context) (w : List ℕ) where
 
   pub read-stands : (f : File) (p : ℕ) → wordsRead Γ w ≡ read f p → PartsTo Γ w f p
   read-stands f p e = read-file f p (steady-read (readOf Γ w) f p (sym (words-read Γ w) ∙ e)) .stands
+
+pub standard-context : contextOf (record { comparisons = 10; depth = 128; members = 64 }) ≡ standard
+unfolding standard
+standard-context = refl

@@ -12,9 +12,9 @@ use lib.ListN.{length, take}
 use Rattle.layout.specs.Bytes.{wordsOf}
 use Rattle.layout.specs.File.{badLength, wordsRead, fileOf}
 use Rattle.ends.specs.Ends.{EndsOf}
-use Rattle.reader.specs.Walk.{limitsOf}
+use Rattle.context.specs.Contexts.{contextOf}
 use Rattle.reader.specs.File.{placesOf, readOf}
-use Rattle.reader.specs.declared.Context.{Context}
+use Rattle.context.specs.declared.Context.{Context}
 use Rattle.reader.specs.declared.Places.{Places}
 use Rattle.reader.specs.declared.Layout.{Layout}
 use Rattle.reader.specs.declared.Layout.the-variants as Layout
@@ -24,10 +24,10 @@ pub record Room (file table : List ℕ) : Type 0 where
   pub room : length file + 2 * (length file / 32) ≤ length table
 
 pub record Found (file : List ℕ) (Γ : Context) (s : Places) : Type 0 where
-  pub found : Layout.Found s ≡ placesOf (readOf (limitsOf Γ) file)
+  pub found : Layout.Found s ≡ placesOf (readOf (contextOf Γ) file)
 
 pub record Tabled (file : List ℕ) (Γ : Context) (r : Layout) (table : List ℕ) : Type 0 where
-  pub layout : r ≡ placesOf (wordsRead (limitsOf Γ) file)
+  pub layout : r ≡ placesOf (wordsRead (contextOf Γ) file)
   pub ends-of : (s : Places) → r ≡ Layout.Found s → EndsOf file table
 
 pub record CanLoad (bytes words table : List ℕ) : Type 0 where
@@ -36,10 +36,10 @@ pub record CanLoad (bytes words table : List ℕ) : Type 0 where
 
 -- the words stand in front of the room that was lent for them
 pub record FileRead (bytes : List ℕ) (Γ : Context) (r : Layout) (words table : List ℕ) : Type 0 where
-  pub layout : r ≡ placesOf (fileOf (limitsOf Γ) bytes)
+  pub layout : r ≡ placesOf (fileOf (contextOf Γ) bytes)
   pub size : (s : Places) → r ≡ Layout.Found s → length bytes ≤ 32768
   pub from-words : (s : Places) → r ≡ Layout.Found s →
-      fileOf (limitsOf Γ) bytes ≡ wordsRead (limitsOf Γ) (wordsOf bytes)
+      fileOf (contextOf Γ) bytes ≡ wordsRead (contextOf Γ) (wordsOf bytes)
   pub loaded : (s : Places) → r ≡ Layout.Found s → take (length bytes / 4) words ≡ wordsOf bytes
   pub inside : (s : Places) → r ≡ Layout.Found s → length bytes / 4 ≤ length words
   pub ends-of : (s : Places) → r ≡ Layout.Found s → EndsOf (wordsOf bytes) table

@@ -1,8 +1,9 @@
 // A file from its bytes (document 01, "Judging order" 1 to 7): its words and their table in lent room, and the places of its parts,
 // or the refusal. Every call that takes a file begins here.
+use context::Context;
+use context::Refusal;
 use ends::fill_table;
 use reader::Layout;
-use reader::Limits;
 use reader::Places;
 use reader::file::read_words;
 use scan::steady::Steadiness;
@@ -11,14 +12,14 @@ use words::load::bad_length;
 use words::load::load;
 ghost use mathlib.Core.Path.{_≡_};
 ghost use Rattle.rules.specs.Context.{standard};
-ghost use Rattle.reader.specs.Walk.{limitsOf};
+ghost use Rattle.context.specs.Contexts.{contextOf};
 ghost use Rattle.file.specs.Found.{Found, Room, Tabled, CanLoad, FileRead};
 
-// Document 01's limits.
-pub fn standard_limits() -> Limits
-    ensures { λ r. ⌜ limitsOf r ≡ standard ⌝ }
+// Document 01's context.
+pub fn standard_context() -> Context
+    ensures { λ r. ⌜ contextOf r ≡ standard ⌝ }
 {
-    Limits {
+    Context {
         comparisons: 10,
         depth: 128,
         members: 64,
@@ -26,38 +27,41 @@ pub fn standard_limits() -> Limits
 }
 
 // Refusal 7, of words that refusals 2 to 6 let pass; their table is filled.
-fn read_steady(w: &[u32], table: &mut [u32], limits: Limits, places: Places) -> Layout
-    requires { ⌜ Found (now w) limits places × Room (now w) (now table) ⌝ }
-    ensures { λ r. ⌜ Tabled (now (w .entry)) limits r (now (table .exit)) ⌝ }
+fn read_steady(w: &[u32], table: &mut [u32], context: Context, places: Places) -> Layout
+    requires { ⌜ Found (now w) context places × Room (now w) (now table) ⌝ }
+    ensures { λ r. ⌜ Tabled (now (w .entry)) context r (now (table .exit)) ⌝ }
 {
     fill_table(w, table);
     let first = first_unsteady(w, table);
     match first {
         Steadiness::Steady => Layout::Found(places),
-        Steadiness::At(place) => Layout::Refused(7, place),
+        Steadiness::At(place) => Layout::Refused(Refusal { number: 7, place }),
     }
 }
 
 // Refusals 2 to 7.
-fn read_table(w: &[u32], table: &mut [u32], limits: Limits) -> Layout
+fn read_table(w: &[u32], table: &mut [u32], context: Context) -> Layout
     requires { ⌜ Room (now w) (now table) ⌝ }
-    ensures { λ r. ⌜ Tabled (now (w .entry)) limits r (now (table .exit)) ⌝ }
+    ensures { λ r. ⌜ Tabled (now (w .entry)) context r (now (table .exit)) ⌝ }
 {
-    let found = read_words(w, limits);
+    let found = read_words(w, context);
     match found {
-        Layout::Found(places) => read_steady(w, table, limits, places),
-        Layout::Refused(number, place) => Layout::Refused(number, place),
+        Layout::Found(places) => read_steady(w, table, context, places),
+        Layout::Refused(_) => found,
     }
 }
 
 // Refusals 1 to 7. Of a file that they let pass, the words stand in front of `words`, and `table` is filled for them.
-pub fn read_file(file: &[u8], words: &mut [u32], table: &mut [u32], limits: Limits) -> Layout
+pub fn read_file(file: &[u8], words: &mut [u32], table: &mut [u32], context: Context) -> Layout
     requires { ⌜ CanLoad (now file) (now words) (now table) ⌝ }
-    ensures { λ r. ⌜ FileRead (now (file .entry)) limits r (now (words .exit)) (now (table .exit)) ⌝ }
+    ensures { λ r. ⌜ FileRead (now (file .entry)) context r (now (words .exit)) (now (table .exit)) ⌝ }
 {
     if bad_length(file) {
-        return Layout::Refused(1, 0);
+        return Layout::Refused(Refusal {
+            number: 1,
+            place: 0,
+        });
     }
     let n = load(file, words);
-    read_table(&words[..n], table, limits)
+    read_table(&words[..n], table, context)
 }

@@ -14,6 +14,7 @@ use Rattle.words.specs.declared.BooleanWord.{BooleanWord}
 use Rattle.words.specs.declared.BooleanWord.the-variants as boolean
 use Rattle.words.specs.declared.ArrayWord.{ArrayWord}
 use Rattle.words.specs.declared.ArrayWord.the-variants as array
+use Rattle.context.specs.declared.Refusal.{Refusal}
 use Rattle.reader.specs.Walk.{sortMeant, walkOf, dueOf, onDue, after}
 use Rattle.reader.specs.Operands.{arithmeticOperands, booleanOperands, arrayOperands, operandsOf, operandsWalk}
 use Rattle.reader.specs.declared.Walk.{Walk}
@@ -52,7 +53,7 @@ module _ (file : List ℕ) (b at q : ℕ) where
 
 on-due : (u : Due) (f g : ℕ → ℕ → ℕ → ℕ → Walk) → ((k p q b : ℕ) → f k p q b ≡ g k p q b) → onDue u f ≡ onDue u g
 on-due (There k p q b) f g h = h k p q b
-on-due (Stop n p) f g h = refl
+on-due (Stop x) f g h = refl
 
 pub operands-go : (file : List ℕ) (d : ℕ) (s : Sort) (at : ℕ) →
     walkOf (expression file d (sortMeant s) at)
@@ -65,7 +66,7 @@ operands-go file d Array at =
     array-goes file d at .goes ∙ on-due (dueOf file d at) _ _ λ k p q b. array-walk file b at q (arrayOf k p)
 
 module _ (file : List ℕ) (d : ℕ) (s : Sort) (at : ℕ) {r : Due} (due : r ≡ dueOf file d at) where
-  pub operands-stop : {n p : ℕ} → r ≡ Stop n p → Refused n p ≡ walkOf (expression file d (sortMeant s) at)
+  pub operands-stop : {x : Refusal} → r ≡ Stop x → Refused x ≡ walkOf (expression file d (sortMeant s) at)
   operands-stop e =
       ap (λ (u : Due). onDue u (λ k p q b. operandsWalk file b (operandsOf s k p) at q)) (sym e ∙ due)
       ∙ sym (operands-go file d s at)

@@ -11,6 +11,7 @@ use native.Mathlib.Omega.{arith}
 use lib.ListN.{length, List·getD-eq-default}
 use Rattle.layout.specs.Bytes.{kindAt}
 use Rattle.layout.specs.Reading.{Reading, read, fault, Reader, onRead, several}
+use Rattle.context.specs.declared.Refusal.{Refusal}
 use Rattle.reader.specs.Walk.{walkOf, onward}
 use Rattle.reader.specs.declared.Walk.{Walk}
 use Rattle.reader.specs.declared.Walk.the-variants.{Next, Refused}
@@ -46,7 +47,7 @@ module _ {A : Type 0} (x : Reader A) where
       let k : ℕ → Walk = λ y. walkOf (several (n - (i + 1)) x y) in
       rw (left n i h) (several-walk (n - (i + 1)) p ∙ sym (on k (sym e ∙ f) refl))
 
-  pub members-stop : (n i p : ℕ) {k q : ℕ} {r : Walk} → i < n → r ≡ walkOf (x p) → r ≡ Refused k q →
+  pub members-stop : (n i p : ℕ) {k : Refusal} {r : Walk} → i < n → r ≡ walkOf (x p) → r ≡ Refused k →
       r ≡ walkOf (several (n - i) x p)
   members-stop n i p h e f =
       let k : ℕ → Walk = λ y. walkOf (several (n - (i + 1)) x y) in

@@ -2,35 +2,36 @@
 -- Assumes nothing.
 --     due-ends, due-deep, due-there    the three cases of the word that is due
 --     room                             where a word is due, it is inside the file and a level is left
---     onto, on, off, more, idle        a part after another, as a reader and as a walk; no part
+--     onto, alone, on, off, more       a part after another, as a reader and as a walk; a part alone
 --     level-walk, due-walk             walks of `noLevel` and `wordDue`
 --     GoesBy                           a walk goes by the word that is due
---     arithmetic-goes, boolean-goes, array-goes, command-goes, set-goes, pre-goes, implication-goes, flow-goes
+--     arithmetic-goes, boolean-goes, array-goes, command-goes, set-goes, evidence-goes
 --                                      so do those of the readers
 --     stop, arm, none-arm              as the code has them: a refusal, a word that is allowed, a word that is not
 use mathlib.Core.Path.{_≡_, refl, sym, _∙_, ap}
 use mathlib.Core.Bool.{Bool, true, false, cond}
-use mathlib.Core.List.{List}
+use mathlib.Core.List.{List, [], _∷_}
 use mathlib.Core.Option.{Option, none, some}
 use Prim.Native.Nat.{ℕ, zero, suc, _+_, _-_, _<_, _≤_}
 use native.Mathlib.Omega.{arith}
 use native.Mathlib.Numerals.{sub-one}
 use borrow.Author.Tests.{ltb-true, lt-ltb, le-ltb}
-use lib.Dec.{ltb}
-use Rattle.language.specs.Syntax.{Sort, Arithmetic, Boolean, Array, Expr, Command}
+use lib.Dec.{eqb, ltb}
+use Rattle.language.specs.Syntax.{Arithmetic, Boolean, Array, Expr, Command}
 use Rattle.rules.specs.Assertion.{Members}
-use Rattle.rules.specs.Context.{Limits}
-use Rattle.rules.specs.Evidence.{PreEvidence, SetEvidence, FlowEvidence}
+use Rattle.rules.specs.Context.{Context}
+use Rattle.rules.specs.Evidence.{Judgement, Row, rules, by, Evidence}
 use Rattle.layout.specs.Bytes.{wordCount, kindAt, payloadAt}
-use Rattle.layout.specs.Reading.{Reading, read, fault, Reader, onRead, _⊛_, noLevel, allowed, wordDue}
+use Rattle.layout.specs.Reading.{Reading, read, fault, Reader, onRead, leaf, _⊛_, several, noLevel, allowed}
+use Rattle.layout.specs.Reading.{wordDue, allow, upTo, onOption}
 use Rattle.layout.specs.Read.{expression, command, memberAt, set}
-use Rattle.layout.specs.ReadEvidence.{preEvidence, setEvidence, flowEvidence}
-use Rattle.words.specs.Decode.{arithmeticOf, booleanOf, arrayOf, commandOf, evidenceOf}
+use Rattle.layout.specs.ReadEvidence.{evidenceKind, ruleOf, partsReader, evidence}
+use Rattle.words.specs.Decode.{arithmeticOf, booleanOf, arrayOf, commandOf}
 use Rattle.words.specs.Meaning.{arithmeticMeaning, booleanMeaning, arrayMeaning, commandMeaning}
-use Rattle.words.specs.Meaning.{setMeaning, preMeaning, implicationMeaning, flowMeaning}
-use Rattle.words.specs.declared.Word.{Word}
-use Rattle.words.proofs.Tables.{arithmetic-of, boolean-of, array-of, command-of, set-of, pre-of, implication-of}
-use Rattle.words.proofs.Tables.{flow-of}
+use Rattle.words.specs.Rows.{ruleDue}
+use Rattle.words.proofs.Tables.{arithmetic-of, boolean-of, array-of, command-of}
+use Rattle.context.specs.Contexts.{refusal}
+use Rattle.context.specs.declared.Refusal.{Refusal}
 use Rattle.reader.specs.Walk.{walkOf, onward, dueOf, onDue, after}
 use Rattle.reader.specs.declared.Walk.{Walk}
 use Rattle.reader.specs.declared.Walk.the-variants.{Next, Refused}
@@ -39,12 +40,12 @@ use Rattle.reader.specs.declared.Due.the-variants.{There, Stop}
 
 -- ---- the word that is due
 module _ (file : List ℕ) where
-  pub due-ends : (d at : ℕ) → wordCount file ≤ at → dueOf file d at ≡ Stop 3 (wordCount file)
+  pub due-ends : (d at : ℕ) → wordCount file ≤ at → dueOf file d at ≡ Stop (refusal 3 (wordCount file))
   unfolding dueOf
   due-ends zero at h = simp (le-ltb at (wordCount file) h)
   due-ends (suc d) at h = simp (le-ltb at (wordCount file) h)
 
-  pub due-deep : (d at : ℕ) → at < wordCount file → d ≡ 0 → dueOf file d at ≡ Stop 4 at
+  pub due-deep : (d at : ℕ) → at < wordCount file → d ≡ 0 → dueOf file d at ≡ Stop (refusal 4 at)
   unfolding dueOf
   due-deep d at h e = rw e (simp (lt-ltb at (wordCount file) h))
 
@@ -59,14 +60,14 @@ module _ (file : List ℕ) where
   unfolding dueOf
   due-room zero at k p q b e = go (ltb at (wordCount file)) e
     where
-      go : (t : Bool) → cond t (Stop 4 at) (Stop 3 (wordCount file)) ≡ There k p q b →
+      go : (t : Bool) → cond t (Stop (refusal 4 at)) (Stop (refusal 3 (wordCount file))) ≡ There k p q b →
           (at < wordCount file) × (q ≡ at + 1) × (0 ≡ suc b)
       go true e = let z : _≡_ {A = ℕ} 0 1 = cc in absurd (omega arith)
       go false e = let z : _≡_ {A = ℕ} 0 1 = cc in absurd (omega arith)
   due-room (suc d) at k p q b e = go (ltb at (wordCount file)) refl e
     where
       go : (t : Bool) → ltb at (wordCount file) ≡ t →
-          cond t (There (kindAt file at) (payloadAt file at) (at + 1) d) (Stop 3 (wordCount file)) ≡ There k p q b →
+          cond t (There (kindAt file at) (payloadAt file at) (at + 1) d) (Stop (refusal 3 (wordCount file))) ≡ There k p q b →
           (at < wordCount file) × (q ≡ at + 1) × (suc d ≡ suc b)
       go true t e = (ltb-true _ _ t, (cc), (cc))
       go false t e = let z : _≡_ {A = ℕ} 0 1 = cc in absurd (omega arith)
@@ -90,18 +91,17 @@ pub onto : {A B : Type 0} (x : Reader (A → B)) (y : Reader A) (q : ℕ) {r s :
 unfolding _⊛_
 onto x y q e h = e ∙ ap (λ (z : Walk). onward z (λ p. walkOf (y p))) h ∙ sym (then-walk (x q) y)
 
+pub alone : {A B : Type 0} (f : A → B) (y : Reader A) (q : ℕ) → walkOf (y q) ≡ walkOf ((leaf f ⊛ y) q)
+alone f y q = onto (leaf f) y q {s = Next q} refl refl
+
 pub on : {p : ℕ} {r x : Walk} (k : ℕ → Walk) → r ≡ Next p → x ≡ k p → x ≡ onward r k
 on k e h = h ∙ ap (λ (z : Walk). onward z k) (sym e)
 
-pub off : {n p : ℕ} {r : Walk} (k : ℕ → Walk) → r ≡ Refused n p → r ≡ onward r k
+pub off : {x : Refusal} {r : Walk} (k : ℕ → Walk) → r ≡ Refused x → r ≡ onward r k
 off k e = e ∙ ap (λ (z : Walk). onward z k) (sym e)
 
 pub more : {r s t : Walk} (k : ℕ → Walk) → r ≡ onward s k → s ≡ t → r ≡ onward t k
 more k e h = e ∙ ap (λ (z : Walk). onward z k) h
-
-pub idle : (w : Walk) → onward w (λ p. Next p) ≡ w
-idle (Next p) = refl
-idle (Refused n p) = refl
 
 -- ---- by the word that is due
 allowed-after : {A : Type 0} (o : Option (Reader A)) (at : ℕ) → allowed o at ≡ after o at (at + 1)
@@ -115,7 +115,7 @@ level-walk A file at f = go (ltb at (wordCount file))
   where
     go : (t : Bool) →
         walkOf {A = A} (cond t (fault 4 at) (fault 3 (wordCount file)))
-        ≡ onDue (cond t (Stop 4 at) (Stop 3 (wordCount file))) f
+        ≡ onDue (cond t (Stop (refusal 4 at)) (Stop (refusal 3 (wordCount file)))) f
     go true = refl
     go false = refl
 
@@ -133,7 +133,7 @@ due-walk {A} {W} file d at step of meaning e = go (ltb at (wordCount file))
           | true ↦ allowed (step at (kindAt file at) (payloadAt file at)) at
           | false ↦ fault 3 (wordCount file)
         ])
-        ≡ onDue (cond t (There (kindAt file at) (payloadAt file at) (at + 1) d) (Stop 3 (wordCount file)))
+        ≡ onDue (cond t (There (kindAt file at) (payloadAt file at) (at + 1) d) (Stop (refusal 3 (wordCount file))))
         (λ k p q b. walkOf (after (meaning b (of k p)) at q))
     go true =
         ap walkOf (allowed-after (step at (kindAt file at) (payloadAt file at)) at)
@@ -188,64 +188,40 @@ module _ (file : List ℕ) where
         (command-of (expression file d) (kindAt file at) (payloadAt file at) (command file d));
   }
 
-  pub pre-goes : (d at : ℕ) →
-      GoesBy (walkOf (preEvidence file d at)) file d at evidenceOf
-      (λ b w. preMeaning (expression file b Boolean) (command file b) (preEvidence file b) at w)
-  unfolding preEvidence
-  pre-goes zero at = record { goes = level-walk PreEvidence file at _ }
-  pre-goes (suc d) at = record {
-    goes =
-        due-walk file d at _ evidenceOf
-        (λ b w. preMeaning (expression file b Boolean) (command file b) (preEvidence file b) at w)
-        (pre-of (expression file d Boolean) (command file d) (preEvidence file d) at (kindAt file at)
-        (payloadAt file at));
-  }
+  module _ (Γ : Context) where
+    -- kind 32, its payload the count
+    abbrev setReader : ℕ → ℕ × ℕ → Option (Reader Members)
+    setReader b x = allow (x .0) ((32, upTo (Γ .limits .members) (x .1) (several (x .1) (memberAt file b))) ∷ [])
 
-  module _ (limits : Limits) where
-    pub set-goes : (d at : ℕ) →
-        GoesBy (walkOf (set limits file d at)) file d at evidenceOf
-        (λ b w. setMeaning (limits .members) (memberAt file b) w)
+    pub set-goes : (d at : ℕ) → GoesBy {W = ℕ × ℕ} (walkOf (set Γ file d at)) file d at (λ k p. (k, p)) setReader
     unfolding set
     set-goes zero at = record { goes = level-walk Members file at _ }
-    set-goes (suc d) at = record {
-      goes =
-          due-walk file d at _ evidenceOf (λ b w. setMeaning (limits .members) (memberAt file b) w)
-          (set-of (limits .members) (memberAt file d) (kindAt file at) (payloadAt file at));
-    }
+    set-goes (suc d) at = record { goes = due-walk {W = ℕ × ℕ} file d at _ (λ k p. (k, p)) setReader refl }
 
-    pub implication-goes : (d at : ℕ) →
-        GoesBy (walkOf (setEvidence limits file d at)) file d at evidenceOf
-        (λ b w. implicationMeaning (set limits file b) (setEvidence limits file b) at w)
-    unfolding setEvidence
-    implication-goes zero at = record { goes = level-walk SetEvidence file at _ }
-    implication-goes (suc d) at = record {
-      goes =
-          due-walk file d at _ evidenceOf
-          (λ b w. implicationMeaning (set limits file b) (setEvidence limits file b) at w)
-          (implication-of (set limits file d) (setEvidence limits file d) at (kindAt file at) (payloadAt file at));
-    }
+    -- the rule's parts stand after the word
+    abbrev pub ruleReader : (j : Judgement) → ℕ → ℕ → Row j → Reader (Evidence j)
+    ruleReader j at b r = leaf (by (r .rule) at) ⊛ partsReader Γ file b (evidence Γ file b) (r .after)
 
-    pub flow-goes : (d at : ℕ) →
-        GoesBy (walkOf (flowEvidence limits file d at)) file d at evidenceOf
-        (λ b w. flowMeaning (expression file b Boolean) (command file b) (set limits file b) (preEvidence file b)
-        (setEvidence limits file b) (flowEvidence limits file b) at w)
-    unfolding flowEvidence
-    flow-goes zero at = record { goes = level-walk FlowEvidence file at _ }
-    flow-goes (suc d) at = record {
-      goes =
-          due-walk file d at _ evidenceOf
-          (λ b w. flowMeaning (expression file b Boolean) (command file b) (set limits file b) (preEvidence file b)
-          (setEvidence limits file b) (flowEvidence limits file b) at w)
-          (flow-of (expression file d Boolean) (command file d) (set limits file d) (preEvidence file d)
-          (setEvidence limits file d) (flowEvidence limits file d) at (kindAt file at) (payloadAt file at));
+    pub evidence-goes : (d : ℕ) (j : Judgement) (at : ℕ) →
+        GoesBy (walkOf (evidence Γ file d j at)) file d at (ruleDue j) (λ b o. onOption o (ruleReader j at b))
+    unfolding evidence
+    evidence-goes zero j at = record { goes = level-walk (Evidence j) file at _ }
+    evidence-goes (suc d) j at = record {
+      goes = due-walk file d at _ (ruleDue j) (λ b o. onOption o (ruleReader j at b)) (go (eqb (kindAt file at) (evidenceKind j)));
     }
+      where
+        go : (t : Bool) →
+            cond t (onOption (ruleOf (payloadAt file at) (rules j)) (ruleReader j at d)) none
+            ≡ onOption (cond t (ruleOf (payloadAt file at) (rules j)) none) (ruleReader j at d)
+        go true = refl
+        go false = refl
 
 -- ---- as the code has them: r is what `word_due` returned, v the decoded word
 module _
     {A W : Type 0} {walk : Walk} {file : List ℕ} {d at : ℕ} {of : ℕ → ℕ → W} {meaning : ℕ → W → Option (Reader A)}
     (law : GoesBy walk file d at of meaning) {r : Due} (due : r ≡ dueOf file d at)
   where
-    pub stop : {n p : ℕ} → r ≡ Stop n p → Refused n p ≡ walk
+    pub stop : {x : Refusal} → r ≡ Stop x → Refused x ≡ walk
     stop e =
         ap (λ (y : Due). onDue y (λ k p q b. walkOf (after (meaning b (of k p)) at q))) (sym e ∙ due) ∙ sym (law .goes)
 
@@ -256,5 +232,5 @@ module _
         ∙ ap (λ (y : Due). onDue y (λ k p q b. walkOf (after (meaning b (of k p)) at q))) (sym e ∙ due)
         ∙ sym (law .goes)
 
-    pub none-arm : {k p q b : ℕ} {v : W} → r ≡ There k p q b → v ≡ of k p → meaning b v ≡ none → Refused 5 at ≡ walk
+    pub none-arm : {k p q b : ℕ} {v : W} → r ≡ There k p q b → v ≡ of k p → meaning b v ≡ none → Refused (refusal 5 at) ≡ walk
     none-arm {q} e word g = arm e word refl (ap (λ (o : Option (Reader A)). walkOf (after o at q)) (sym g))

@@ -8,12 +8,14 @@ use mathlib.Core.Bool.{Bool, true, false, cond}
 use mathlib.Core.List.{List}
 use Prim.Native.Nat.{ℕ, _+_, _*_}
 use lib.Dec.{eqb, ltb}
-use Rattle.rules.specs.Context.{Limits}
+use Rattle.rules.specs.Context.{Context}
+use Rattle.rules.specs.Evidence.{flow}
 use Rattle.layout.specs.Bytes.{wordCount, numberAt}
 use Rattle.layout.specs.Reading.{Reading, read, fault, onRead}
 use Rattle.layout.specs.Read.{set}
-use Rattle.layout.specs.ReadEvidence.{flowEvidence}
+use Rattle.layout.specs.ReadEvidence.{evidence}
 use Rattle.layout.specs.File as file
+use Rattle.context.specs.Contexts.{refusal}
 use Rattle.reader.specs.Walk.{walkOf}
 use Rattle.reader.specs.declared.Walk.{Walk}
 use Rattle.reader.specs.declared.Walk.the-variants as Walk
@@ -26,36 +28,36 @@ places a b c d = record { pre = a; post = b; evidence = c; end = d }
 
 abbrev pub placesOf : Reading file.File → Layout
 placesOf (read f p) = Found (places (f .preAt) (f .postAt) (f .evidenceAt) p)
-placesOf (fault n p) = Refused n p
+placesOf (fault n p) = Refused (refusal n p)
 
 abbrev pub byWalk : Walk → (ℕ → Layout) → Layout
 byWalk (Walk.Next p) f = f p
-byWalk (Walk.Refused n p) f = Refused n p
+byWalk (Walk.Refused x) f = Refused x
 
-abbrev pub fromEvidence : Limits → List ℕ → ℕ → ℕ → ℕ → Layout
-fromEvidence limits w a b c = byWalk (walkOf (flowEvidence limits w (limits .depth) c)) λ d. Found (places a b c d)
+abbrev pub fromEvidence : Context → List ℕ → ℕ → ℕ → ℕ → Layout
+fromEvidence Γ w a b c = byWalk (walkOf (evidence Γ w (Γ .limits .depth) flow c)) λ d. Found (places a b c d)
 
-abbrev pub fromPost : Limits → List ℕ → ℕ → ℕ → Layout
-fromPost limits w a b = byWalk (walkOf (set limits w (limits .depth) b)) λ c. fromEvidence limits w a b c
+abbrev pub fromPost : Context → List ℕ → ℕ → ℕ → Layout
+fromPost Γ w a b = byWalk (walkOf (set Γ w (Γ .limits .depth) b)) λ c. fromEvidence Γ w a b c
 
-abbrev pub fromPre : Limits → List ℕ → ℕ → Layout
-fromPre limits w a = byWalk (walkOf (set limits w (limits .depth) a)) λ b. fromPost limits w a b
+abbrev pub fromPre : Context → List ℕ → ℕ → Layout
+fromPre Γ w a = byWalk (walkOf (set Γ w (Γ .limits .depth) a)) λ b. fromPost Γ w a b
 
 unfoldable pub ended : List ℕ → file.File → ℕ → Reading file.File
 ended w f p = elim (ltb p (wordCount w)) [ true ↦ fault 6 p | false ↦ read f p ]
 
 -- the same, of places
 abbrev pub endOf : List ℕ → Layout → Layout
-endOf w (Found s) = cond (ltb (s .end) (wordCount w)) (Refused 6 (s .end)) (Found s)
-endOf w (Refused n p) = Refused n p
+endOf w (Found s) = cond (ltb (s .end) (wordCount w)) (Refused (refusal 6 (s .end))) (Found s)
+endOf w (Refused x) = Refused x
 
 -- word 0 is 63:n
 abbrev pub headed : List ℕ → Bool
 headed w = eqb (numberAt w 0) (63 * 67108864 + wordCount w)
 
-unfoldable pub readOf : Limits → List ℕ → Reading file.File
-readOf limits w =
+unfoldable pub readOf : Context → List ℕ → Reading file.File
+readOf Γ w =
     elim (headed w) [
-      | true ↦ onRead (file.parts limits w) (ended w)
+      | true ↦ onRead (file.parts Γ w) (ended w)
       | false ↦ fault 2 0
     ]

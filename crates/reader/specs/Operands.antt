@@ -13,6 +13,7 @@ use Rattle.words.specs.declared.BooleanWord.{BooleanWord}
 use Rattle.words.specs.declared.BooleanWord.the-variants as boolean
 use Rattle.words.specs.declared.ArrayWord.{ArrayWord}
 use Rattle.words.specs.declared.ArrayWord.the-variants as array
+use Rattle.context.specs.Contexts.{refusal}
 use Rattle.reader.specs.Walk.{walkOf, onward, sortMeant}
 use Rattle.reader.specs.declared.Sort.{Sort}
 use Rattle.reader.specs.declared.Sort.the-variants.{Arithmetic, Boolean, Array}
@@ -58,4 +59,4 @@ operandsWalk file d (One a) at q = onward (Next q) (operandWalk file d a)
 operandsWalk file d (Two a b) at q = onward (onward (Next q) (operandWalk file d a)) (operandWalk file d b)
 operandsWalk file d (Three a b c) at q =
     onward (onward (onward (Next q) (operandWalk file d a)) (operandWalk file d b)) (operandWalk file d c)
-operandsWalk file d NotAllowed at q = Refused 5 at
+operandsWalk file d NotAllowed at q = Refused (refusal 5 at)

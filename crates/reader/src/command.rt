@@ -4,6 +4,7 @@ use super::Sort;
 use super::Walk;
 use super::expression::read_operand;
 use super::word::word_due;
+use context::Refusal;
 use words::CommandWord;
 use words::decode::command_word;
 ghost use mathlib.Core.Path.{_≡_};
@@ -15,35 +16,29 @@ pub fn read_command(w: &[u32], at: usize, left: usize) -> Walk
 {
     let d = word_due(w, at, left);
     match d {
-        Due::Stop(n, p) => Walk::Refused(n, p),
+        Due::Stop(refusal) => Walk::Refused(refusal),
         Due::There(kind, payload, next, below) => {
             let word = command_word(kind, payload);
+            let from = Walk::Next(next);
             match word {
-                CommandWord::Skip => Walk::Next(next),
-                CommandWord::Sequence => read_body(w, read_body(w, Walk::Next(next), below), below),
-                CommandWord::Assert => read_operand(Sort::Boolean, w, Walk::Next(next), below),
-                CommandWord::AssignScalar(_) => read_operand(
-                    Sort::Arithmetic,
-                    w,
-                    Walk::Next(next),
-                    below,
-                ),
-                CommandWord::AssignArray(_) => read_operand(
-                    Sort::Array,
-                    w,
-                    Walk::Next(next),
-                    below,
-                ),
+                CommandWord::Skip => from,
+                CommandWord::Sequence => read_body(w, read_body(w, from, below), below),
+                CommandWord::Assert => read_operand(Sort::Boolean, w, from, below),
+                CommandWord::AssignScalar(_) => read_operand(Sort::Arithmetic, w, from, below),
+                CommandWord::AssignArray(_) => read_operand(Sort::Array, w, from, below),
                 CommandWord::If => {
-                    let test = read_operand(Sort::Boolean, w, Walk::Next(next), below);
+                    let test = read_operand(Sort::Boolean, w, from, below);
                     read_body(w, read_body(w, test, below), below)
                 }
                 CommandWord::While => {
-                    let test = read_operand(Sort::Boolean, w, Walk::Next(next), below);
+                    let test = read_operand(Sort::Boolean, w, from, below);
                     read_body(w, test, below)
                 }
-                CommandWord::For(_, _) => read_body(w, Walk::Next(next), below),
-                CommandWord::Other => Walk::Refused(5, at),
+                CommandWord::For(_, _) => read_body(w, from, below),
+                CommandWord::Other => Walk::Refused(Refusal {
+                    number: 5,
+                    place: at,
+                }),
             }
         }
     }
@@ -55,6 +50,6 @@ fn read_body(w: &[u32], from: Walk, left: usize) -> Walk
 {
     match from {
         Walk::Next(at) => read_command(w, at, left),
-        Walk::Refused(_, _) => from,
+        Walk::Refused(_) => from,
     }
 }

@@ -5,6 +5,7 @@ use super::Sort;
 use super::Walk;
 use super::operand::operands;
 use super::word::word_due;
+use context::Refusal;
 ghost use mathlib.Core.Path.{_≡_};
 ghost use Rattle.language.specs.Syntax as syntax;
 ghost use Rattle.layout.specs.Read.{expression};
@@ -16,7 +17,7 @@ pub fn read_expression(sort: Sort, w: &[u32], at: usize, left: usize) -> Walk
 {
     let d = word_due(w, at, left);
     match d {
-        Due::Stop(n, p) => Walk::Refused(n, p),
+        Due::Stop(refusal) => Walk::Refused(refusal),
         Due::There(kind, payload, next, below) => {
             let parts = operands(sort, kind, payload);
             match parts {
@@ -31,7 +32,10 @@ pub fn read_expression(sort: Sort, w: &[u32], at: usize, left: usize) -> Walk
                     let second = read_operand(b, w, first, below);
                     read_operand(c, w, second, below)
                 }
-                Operands::NotAllowed => Walk::Refused(5, at),
+                Operands::NotAllowed => Walk::Refused(Refusal {
+                    number: 5,
+                    place: at,
+                }),
             }
         }
     }
@@ -43,7 +47,7 @@ pub fn read_operand(sort: Sort, w: &[u32], from: Walk, left: usize) -> Walk
 {
     match from {
         Walk::Next(at) => read_expression(sort, w, at, left),
-        Walk::Refused(_, _) => from,
+        Walk::Refused(_) => from,
     }
 }
 

@@ -1,53 +1,55 @@
 // A whole file: 63:n, the command, the precondition, the postcondition and flow evidence.
 use super::Layout;
-use super::Limits;
 use super::Places;
 use super::Walk;
 use super::command::read_command;
-use super::evidence::read_flow;
+use super::evidence::read_evidence;
 use super::set::read_set;
+use context::Context;
+use context::Refusal;
+use words::Judgement;
 use words::kinds::FILE_WORD;
 ghost use mathlib.Core.Path.{_≡_};
 ghost use Rattle.layout.specs.File.{parts};
-ghost use Rattle.reader.specs.Walk.{limitsOf};
+ghost use Rattle.context.specs.Contexts.{contextOf};
 ghost use Rattle.reader.specs.File.{placesOf, fromPre, fromPost, fromEvidence, endOf, headed, readOf};
 
 // Refusals 3 to 5: the parts from place 1 on, each outermost.
-pub fn read_parts(w: &[u32], limits: Limits) -> Layout
-    ensures { λ r. ⌜ r ≡ placesOf (parts (limitsOf limits) (now (w .entry))) ⌝ }
+pub fn read_parts(w: &[u32], context: Context) -> Layout
+    ensures { λ r. ⌜ r ≡ placesOf (parts (contextOf context) (now (w .entry))) ⌝ }
 {
-    let program = read_command(w, 1, limits.depth);
+    let program = read_command(w, 1, context.depth);
     match program {
-        Walk::Next(pre) => from_pre(w, limits, pre),
-        Walk::Refused(n, p) => Layout::Refused(n, p),
+        Walk::Next(pre) => from_pre(w, context, pre),
+        Walk::Refused(refusal) => Layout::Refused(refusal),
     }
 }
 
 // The parts from the precondition on.
-fn from_pre(w: &[u32], limits: Limits, pre: usize) -> Layout
-    ensures { λ r. ⌜ r ≡ fromPre (limitsOf limits) (now (w .entry)) pre ⌝ }
+fn from_pre(w: &[u32], context: Context, pre: usize) -> Layout
+    ensures { λ r. ⌜ r ≡ fromPre (contextOf context) (now (w .entry)) pre ⌝ }
 {
-    let walk = read_set(w, limits, pre, limits.depth);
+    let walk = read_set(w, context, pre, context.depth);
     match walk {
-        Walk::Next(post) => from_post(w, limits, pre, post),
-        Walk::Refused(n, p) => Layout::Refused(n, p),
+        Walk::Next(post) => from_post(w, context, pre, post),
+        Walk::Refused(refusal) => Layout::Refused(refusal),
     }
 }
 
-fn from_post(w: &[u32], limits: Limits, pre: usize, post: usize) -> Layout
-    ensures { λ r. ⌜ r ≡ fromPost (limitsOf limits) (now (w .entry)) pre post ⌝ }
+fn from_post(w: &[u32], context: Context, pre: usize, post: usize) -> Layout
+    ensures { λ r. ⌜ r ≡ fromPost (contextOf context) (now (w .entry)) pre post ⌝ }
 {
-    let walk = read_set(w, limits, post, limits.depth);
+    let walk = read_set(w, context, post, context.depth);
     match walk {
-        Walk::Next(evidence) => from_evidence(w, limits, pre, post, evidence),
-        Walk::Refused(n, p) => Layout::Refused(n, p),
+        Walk::Next(evidence) => from_evidence(w, context, pre, post, evidence),
+        Walk::Refused(refusal) => Layout::Refused(refusal),
     }
 }
 
-fn from_evidence(w: &[u32], limits: Limits, pre: usize, post: usize, evidence: usize) -> Layout
-    ensures { λ r. ⌜ r ≡ fromEvidence (limitsOf limits) (now (w .entry)) pre post evidence ⌝ }
+fn from_evidence(w: &[u32], context: Context, pre: usize, post: usize, evidence: usize) -> Layout
+    ensures { λ r. ⌜ r ≡ fromEvidence (contextOf context) (now (w .entry)) pre post evidence ⌝ }
 {
-    let walk = read_flow(w, limits, evidence, limits.depth);
+    let walk = read_evidence(Judgement::Flow, w, context, evidence, context.depth);
     match walk {
         Walk::Next(end) => Layout::Found(Places {
             pre,
@@ -55,7 +57,7 @@ fn from_evidence(w: &[u32], limits: Limits, pre: usize, post: usize, evidence: u
             evidence,
             end,
         }),
-        Walk::Refused(n, p) => Layout::Refused(n, p),
+        Walk::Refused(refusal) => Layout::Refused(refusal),
     }
 }
 
@@ -87,24 +89,30 @@ fn check_end(w: &[u32], found: Layout) -> Layout
             let n = w.len();
             let end = places.end;
             if end < n {
-                Layout::Refused(6, end)
+                Layout::Refused(Refusal {
+                    number: 6,
+                    place: end,
+                })
             } else {
                 found
             }
         }
-        Layout::Refused(_, _) => found,
+        Layout::Refused(_) => found,
     }
 }
 
 // Refusals 2 to 6.
-pub fn read_words(w: &[u32], limits: Limits) -> Layout
-    ensures { λ r. ⌜ r ≡ placesOf (readOf (limitsOf limits) (now (w .entry))) ⌝ }
+pub fn read_words(w: &[u32], context: Context) -> Layout
+    ensures { λ r. ⌜ r ≡ placesOf (readOf (contextOf context) (now (w .entry))) ⌝ }
 {
     let headed = starts(w);
     if headed {
-        let found = read_parts(w, limits);
+        let found = read_parts(w, context);
         check_end(w, found)
     } else {
-        Layout::Refused(2, 0)
+        Layout::Refused(Refusal {
+            number: 2,
+            place: 0,
+        })
     }
 }

@@ -1,23 +1,24 @@
 // Refusals 2 to 6 (document 01, "Judging order"), over the words of a file.
+use context::Refusal;
+
 pub mod word; // word.rt: the word that is due at a place
 pub mod operand; // operand.rt: the operands that follow a word
 pub mod expression; // expression.rt: expressions of the three sorts
 pub mod command; // command.rt: commands
 pub mod set; // set.rt: members and sets
-pub mod table; // table.rt: what evidence carries and its children, by rule
 pub mod evidence; // evidence.rt: evidence
 pub mod file; // file.rt: a whole file
 
-// Where a walk goes on, or a refusal's number and place.
+// Where a walk goes on, or the refusal.
 pub enum Walk {
     Next(usize),
-    Refused(u32, usize),
+    Refused(Refusal),
 }
 
 // The kind and payload of the word that is due, the place past it and the levels left below it; or refusal 3 or 4.
 pub enum Due {
     There(u32, u32, usize, usize),
-    Stop(u32, usize),
+    Stop(Refusal),
 }
 
 // The sort of an operand.
@@ -36,31 +37,6 @@ pub enum Operands {
     NotAllowed,
 }
 
-// The most comparisons of an implication, the most depth, the most members of a set.
-pub struct Limits {
-    pub comparisons: usize,
-    pub depth: usize,
-    pub members: usize,
-}
-
-// What evidence carries, and its children.
-pub enum Part {
-    Nothing,
-    Boolean,
-    Command,
-    Set,
-    Precondition,
-    Implication,
-    Flow,
-}
-
-// The parts of an evidence word, in the file's order: none, up to three, up to six. Those that it lacks come last.
-pub enum Parts {
-    None,
-    Three(Part, Part, Part),
-    Six(Part, Part, Part, Part, Part, Part),
-}
-
 // The places of a file's parts: its command is at 1, and the evidence ends at `end`.
 pub struct Places {
     pub pre: usize,
@@ -69,8 +45,8 @@ pub struct Places {
     pub end: usize,
 }
 
-// The places of a file that was read, or a refusal's number and place.
+// The places of a file that was read, or the refusal.
 pub enum Layout {
     Found(Places),
-    Refused(u32, usize),
+    Refused(Refusal),
 }

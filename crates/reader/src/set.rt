@@ -1,17 +1,18 @@
 // Members and sets.
 use super::Due;
-use super::Limits;
 use super::Sort;
 use super::Walk;
 use super::expression::read_operand;
 use super::word::word_due;
-use words::Word;
-use words::decode::evidence_word;
+use context::Context;
+use context::Refusal;
+use words::kinds::SET;
 ghost use mathlib.Core.Path.{_≡_};
 ghost use Rattle.layout.specs.Bytes.{kindAt};
 ghost use Rattle.layout.specs.Reading.{several};
 ghost use Rattle.layout.specs.Read.{sortOf, consequentAt, memberAt, set};
-ghost use Rattle.reader.specs.Walk.{walkOf, limitsOf, sortMeant};
+ghost use Rattle.context.specs.Contexts.{contextOf};
+ghost use Rattle.reader.specs.Walk.{walkOf, sortMeant};
 
 // The sort that a kind is of; a kind of no expression counts as arithmetic, whose reader refuses it.
 fn sort_of(kind: u32) -> Sort
@@ -56,7 +57,7 @@ fn read_member(w: &[u32], at: usize, left: usize) -> Walk
     let antecedent = read_operand(Sort::Boolean, w, Walk::Next(at), left);
     match antecedent {
         Walk::Next(p) => read_consequent(w, p, left),
-        Walk::Refused(_, _) => antecedent,
+        Walk::Refused(_) => antecedent,
     }
 }
 
@@ -71,33 +72,31 @@ fn read_members(w: &[u32], count: u32, at: usize, left: usize) -> Walk
             Walk::Next(q) => {
                 p = q;
             }
-            Walk::Refused(_, _) => return m,
+            Walk::Refused(_) => return m,
         }
         i += 1;
     }
     Walk::Next(p)
 }
 
-pub fn read_set(w: &[u32], limits: Limits, at: usize, left: usize) -> Walk
-    ensures { λ r. ⌜ r ≡ walkOf (set (limitsOf limits) (now (w .entry)) left at) ⌝ }
+pub fn read_set(w: &[u32], context: Context, at: usize, left: usize) -> Walk
+    ensures { λ r. ⌜ r ≡ walkOf (set (contextOf context) (now (w .entry)) left at) ⌝ }
 {
     let d = word_due(w, at, left);
     match d {
-        Due::Stop(n, p) => Walk::Refused(n, p),
+        Due::Stop(refusal) => Walk::Refused(refusal),
         Due::There(kind, payload, next, below) => {
-            let word = evidence_word(kind, payload);
-            match word {
-                Word::Set(count) => {
-                    let k = count as usize;
-                    let most = limits.members;
-                    if k <= most {
-                        read_members(w, count, next, below)
-                    } else {
-                        Walk::Refused(5, at)
-                    }
+            let count = payload as usize;
+            let most = context.members;
+            if kind == SET {
+                if count <= most {
+                    return read_members(w, payload, next, below);
                 }
-                _ => Walk::Refused(5, at),
             }
+            Walk::Refused(Refusal {
+                number: 5,
+                place: at,
+            })
         }
     }
 }

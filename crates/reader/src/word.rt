@@ -1,5 +1,6 @@
 // The word that is due at a place.
 use super::Due;
+use context::Refusal;
 ghost use mathlib.Core.Path.{_≡_};
 ghost use Rattle.reader.specs.Walk.{dueOf};
 
@@ -9,10 +10,16 @@ pub fn word_due(w: &[u32], at: usize, left: usize) -> Due
 {
     let n = w.len();
     if n <= at {
-        return Due::Stop(3, n);
+        return Due::Stop(Refusal {
+            number: 3,
+            place: n,
+        });
     }
     if left == 0 {
-        return Due::Stop(4, at);
+        return Due::Stop(Refusal {
+            number: 4,
+            place: at,
+        });
     }
     let word = w[at];
     Due::There(

@@ -11,7 +11,7 @@ use native.Mathlib.Omega.{arith}
 use borrow.Author.Tests.{le-leb, leb-true, leb-false}
 use lib.Dec.{leb}
 use native.Mathlib.Numerals.{add-one}
-use lib.ListN.{length, getD, take, drop, set, length-append, length-drop}
+use lib.ListN.{length, getD, take, drop, set}
 use lib.Seq.{take-all, take-at, set-at, take-suc, drop-cons, append-snoc, length-take-le}
 use Rattle.layout.specs.Bytes.{wordsOf}
 use Rattle.words.specs.Load.{wordAt, lesser, Loaded}
@@ -52,11 +52,6 @@ module _ (bytes before : List ℕ) where
       ∙ set-at (take i s) (getD before i 0) (drop (suc i) before) (getD s i 0) i (length-take-le i s (omega arith))
       ∙ sym (append-snoc (take i s) (getD s i 0) (drop (suc i) before))
       ∙ ap (λ (r : List ℕ). r ++ drop (suc i) before) (sym (take-suc s i 0 l)))
-
-  pub front-length : (i : ℕ) → i ≤ length bytes / 4 → i ≤ length before → length (front i) ≡ length before
-  front-length i h k =
-      let l = length-take-le i (wordsOf bytes) (rw (words-length bytes) h) in
-      simp (length-append, length-drop) (omega arith)
 
 pub lesser-both : (a b n : ℕ) → n ≡ lesser a b → (n ≤ a) × (n ≤ b)
 lesser-both a b n e = go (leb a b) refl e

@@ -2,24 +2,18 @@
 -- these decode to.
 -- Assumes nothing.
 --     arithmetic-of, boolean-of, array-of         the tables of expressions, by sort
---     command-of, set-of                          of commands and sets
---     pre-of, implication-of, flow-of             of evidence
-use mathlib.Core.Path.{_≡_, refl, sym, _∙_}
+--     command-of                                  of commands
+use mathlib.Core.Path.{_≡_, refl}
 use mathlib.Core.Bool.{Bool, true, false, cond}
-use mathlib.Core.List.{[], _∷_}
 use mathlib.Core.Option.{Option, none, some}
 use Prim.Native.Nat.{ℕ}
-use native.Mathlib.Omega.{arith}
-use borrow.Author.Tests.{eq-eqb, ne-eqb, eqb-true, eqb-false}
 use lib.Dec.{eqb, leb}
 use Rattle.language.specs.Syntax as syntax
 use Rattle.language.specs.Syntax.{Sort, Expr, operation, compare, truth}
-use Rattle.layout.specs.Reading.{Reader, leaf, _⊛_, several, allow, upTo, onOption}
+use Rattle.layout.specs.Reading.{Reader, leaf, _⊛_, upTo, onOption}
 use Rattle.layout.specs.Read.{arithmeticWord, booleanWord, arrayWord, commandWord}
-use Rattle.words.specs.Decode.{arithmeticOf, booleanOf, arrayOf, commandOf}
-use Rattle.words.specs.Decode.{within}
-use Rattle.words.specs.Meaning.{arithmeticMeaning, booleanMeaning, arrayMeaning}
-use Rattle.words.specs.Meaning.{commandMeaning}
+use Rattle.words.specs.Decode.{within, arithmeticOf, booleanOf, arrayOf, commandOf}
+use Rattle.words.specs.Meaning.{arithmeticMeaning, booleanMeaning, arrayMeaning, commandMeaning}
 
 abbrev id : {A : Type 0} → A → A
 id a = a

@@ -1,9 +1,8 @@
 -- What a word stands for in its group, by kind and payload (document 01, "Layout"). A word that the group's list does not
 -- allow is `Other`.
--- Working: `arithmetic-of`, `boolean-of`, `array-of`, `command-of`, `set-of`, `pre-of`, `implication-of` and `flow-of` of
--- proofs/Tables tie it to the layout's tables. Assumes nothing.
+-- Working: `arithmetic-of`, `boolean-of`, `array-of` and `command-of` of proofs/Tables tie it to the layout's tables.
+-- Assumes nothing.
 --     arithmeticOf, booleanOf, arrayOf, commandOf    kinds 1 to 4, 8 to 12, 16 to 18 and 24 to 31
---     flowOf, setOf, preOf, evidenceOf               kinds 33, 34 and 35; kinds from 32 on
 use mathlib.Core.Bool.{true, false, cond}
 use Prim.Native.Nat.{ℕ, _/_, _%_}
 use lib.Dec.{eqb, leb}

@@ -1,18 +1,16 @@
 -- What the layout's tables give at a decoded word: how the parts that follow it are read, or nothing where the word is
 -- not allowed.
--- Working: `arithmetic-of`, `boolean-of`, `array-of`, `command-of`, `set-of`, `pre-of`, `implication-of` and `flow-of`
--- of proofs/Tables tie each to the layout's table. Assumes nothing.
---     operatorMeant, comparisonMeant                                          of the enums
---     arithmeticMeaning, booleanMeaning, arrayMeaning                         of expressions
---     commandMeaning, setMeaning                                              of commands and sets
---     preMeaning, implicationMeaning, flowMeaning                             of evidence
+-- Working: `arithmetic-of`, `boolean-of`, `array-of` and `command-of` of proofs/Tables tie each to the layout's table.
+-- Assumes nothing.
+--     operatorMeant, comparisonMeant                     of the enums
+--     arithmeticMeaning, booleanMeaning, arrayMeaning    of expressions
+--     commandMeaning                                     of commands
 use mathlib.Core.Option.{Option, none, some}
-use Prim.Native.Nat.{ℕ}
 use Rattle.language.specs.Syntax as syntax
 use Rattle.language.specs.Syntax.{Sort, Expr, constant, scalar, operation, select}
 use Rattle.language.specs.Syntax.{compare, truth, and, or, neg, array, zeros, update, toScalar, toArray}
 use Rattle.language.specs.Syntax.{skip, sequence, assert, assign, ifElse, while, for}
-use Rattle.layout.specs.Reading.{Reader, leaf, _⊛_, several, upTo}
+use Rattle.layout.specs.Reading.{Reader, leaf, _⊛_}
 use Rattle.words.specs.declared.Operator.{Operator}
 use Rattle.words.specs.declared.Operator.the-variants.{Plus, Minus, Times}
 use Rattle.words.specs.declared.Comparison.{Comparison}

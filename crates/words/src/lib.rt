@@ -55,3 +55,10 @@ pub enum CommandWord {
     For(u32, u32),
     Other,
 }
+
+// Kinds 33, 34 and 35.
+pub enum Judgement {
+    Flow,
+    Implication,
+    Precondition,
+}

@@ -1,8 +1,12 @@
 // The table of rules (document 01, "Rules"): what stands after the word of each, what it carries and then its children.
 // A row is a number in base 8: its digits, the lowest first, are the items, and 0 is past the last.
+use super::Judgement;
+use super::kinds::FLOW;
+use super::kinds::IMPLICATION;
+use super::kinds::PRECONDITION;
 ghost use mathlib.Core.Path.{_≡_};
 ghost use Rattle.rules.specs.Evidence.{flow, implication, precondition};
-ghost use Rattle.words.specs.Rows.{rowOf};
+ghost use Rattle.words.specs.Rows.{rowOf, rowDue, judgementOf};
 
 // Items: a boolean, a command, a set; evidence of kinds 33, 34 and 35.
 pub const ASSERTION: u32 = 1;
@@ -20,33 +24,43 @@ pub const PRECONDITION_CHILD: u32 = 6;
 // The row of a number that no rule has.
 pub const NO_RULE: u32 = 7;
 
-const FLOW_2: u32 = MEMBERS + 8 * (FLOW_CHILD + 8 * FLOW_CHILD);
+// Children that rules end with.
+const FLOWS: u32 = FLOW_CHILD + 8 * FLOW_CHILD;
 
-const FLOW_6: u32 = MEMBERS + 8 * (MEMBERS + 8 * (ASSERTION + 8 * (FLOW_CHILD + 8 * (FLOW_CHILD + 8 * PRECONDITION_CHILD))));
+const IMPLICATIONS: u32 = IMPLICATION_CHILD + 8 * IMPLICATION_CHILD;
+
+const PRECONDITIONS: u32 = PRECONDITION_CHILD + 8 * PRECONDITION_CHILD;
+
+const FLOW_AND_PRE: u32 = FLOW_CHILD + 8 * PRECONDITION_CHILD;
+
+// Rows of the rules that have items.
+const FLOW_2: u32 = MEMBERS + 8 * FLOWS;
+
+const FLOW_6: u32 = MEMBERS + 8 * (MEMBERS + 8 * (ASSERTION + 8 * (FLOW_CHILD + 8 * FLOW_AND_PRE)));
 
 const FLOW_7: u32 = MEMBERS + 8 * (IMPLICATION_CHILD + 8 * FLOW_CHILD);
 
 const FLOW_8: u32 = MEMBERS + 8 * (FLOW_CHILD + 8 * IMPLICATION_CHILD);
 
-const FLOW_9: u32 = MEMBERS + 8 * (MEMBERS + 8 * (MEMBERS + 8 * (MEMBERS + 8 * (FLOW_CHILD + 8 * FLOW_CHILD))));
+const FLOW_9: u32 = MEMBERS + 8 * (MEMBERS + 8 * (MEMBERS + 8 * (MEMBERS + 8 * FLOWS)));
 
 const FLOW_11: u32 = PRECONDITION_CHILD;
 
-const FLOW_12: u32 = MEMBERS + 8 * (MEMBERS + 8 * (ASSERTION + 8 * (ASSERTION + 8 * (FLOW_CHILD + 8 * PRECONDITION_CHILD))));
+const FLOW_12: u32 = MEMBERS + 8 * (MEMBERS + 8 * (ASSERTION + 8 * (ASSERTION + 8 * FLOW_AND_PRE)));
 
 const FLOW_13: u32 = FLOW_CHILD;
 
 const FLOW_14: u32 = COMMAND + 8 * FLOW_CHILD;
 
-const SET_16: u32 = MEMBERS + 8 * (MEMBERS + 8 * (MEMBERS + 8 * (MEMBERS + 8 * (IMPLICATION_CHILD + 8 * IMPLICATION_CHILD))));
+const SET_16: u32 = MEMBERS + 8 * (MEMBERS + 8 * (MEMBERS + 8 * (MEMBERS + 8 * IMPLICATIONS)));
 
-const SET_17: u32 = MEMBERS + 8 * (MEMBERS + 8 * (MEMBERS + 8 * (IMPLICATION_CHILD + 8 * IMPLICATION_CHILD)));
+const SET_17: u32 = MEMBERS + 8 * (MEMBERS + 8 * (MEMBERS + 8 * IMPLICATIONS));
 
-const PRE_20: u32 = ASSERTION + 8 * (ASSERTION + 8 * (PRECONDITION_CHILD + 8 * PRECONDITION_CHILD));
+const PRE_20: u32 = ASSERTION + 8 * (ASSERTION + 8 * PRECONDITIONS);
 
 const PRE_21: u32 = ASSERTION + 8 * PRECONDITION_CHILD;
 
-const PRE_23: u32 = ASSERTION + 8 * (PRECONDITION_CHILD + 8 * PRECONDITION_CHILD);
+const PRE_23: u32 = ASSERTION + 8 * PRECONDITIONS;
 
 const PRE_28: u32 = ASSERTION + 8 * PRECONDITION_CHILD;
 
@@ -108,5 +122,34 @@ pub fn pre_row(rule: u32) -> u32
         29 => 0,
         30 => PRE_30,
         _ => NO_RULE,
+    }
+}
+
+// The row of a word where evidence of the judgement is due. A word of another kind has none.
+pub fn evidence_row(judgement: Judgement, kind: u32, payload: u32) -> u32
+    ensures { λ r. ⌜ r ≡ rowDue (judgementOf judgement) kind payload ⌝ }
+{
+    match judgement {
+        Judgement::Flow => {
+            if kind == FLOW {
+                flow_row(payload)
+            } else {
+                NO_RULE
+            }
+        }
+        Judgement::Implication => {
+            if kind == IMPLICATION {
+                set_row(payload)
+            } else {
+                NO_RULE
+            }
+        }
+        Judgement::Precondition => {
+            if kind == PRECONDITION {
+                pre_row(payload)
+            } else {
+                NO_RULE
+            }
+        }
     }
 }

@@ -2,7 +2,7 @@
 -- Assumes nothing.
 use borrow.Author.Needs.{needs}
 use mathlib.Core.Path.{sym, _∙_}
-use Rattle.reader.specs.Walk.{limitsOf}
+use Rattle.context.specs.Contexts.{contextOf}
 use Rattle.reader.proofs.Whole.{by-next, by-refused, parts-places}
 use Rattle.reader.proofs.file.read_parts.Statement.{statement}
 use Rattle.reader.proofs.file.read_parts.Tie as tie
@@ -18,8 +18,8 @@ read-parts-spec =
     (λ c. by-next _ (c .before .before .before .before .read-command .ensures)
     (c .before .before .program .given .1) (c .from-pre .ensures)
     ∙ (let a = c .before .before .before .before .before .before .args in
-    sym (parts-places (limitsOf (a .limits)) (a .w .now))))
+    sym (parts-places (contextOf (a .context)) (a .w .now))))
     (λ c. by-refused _ (c .before .before .before .read-command .ensures)
     (c .before .program2 .given .1)
     ∙ (let a = c .before .before .before .before .before .args in
-    sym (parts-places (limitsOf (a .limits)) (a .w .now)))))
+    sym (parts-places (contextOf (a .context)) (a .w .now)))))
