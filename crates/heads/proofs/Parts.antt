@@ -5,7 +5,9 @@
 --     ArithmeticParts, BooleanParts, ArrayParts, CommandParts        the parts by the first word
 --     arithmetic-parts, boolean-parts, array-parts, command-parts    are what stands there
 --     expression-starts, command-starts                              as callers have them: there is a word
-use mathlib.Core.Path.{_≡_, refl, sym, ap, subst}
+--     boolean-settled, command-settled                               a word that is allowed is settled by its kind
+use mathlib.Core.Path.{_≡_, refl, sym, ap, subst, _∙_}
+use mathlib.Core.Bool.{Bool, true, false, cond}
 use mathlib.Core.List.{List, _∷_, _++_}
 use Prim.Native.Nat.{ℕ, zero, suc, _+_, _<_, _≤_}
 use native.Mathlib.Omega.{arith}
@@ -17,11 +19,13 @@ use Rattle.language.specs.Syntax.{array, zeros, update, toScalar, toArray}
 use Rattle.language.specs.Syntax.{skip, sequence, assert, assign, ifElse, while, for}
 use Rattle.rules.specs.Words as spelled
 use Rattle.rules.specs.Words.{words, commandWords}
+use Rattle.layout.specs.Bytes.{kindAt, payloadAt}
 use Rattle.layout.specs.Spelling.{FitsExpression, FitsCommand}
 use Rattle.layout.specs.EvidenceWords.{Part, expressionPart, commandPart}
 use Rattle.layout.specs.Standing.{Stands, PartStands}
 use Rattle.layout.proofs.Stands.{stands-end, stands-inside, parted}
 use Rattle.ends.proofs.Ends.{rest, less-fit}
+use Rattle.words.specs.Decode.{booleanOf, commandOf}
 use Rattle.words.specs.Meaning.{operatorMeant, comparisonMeant}
 use Rattle.words.specs.declared.ArithmeticWord.{ArithmeticWord}
 use Rattle.words.specs.declared.ArithmeticWord.the-variants as arithmetic
@@ -286,3 +290,19 @@ module _ {file : List ℕ} {at : ℕ} where
 
   pub command-starts : CommandStands file at → at < length file
   command-starts x = let i = command-inside (x .tree) (x .there) in omega arith
+
+-- a word that is allowed is settled by its kind: b is the test of its payload, o what the word is where the test fails
+settled : {A : Type 0} (of : ℕ → ℕ → A) {k p : ℕ} (n : ℕ) (b : Bool) {w o : A} → k ≡ n → of n p ≡ cond b w o →
+    (of k p ≡ o → ⊥) → w ≡ of k p
+settled of {k} {p} n true e f h = sym f ∙ ap (λ x. of x p) (sym e)
+settled of {k} {p} n false e f h = absurd (h (ap (λ x. of x p) e ∙ f))
+
+-- as the code has them: k is the kind that it found
+module _ {file : List ℕ} {at k : ℕ} (found : k ≡ kindAt file at) (n : ℕ) (is : k ≡ n) (b : Bool) where
+  pub boolean-settled : (w : BooleanWord) → ExpressionStands file syntax.Boolean at →
+      booleanOf n (payloadAt file at) ≡ cond b w boolean.Other → w ≡ booleanAt file at
+  boolean-settled w x f = settled booleanOf n b (sym found ∙ is) f λ e. boolean-parts (x .tree) (x .there) e
+
+  pub command-settled : (w : CommandWord) → CommandStands file at →
+      commandOf n (payloadAt file at) ≡ cond b w command.Other → w ≡ commandAt file at
+  command-settled w x f = settled commandOf n b (sym found ∙ is) f λ e. command-parts (x .tree) (x .there) e

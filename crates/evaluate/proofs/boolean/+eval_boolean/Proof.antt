@@ -59,7 +59,7 @@ pub +eval-boolean-spec : {M : Type 1} → statement M
 )
     (eval-boolean-at t)
     eval-boolean.Post
-    (λ c κs. expression-starts ((c .before .before) .pre .1 .expression))
+    (λ c κs. (c .before .before) .pre .1 .expression)
     (λ c. search needs)
     (λ c. let s = (c .before .before .before .before .before .before) in let p = s .pre .1 in
     let i = expression-starts (p .expression) in omega arith)

@@ -174,7 +174,7 @@ pub +run-command+run-for+run-if+run-pass+run-sequence+run-turn+run-turns-spec :
     )
     (run-command-at t)
     run-command.Post
-    (λ c κs. command-starts ((c .before .before) .pre .1 .command))
+    (λ c κs. (c .before .before) .pre .1 .command)
     (λ c. search needs)
     (λ c κs. search needs)
     (λ c. search needs)
@@ -184,7 +184,7 @@ pub +run-command+run-for+run-if+run-pass+run-sequence+run-turn+run-turns-spec :
       record {
         can = p;
         head = sym (c .before .before .before .before .command-head .ensures)
-    ∙ c .before .before .enum-told2 .given .1;
+            ∙ c .before .before .enum-told2 .given .1;
       },
     ))
     (λ c. search needs)
@@ -198,14 +198,14 @@ pub +run-command+run-for+run-if+run-pass+run-sequence+run-turn+run-turns-spec :
     record {
       can = p;
       head = sym (c .before .before .before .before .before .command-head .ensures)
-    ∙ c .before .before .before .head .given .1;
+          ∙ c .before .before .before .head .given .1;
     })
     (λ c. search needs)
     (λ c κs. let s = (c .before .before .before .before .before .before .before .before) in let p = s .pre .1 in
     record {
       can = p;
       head = sym (c .before .before .before .before .before .command-head .ensures)
-    ∙ c .before .before .before .head2 .given .1;
+          ∙ c .before .before .before .head2 .given .1;
     })
     (λ c. search needs)
     (λ c κs. let s = (c .before .before .before .before .before .before .before) in let p = s .pre .1 in
@@ -214,7 +214,7 @@ pub +run-command+run-for+run-if+run-pass+run-sequence+run-turn+run-turns-spec :
       record {
         can = p;
         head = sym (c .before .before .before .before .command-head .ensures)
-    ∙ c .before .before .enum-told4 .given .1;
+            ∙ c .before .before .enum-told4 .given .1;
       },
     ))
     (λ c. search needs)
@@ -224,7 +224,7 @@ pub +run-command+run-for+run-if+run-pass+run-sequence+run-turn+run-turns-spec :
       record {
         can = p;
         head = sym (c .before .before .before .before .command-head .ensures)
-    ∙ c .before .before .enum-told5 .given .1;
+            ∙ c .before .before .enum-told5 .given .1;
       },
     ))
     (λ c. search needs)
@@ -234,7 +234,7 @@ pub +run-command+run-for+run-if+run-pass+run-sequence+run-turn+run-turns-spec :
       record {
         can = p;
         head = sym (c .before .before .before .before .before .command-head .ensures)
-    ∙ c .before .before .before .head3 .given .1;
+            ∙ c .before .before .before .head3 .given .1;
       },
     ))
     (λ c. search needs)
