@@ -58,7 +58,8 @@ pub operands-go : (file : List ℕ) (d : ℕ) (s : Sort) (at : ℕ) →
     walkOf (expression file d (sortMeant s) at)
     ≡ onDue (dueOf file d at) (λ k p q b. operandsWalk file b (operandsOf s k p) at q)
 operands-go file d Arithmetic at =
-    arithmetic-goes file d at .goes ∙ on-due (dueOf file d at) _ _ λ k p q b. arithmetic-walk file b at q (arithmeticOf k p)
+    arithmetic-goes file d at .goes ∙ on-due (dueOf file d at) _ _ λ k p q b. arithmetic-walk file b at q
+    (arithmeticOf k p)
 operands-go file d Boolean at =
     boolean-goes file d at .goes ∙ on-due (dueOf file d at) _ _ λ k p q b. boolean-walk file b at q (booleanOf k p)
 operands-go file d Array at =

@@ -17,7 +17,7 @@ use native.Mathlib.Omega.{arith}
 use native.Mathlib.Numerals.{sub-one}
 use borrow.Author.Tests.{ltb-true, lt-ltb, le-ltb}
 use lib.Dec.{ltb}
-use Rattle.language.specs.Syntax.{Sort, Arithmetic, Boolean, Array, Expr, Command}
+use Rattle.language.specs.Syntax.{Arithmetic, Boolean, Array, Expr, Command}
 use Rattle.rules.specs.Assertion.{Members}
 use Rattle.rules.specs.Context.{Limits}
 use Rattle.rules.specs.Evidence.{PreEvidence, SetEvidence, FlowEvidence}
@@ -28,7 +28,6 @@ use Rattle.layout.specs.ReadEvidence.{preEvidence, setEvidence, flowEvidence}
 use Rattle.words.specs.Decode.{arithmeticOf, booleanOf, arrayOf, commandOf, evidenceOf}
 use Rattle.words.specs.Meaning.{arithmeticMeaning, booleanMeaning, arrayMeaning, commandMeaning}
 use Rattle.words.specs.Meaning.{setMeaning, preMeaning, implicationMeaning, flowMeaning}
-use Rattle.words.specs.declared.Word.{Word}
 use Rattle.words.proofs.Tables.{arithmetic-of, boolean-of, array-of, command-of, set-of, pre-of, implication-of}
 use Rattle.words.proofs.Tables.{flow-of}
 use Rattle.reader.specs.Walk.{walkOf, onward, dueOf, onDue, after}

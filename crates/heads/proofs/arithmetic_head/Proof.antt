@@ -15,4 +15,5 @@ arithmetic-head-spec =
     (λ c κs. search needs)
     (λ c κs. search needs)
     (λ c κs. search needs)
-    (λ c. c .arithmetic-word .ensures ∙ ap₂ arithmeticOf (c .before .before .kind .ensures) (c .before .payload .ensures)))
+    (λ c. c .arithmetic-word .ensures ∙ ap₂ arithmeticOf (c .before .before .kind .ensures)
+    (c .before .payload .ensures)))

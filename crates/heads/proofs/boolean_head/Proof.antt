@@ -27,16 +27,20 @@ boolean-head-spec =
     (sym (c .before .before .payload .ensures) ∙ c .match2 .keys1)))
     (λ c. sym (ap₂ booleanOf (sym (c .before .before .before .kind .ensures) ∙ c .before .match .keys1)
     (sym (c .before .before .payload .ensures) ∙ c .match2 .keys2)))
-    (λ c. let s = c .before .before .before .before .before .before in let p = payloadAt (s .args .w .now) (s .args .at) in let r = c .match2 .rest in
-    boolean-settled (c .before .before .before .kind .ensures) 8 (c .before .match .keys1) (eqb p 2) (Compare AtMost) (s .pre)
+    (λ c. let s = c .before .before .before .before .before .before in let p = payloadAt (s .args .w .now)
+    (s .args .at) in let r = c .match2 .rest in
+    boolean-settled (c .before .before .before .kind .ensures) 8 (c .before .match .keys1) (eqb p 2) (Compare AtMost)
+    (s .pre)
     (simp (
       ne-eqb _ _ (λ e. r .1 (c .before .before .payload .ensures ∙ e)),
       ne-eqb _ _ (λ e. r .0 .1 (c .before .before .payload .ensures ∙ e)),
     )))
     (λ c. sym (ap₂ booleanOf (sym (c .before .before .before .kind .ensures) ∙ c .before .match .keys2)
     (sym (c .before .before .payload .ensures) ∙ c .match3 .keys1)))
-    (λ c. let s = c .before .before .before .before .before .before in let p = payloadAt (s .args .w .now) (s .args .at) in let r = c .match3 .rest in
-    boolean-settled (c .before .before .before .kind .ensures) 9 (c .before .match .keys2) (eqb p 1) (Truth true) (s .pre)
+    (λ c. let s = c .before .before .before .before .before .before in let p = payloadAt (s .args .w .now)
+    (s .args .at) in let r = c .match3 .rest in
+    boolean-settled (c .before .before .before .kind .ensures) 9 (c .before .match .keys2) (eqb p 1) (Truth true)
+    (s .pre)
     (simp (ne-eqb _ _ (λ e. r .1 (c .before .before .payload .ensures ∙ e)))))
     (λ c. let s = c .before .before .before .before .before in let p = payloadAt (s .args .w .now) (s .args .at) in
     boolean-settled (c .before .before .kind .ensures) 10 (c .match .keys3) (leb p 0) And (s .pre) refl)

@@ -29,15 +29,18 @@ command-head-spec =
     (λ c. let s = c .before .before .before .before .before in let p = payloadAt (s .args .w .now) (s .args .at) in
     command-settled (c .before .before .kind .ensures) 26 (c .match .keys3) (leb p 0) Assert (s .pre) refl)
     (λ c. let s = c .before .before .before .before .before in let p = payloadAt (s .args .w .now) (s .args .at) in
-    ap AssignScalar (c .before .payload .ensures) ∙ command-settled (c .before .before .kind .ensures) 27 (c .match .keys4) (leb p 31) (AssignScalar p) (s .pre) refl)
+    ap AssignScalar (c .before .payload .ensures) ∙ command-settled (c .before .before .kind .ensures) 27
+    (c .match .keys4) (leb p 31) (AssignScalar p) (s .pre) refl)
     (λ c. let s = c .before .before .before .before .before in let p = payloadAt (s .args .w .now) (s .args .at) in
-    ap AssignArray (c .before .payload .ensures) ∙ command-settled (c .before .before .kind .ensures) 28 (c .match .keys5) (leb p 31) (AssignArray p) (s .pre) refl)
+    ap AssignArray (c .before .payload .ensures) ∙ command-settled (c .before .before .kind .ensures) 28
+    (c .match .keys5) (leb p 31) (AssignArray p) (s .pre) refl)
     (λ c. let s = c .before .before .before .before .before in let p = payloadAt (s .args .w .now) (s .args .at) in
     command-settled (c .before .before .kind .ensures) 29 (c .match .keys6) (leb p 0) If (s .pre) refl)
     (λ c. let s = c .before .before .before .before .before in let p = payloadAt (s .args .w .now) (s .args .at) in
     command-settled (c .before .before .kind .ensures) 30 (c .match .keys7) (leb p 0) While (s .pre) refl)
     (λ c. let s = c .before .before .before .before .before in let p = payloadAt (s .args .w .now) (s .args .at) in
-    ap (λ (z : ℕ). For (z % 32) (z / 32)) (c .before .payload .ensures) ∙ command-settled (c .before .before .kind .ensures) 31 (c .match .keys8) (leb p 1023) (For (p % 32) (p / 32)) (s .pre) refl)
+    ap (λ (z : ℕ). For (z % 32) (z / 32)) (c .before .payload .ensures) ∙ command-settled
+    (c .before .before .kind .ensures) 31 (c .match .keys8) (leb p 1023) (For (p % 32) (p / 32)) (s .pre) refl)
     (λ c. let r = c .match .rest in simp (
       ne-eqb _ _ (λ e. r .1 (c .before .before .kind .ensures ∙ e)),
       ne-eqb _ _ (λ e. r .0 .1 (c .before .before .kind .ensures ∙ e)),

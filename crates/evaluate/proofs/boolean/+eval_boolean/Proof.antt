@@ -83,7 +83,8 @@ pub +eval-boolean-spec : {M : Type 1} → statement M
     (λ c. let s = (c .before .before .before .before .before) in let p = s .pre .1 in
     let i = expression-starts (p .expression) in omega arith)
     (λ c κs. let s = (c .before .before .before .before .before) in let p = s .pre .1 in
-    let x = boolean-parts (p .expression .tree) (p .expression .there) (sym (c .before .before .boolean-head .ensures) ∙ c .enum-told .given .1) in let o = first-operand p x in let m = s .pre .0 in (omega arith, o .can))
+    let x = boolean-parts (p .expression .tree) (p .expression .there) (sym (c .before .before .boolean-head .ensures)
+    ∙ c .enum-told .given .1) in let o = first-operand p x in let m = s .pre .0 in (omega arith, o .can))
     (λ c. let s = (c .before .before .before .before .before .before) in let p = s .pre .1 in
     let i = expression-starts (p .expression) in omega arith)
     (λ c κs. let s = (c .before .before .before .before .before .before) in let p = s .pre .1 in
@@ -99,7 +100,8 @@ pub +eval-boolean-spec : {M : Type 1} → statement M
     (λ c. let s = (c .before .before .before .before .before) in let p = s .pre .1 in
     let i = expression-starts (p .expression) in omega arith)
     (λ c κs. let s = (c .before .before .before .before .before) in let p = s .pre .1 in
-    let x = boolean-parts (p .expression .tree) (p .expression .there) (sym (c .before .before .boolean-head .ensures) ∙ c .enum-told2 .given .1) in let o = first-operand p x in let m = s .pre .0 in (omega arith, o .can))
+    let x = boolean-parts (p .expression .tree) (p .expression .there) (sym (c .before .before .boolean-head .ensures)
+    ∙ c .enum-told2 .given .1) in let o = first-operand p x in let m = s .pre .0 in (omega arith, o .can))
     (λ c. let s = (c .before .before .before .before .before .before) in let p = s .pre .1 in
     let i = expression-starts (p .expression) in omega arith)
     (λ c κs. let s = (c .before .before .before .before .before .before) in let p = s .pre .1 in
@@ -116,7 +118,8 @@ pub +eval-boolean-spec : {M : Type 1} → statement M
     (λ c. let s = (c .before .before .before .before .before) in let p = s .pre .1 in
     let i = expression-starts (p .expression) in omega arith)
     (λ c κs. let s = (c .before .before .before .before .before) in let p = s .pre .1 in
-    let x = boolean-parts (p .expression .tree) (p .expression .there) (sym (c .before .before .boolean-head .ensures) ∙ c .enum-told3 .given .1) in let o = only-operand p x in let m = s .pre .0 in (omega arith, o .can))
+    let x = boolean-parts (p .expression .tree) (p .expression .there) (sym (c .before .before .boolean-head .ensures)
+    ∙ c .enum-told3 .given .1) in let o = only-operand p x in let m = s .pre .0 in (omega arith, o .can))
     (λ c κs. search needs)
     (λ c. search needs)
     (λ c. let s = (c .before .before .before .before .before .before .before .before .before .before) in

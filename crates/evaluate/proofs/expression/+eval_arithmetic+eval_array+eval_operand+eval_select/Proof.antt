@@ -188,7 +188,8 @@ pub +eval-arithmetic+eval-array+eval-operand+eval-select-spec : {M : Type 1} →
     (λ c κs. expression-starts ((c .before .before) .pre .1 .0 .expression))
     (λ c. search needs)
     (λ c. let s = (c .before .before .before .before .before .before) in let p = s .pre .1 .0 in
-    let x = array-parts (p .expression .tree) (p .expression .there) (sym (c .before .before .before .array-head .ensures) ∙ c .before .head .given .1) in let h = x .1 in omega arith)
+    let x = array-parts (p .expression .tree) (p .expression .there) (sym
+    (c .before .before .before .array-head .ensures) ∙ c .before .head .given .1) in let h = x .1 in omega arith)
     (λ c κs. let s = (c .before .before .before .before .before .before .before) in let p = s .pre .1 .0 in
     let x = array-parts (p .expression .tree) (p .expression .there)
     (sym (c .before .before .before .before .array-head .ensures) ∙ c .before .before .head .given .1) in
@@ -199,7 +200,9 @@ pub +eval-arithmetic+eval-array+eval-operand+eval-select-spec : {M : Type 1} →
     (λ c. let s = (c .before .before .before .before .before) in let p = s .pre .1 .0 in
     let i = expression-starts (p .expression) in omega arith)
     (λ c κs. let s = (c .before .before .before .before .before .before) in let p = s .pre .1 .0 in
-    let x = array-parts (p .expression .tree) (p .expression .there) (sym (c .before .before .before .array-head .ensures) ∙ c .before .enum-told2 .given .1) in let o = first-of-three p x in let m = s .pre .0 in
+    let x = array-parts (p .expression .tree) (p .expression .there) (sym
+    (c .before .before .before .array-head .ensures) ∙ c .before .enum-told2 .given .1) in let o = first-of-three p x in
+    let m = s .pre .0 in
     (omega arith, (o .can, s .pre .1 .1)))
     (λ c. let s = (c .before .before .before .before .before .before .before .before) in let p = s .pre .1 .0 in
     let i = expression-starts (p .expression) in omega arith)
@@ -242,7 +245,9 @@ pub +eval-arithmetic+eval-array+eval-operand+eval-select-spec : {M : Type 1} →
     .before .before .before) in let p = s .pre .1 .0 in
     update-filled (p .ends-of) (c .before .before .before .before .before .before .end-at .ensures)
     (c .before .before .before .before .end-at2 .ensures)
-    (sym (c .before .before .before .before .before .before .before .before .before .before .before .before .array-head .ensures) ∙ c .before .before .before .before .before .before .before .before .before .before .enum-told2 .given .1) (c .before .before .before .before .before .before .before .before .eval-array .ensures)
+    (sym (c .before .before .before .before .before .before .before .before .before .before .before .before .array-head
+    .ensures) ∙ c .before .before .before .before .before .before .before .before .before .before .enum-told2 .given .1)
+    (c .before .before .before .before .before .before .before .before .eval-array .ensures)
     (c .before .before .before .before .before .eval-operand .ensures)
     (c .before .before .before .eval-arithmetic .ensures) (c .before .replace .ensures))
     (λ c. let p = c .before .before .before .before .before .pre .1 .0 in

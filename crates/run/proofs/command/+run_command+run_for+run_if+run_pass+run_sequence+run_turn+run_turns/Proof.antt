@@ -3,7 +3,7 @@
 -- command on, five times, so that the functions for parts of a command come between it and its own parts; a loop's is
 -- the steps left.
 -- Assumes nothing.
-use mathlib.Core.Path.{refl, sym, ap, subst, _∙_}
+use mathlib.Core.Path.{refl, sym, subst, _∙_}
 use native.Mathlib.Omega.{arith}
 use Prim.Native.Nat.{_+_, _-_, _*_}
 use lib.ListN.{length}
