@@ -1,7 +1,6 @@
 // Refusals 2 to 6 (document 01, "Judging order"), over the words of a file.
 pub mod word; // word.rt: the word that is due at a place
-pub mod operand; // operand.rt: the operands that follow a word
-pub mod expression; // expression.rt: expressions of the three sorts
+pub mod expression; // expression.rt: the three sorts of expressions
 pub mod command; // command.rt: commands
 pub mod set; // set.rt: members and sets
 pub mod table; // table.rt: what evidence carries and its children, by rule
@@ -25,15 +24,6 @@ pub enum Sort {
     Arithmetic,
     Boolean,
     Array,
-}
-
-// The sorts of the operands that follow a word, in the file's order; or the word is not allowed.
-pub enum Operands {
-    None,
-    One(Sort),
-    Two(Sort, Sort),
-    Three(Sort, Sort, Sort),
-    NotAllowed,
 }
 
 // The most comparisons of an implication, the most depth, the most members of a set.
