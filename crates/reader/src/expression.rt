@@ -2,6 +2,7 @@
 use super::Due;
 use super::Sort;
 use super::Walk;
+use super::leaf::is_leaf;
 use super::word::word_due;
 use words::ArithmeticWord;
 use words::ArrayWord;
@@ -90,16 +91,21 @@ pub fn read_array(w: &[u32], at: usize, left: usize) -> Walk
     }
 }
 
-// An operand of a sort, from where the walk so far goes on. Its reader decodes its first word, once.
+// An operand of a sort, from where the walk so far goes on. One of one word makes no call of the cycle.
 pub fn read_operand(sort: Sort, w: &[u32], from: Walk, left: usize) -> Walk
     ensures { λ r. ⌜ r ≡ onward from (λ p. walkOf (expression (now (w .entry)) left (sortMeant sort) p)) ⌝ }
 {
     match from {
-        Walk::Next(at) => match sort {
-            Sort::Arithmetic => read_arithmetic(w, at, left),
-            Sort::Boolean => read_boolean(w, at, left),
-            Sort::Array => read_array(w, at, left),
-        },
+        Walk::Next(at) => {
+            if is_leaf(sort, w, at, left) {
+                return Walk::Next(at + 1);
+            }
+            match sort {
+                Sort::Arithmetic => read_arithmetic(w, at, left),
+                Sort::Boolean => read_boolean(w, at, left),
+                Sort::Array => read_array(w, at, left),
+            }
+        }
         Walk::Refused(_, _) => from,
     }
 }

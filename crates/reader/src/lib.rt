@@ -1,5 +1,6 @@
 // Refusals 2 to 6 (document 01, "Judging order"), over the words of a file.
 pub mod word; // word.rt: the word that is due at a place
+pub mod leaf; // leaf.rt: operands of one word
 pub mod expression; // expression.rt: the three sorts of expressions
 pub mod command; // command.rt: commands
 pub mod set; // set.rt: members and sets

@@ -3,10 +3,11 @@
 -- Assumes nothing.
 use borrow.Author.Needs.{needs}
 use native.Mathlib.Omega.{arith}
-use mathlib.Core.Path.{refl, ap}
+use mathlib.Core.Path.{refl, sym, _∙_, ap}
 use Prim.Native.Nat.{ℕ, _<_, _+_, _*_}
 use Rattle.reader.proofs.Walks.{onto, arithmetic-goes, boolean-goes, array-goes, stop, arm}
 use Rattle.reader.proofs.Forward.{wordsLeft, word-left, expression-left}
+use Rattle.reader.proofs.Leaving.{leaf-walk}
 use Rattle.reader.specs.declared.Walk.the-variants.{Next}
 use borrow.Fn.Kinds.{In}
 use borrow.Fn.PlainCycle.{Measures, is, falls, and}
@@ -22,6 +23,7 @@ use Rattle.reader.proofs.expression.+read_arithmetic+read_array+read_bo
 use Rattle.reader.proofs.expression.read_operand.Reads as read-operand
 use Rattle.reader.proofs.expression.read_operand.Kinds as read-operand-kinds
 use Rattle.reader.proofs.expression.+read_arithmetic+read_array+read_boolean+read_operand.Lts-read_operand as read-operand-lts
+use Rattle.reader.proofs.leaf.is_leaf.Reads as is-leaf-reads
 use Rattle.reader.proofs.word.word_due.Reads as word-due-reads
 use Rattle.words.proofs.decode.arithmetic_word.Reads as arithmetic-word-reads
 use Rattle.words.proofs.decode.array_word.Reads as array-word-reads
@@ -283,6 +285,8 @@ pub +read-arithmetic+read-array+read-boolean+read-operand-spec : {M : Type 1} �
     (e .before .before .boolean-word .ensures) (e .enum-told6 .given .1)
     refl))
     λ t. read-operand-lts.spec (
+      is-leaf-reads.Asked,
+      is-leaf-reads.Learnt,
       read-arithmetic-below t,
       read-arithmetic.Post,
       read-boolean-below t,
@@ -293,20 +297,31 @@ pub +read-arithmetic+read-array+read-boolean+read-operand-spec : {M : Type 1} �
     (read-operand-at t)
     read-operand.Post
     (λ c. search needs)
+    (λ c κs. search needs)
+    (λ c. let leaf = c .before in
+    let start = leaf .before .before .before .before in
+    omega (
+      arith,
+      start .shared-slice-known .given 0,
+      leaf-walk _ _ _ _ (sym (leaf .is-leaf .ensures) ∙ c .if1 .taken) .inside,
+    ))
+    (λ c. let leaf = c .before in
+    rw (leaf .before .before .from .given .1)
+    (sym (leaf-walk _ _ _ _ (sym (leaf .is-leaf .ensures) ∙ c .if1 .taken) .past)))
     (λ c. search needs)
-    (λ c κs. let m = c .before .before .before in
+    (λ c κs. let m = c .before .before .before .before .before in
     let e = ap (wordsLeft (m .before .before .before .args .w .now)) (m .from .given .1) in omega arith)
     (λ c. search needs)
-    (λ c κs. let m = c .before .before .before in
+    (λ c κs. let m = c .before .before .before .before .before in
     let e = ap (wordsLeft (m .before .before .before .args .w .now)) (m .from .given .1) in omega arith)
     (λ c. search needs)
-    (λ c κs. let m = c .before .before .before in
+    (λ c κs. let m = c .before .before .before .before .before in
     let e = ap (wordsLeft (m .before .before .before .args .w .now)) (m .from .given .1) in omega arith)
     (λ c. search needs)
-    (λ c. let m = c .before .before .before .before in
+    (λ c. let m = c .before .before .before .before .before .before in
     rw (m .from .given .1, c .before .enum-told .given .1) (c .read-arithmetic .ensures))
-    (λ c. let m = c .before .before .before .before in
+    (λ c. let m = c .before .before .before .before .before .before in
     rw (m .from .given .1, c .before .enum-told2 .given .1) (c .read-boolean .ensures))
-    (λ c. let m = c .before .before .before .before in
+    (λ c. let m = c .before .before .before .before .before .before in
     rw (m .from .given .1, c .before .enum-told3 .given .1) (c .read-array .ensures))
     (λ c. rw (c .enum-told4 .given .1))
