@@ -1,13 +1,13 @@
 -- Where the operands of an expression stand, and that they can be worked out.
 -- Assumes nothing.
---     left                                              twice the words left from a place on
+--     left                                              thrice the words left from a place on
 --     Operand                                           an operand can be worked out, at a place within the file
 --     end-is                                            the end of an expression is in the list of ends
 --     only-operand, first-operand, second-operand       the operands, by the parts
 --     first-of-three, second-of-three, third-of-three
 use mathlib.Core.Path.{_≡_, sym, ap, subst, _∙_}
 use mathlib.Core.List.{List}
-use Prim.Native.Nat.{ℕ, _+_, _-_, _<_}
+use Prim.Native.Nat.{ℕ, _+_, _-_, _*_, _<_}
 use native.Mathlib.Omega.{arith}
 use lib.IntN.{ℤ}
 use lib.ListN.{length, getD}
@@ -19,7 +19,7 @@ use Rattle.heads.proofs.Parts.{expression-inside, One, Two, Three}
 use Rattle.evaluate.specs.Evaluated.{CanEvaluate}
 
 abbrev pub left : List ℕ → ℕ → ℕ
-left file at = (length file - at) + (length file - at)
+left file at = 3 * (length file - at)
 
 -- an expression of any sort
 abbrev pub part : (k : Sort) → Expr k → Part

@@ -1,6 +1,7 @@
 -- What is worked out at a place is the definition's outcome of the tree that stands there, by its first word.
 -- Assumes nothing.
---     constant-worked, scalar-worked, operation-worked, select-worked      arithmetic
+--     constant-worked, scalar-worked, leaf-worked, operation-worked, select-worked
+--                                                                          arithmetic
 --     identifier-filled, zeros-filled, update-filled                       arrays
 --     compare-tested, truth-tested, and-tested, or-tested, not-tested      booleans
 use mathlib.Core.Path.{_≡_, refl, sym, ap, ap₂, subst, _∙_}
@@ -17,19 +18,16 @@ use mir.Val.{SFits, toZ, ofZ}
 use Rattle.laws.proofs.Bools.{and-right}
 use Rattle.language.specs.Syntax.{Sort, Expr}
 use Rattle.language.specs.Store.{Value, sameInteger, put}
-use Rattle.layout.specs.Bytes.{numberAt}
 use Rattle.layout.specs.EvidenceWords.{expressionPart}
 use Rattle.execution.specs.Lent.{lent, storeOf, elementAt, elements}
 use Rattle.execution.specs.Evaluate.{Outcome, worked, stops, onWorked, tested, index, evaluate}
 use Rattle.ends.specs.Ends.{EndsOf}
-use Rattle.words.specs.Decode.{decodeOf}
 use Rattle.words.specs.declared.Operator.{Operator}
 use Rattle.words.specs.declared.Comparison.{Comparison}
 use Rattle.words.specs.declared.ArithmeticWord.the-variants.{Constant, Scalar, Operation, Select}
 use Rattle.words.specs.declared.BooleanWord.the-variants.{Compare, Truth, And, Or, Not}
 use Rattle.words.specs.declared.ArrayWord.the-variants.{Identifier, Zeros, Update}
-use Rattle.words.specs.declared.Word.the-variants.{Arithmetic, Boolean, Array}
-use Rattle.heads.specs.Stands.{PartAt}
+use Rattle.heads.specs.Stands.{arithmeticAt, booleanAt, arrayAt, PartAt}
 use Rattle.heads.proofs.Parts.{arithmetic-parts, boolean-parts, array-parts}
 use Rattle.arithmetic.specs.Worked.{outcome, checked}
 use Rattle.arithmetic.specs.declared.Worked.{Worked}
@@ -37,9 +35,11 @@ use Rattle.arithmetic.specs.declared.Worked.the-variants as Worked
 use Rattle.arithmetic.proofs.Signed.{back}
 use Rattle.evaluate.specs.Evaluated.{testOutcome, fillOutcome, operated, compared, conjoined, disjoined}
 use Rattle.evaluate.specs.Evaluated.{negated}
-use Rattle.evaluate.specs.Evaluated.{entry, entered, withEntry, replaced, Evaluates, Tests, Fills}
+use Rattle.evaluate.specs.Evaluated.{entry, entered, withEntry, replaced, Evaluates, Tests, Fills, Leaves}
 use Rattle.evaluate.specs.declared.Tested.{Tested}
 use Rattle.evaluate.specs.declared.Tested.the-variants as Tested
+use Rattle.evaluate.specs.declared.Leaf.{Leaf}
+use Rattle.evaluate.specs.declared.Leaf.the-variants as Leaf
 use Rattle.evaluate.specs.declared.Filled.{Filled}
 use Rattle.evaluate.specs.declared.Filled.the-variants as Filled
 use Rattle.evaluate.proofs.Elements.{elements-at, set-elements}
@@ -91,7 +91,7 @@ pub moved : {file ends : List ℕ} (x : EndsOf file ends) {q : ℕ} (at : ℕ) (
 moved {file} x at next a b {m} {p} s t = subst (λ z. PartAt file (expressionPart b) z p) (end-is a x s ∙ sym next) t
 
 module _ {file : List ℕ} {ss vs : List ℤ} {at : ℕ} where
-  pub constant-worked : (z : ℤ) → SFits w64 z → decodeOf (numberAt file at) ≡ Arithmetic (Constant z) →
+  pub constant-worked : (z : ℤ) → SFits w64 z → arithmeticAt file at ≡ Constant z →
       Evaluates file ss vs at (Worked.Value (toZ w64 (ofZ w64 z)))
   unfolding evaluate
   constant-worked z f h = record {
@@ -99,7 +99,7 @@ module _ {file : List ℕ} {ss vs : List ℤ} {at : ℕ} where
         ap worked (back f) ∙ sym (ap (λ x. evaluate x (storeOf (lent ss vs))) (arithmetic-parts e s h));
   }
 
-  pub scalar-worked : (x : ℕ) (z : ℤ) → SFits w64 z → decodeOf (numberAt file at) ≡ Arithmetic (Scalar x) →
+  pub scalar-worked : (x : ℕ) (z : ℤ) → SFits w64 z → arithmeticAt file at ≡ Scalar x →
       z ≡ getD ss x (pos 0) → Evaluates file ss vs at (Worked.Value (toZ w64 (ofZ w64 z)))
   unfolding evaluate
   scalar-worked x z f h q = record {
@@ -107,7 +107,13 @@ module _ {file : List ℕ} {ss vs : List ℤ} {at : ℕ} where
         ap worked (back f ∙ q) ∙ sym (ap (λ y. evaluate y (storeOf (lent ss vs))) (arithmetic-parts e s h .0));
   }
 
-  pub identifier-filled : (a : ℕ) (l : List ℤ) → decodeOf (numberAt file at) ≡ Array (Identifier a) →
+  -- an operand that is a leaf
+  pub leaf-worked : {l : Leaf} {z : ℤ} → SFits w64 z → Leaves file ss at l → l ≡ Leaf.Value z →
+      Evaluates file ss vs at (Worked.Value (toZ w64 (ofZ w64 z)))
+  leaf-worked f h e =
+      let g = subst (Leaves file ss at) e h vs in record { is = λ e p s. ap worked (back f) ∙ g .is e p s }
+
+  pub identifier-filled : (a : ℕ) (l : List ℤ) → arrayAt file at ≡ Identifier a →
       l ≡ elements (elementAt vs a) → Fills file ss vs at Filled.Done l
   unfolding evaluate
   identifier-filled a l h q = record {
@@ -116,7 +122,7 @@ module _ {file : List ℕ} {ss vs : List ℤ} {at : ℕ} where
         ∙ sym (ap (λ y. onWorked (evaluate y (storeOf (lent ss vs))) λ f. worked (elements f)) (array-parts e s h .0));
   }
 
-  pub zeros-filled : (l : List ℤ) → decodeOf (numberAt file at) ≡ Array Zeros →
+  pub zeros-filled : (l : List ℤ) → arrayAt file at ≡ Zeros →
       l ≡ elements (λ i. pos 0) → Fills file ss vs at Filled.Done l
   unfolding evaluate
   zeros-filled l h q = record {
@@ -125,14 +131,14 @@ module _ {file : List ℕ} {ss vs : List ℤ} {at : ℕ} where
         ∙ sym (ap (λ y. onWorked (evaluate y (storeOf (lent ss vs))) λ f. worked (elements f)) (array-parts e s h));
   }
 
-  pub truth-tested : (t : Bool) → decodeOf (numberAt file at) ≡ Boolean (Truth t) → Tests file ss vs at (Tested.Is t)
+  pub truth-tested : (t : Bool) → booleanAt file at ≡ Truth t → Tests file ss vs at (Tested.Is t)
   unfolding evaluate
   truth-tested t h = record {
     is = λ e p s.
         sym (ap (λ y. evaluate y (storeOf (lent ss vs))) (boolean-parts e s h));
   }
 
-  pub not-tested : {a r : Tested} → decodeOf (numberAt file at) ≡ Boolean Not → Tests file ss vs (at + 1) a →
+  pub not-tested : {a r : Tested} → booleanAt file at ≡ Not → Tests file ss vs (at + 1) a →
       testOutcome r ≡ negated (testOutcome a) → Tests file ss vs at r
   unfolding evaluate
   not-tested h f q = record {
@@ -142,7 +148,7 @@ module _ {file : List ℕ} {ss vs : List ℤ} {at : ℕ} where
   }
 
   module _ {ends : List ℕ} (x : EndsOf file ends) {q : ℕ} (next : q ≡ getD ends (at + 1) 0) where
-    pub operation-worked : {o : Operator} {a b r : Worked} → decodeOf (numberAt file at) ≡ Arithmetic (Operation o) →
+    pub operation-worked : {o : Operator} {a b r : Worked} → arithmeticAt file at ≡ Operation o →
         Evaluates file ss vs (at + 1) a → Evaluates file ss vs q b → outcome r ≡ operated o (outcome a) (outcome b) →
         Evaluates file ss vs at r
     unfolding evaluate checked
@@ -155,7 +161,7 @@ module _ {file : List ℕ} {ss vs : List ℤ} {at : ℕ} where
           ∙ sym (ap (λ y. evaluate y (storeOf (lent ss vs))) (t .is));
     }
 
-    pub select-worked : {a : Filled} {l : List ℤ} {b r : Worked} → decodeOf (numberAt file at) ≡ Arithmetic Select →
+    pub select-worked : {a : Filled} {l : List ℤ} {b r : Worked} → arithmeticAt file at ≡ Select →
         Fills file ss vs (at + 1) a l → Evaluates file ss vs q b → outcome r ≡ entered (fillOutcome a l) (outcome b) →
         Evaluates file ss vs at r
     unfolding evaluate
@@ -170,7 +176,7 @@ module _ {file : List ℕ} {ss vs : List ℤ} {at : ℕ} where
     }
 
     pub update-filled : {a r : Filled} {l m : List ℤ} {b v : Worked} {z : ℕ} → z ≡ getD ends q 0 →
-        decodeOf (numberAt file at) ≡ Array Update → Fills file ss vs (at + 1) a l → Evaluates file ss vs q b →
+        arrayAt file at ≡ Update → Fills file ss vs (at + 1) a l → Evaluates file ss vs q b →
         Evaluates file ss vs z v → fillOutcome r m ≡ replaced (fillOutcome a l) (outcome b) (outcome v) →
         Fills file ss vs at r m
     unfolding evaluate
@@ -190,7 +196,7 @@ module _ {file : List ℕ} {ss vs : List ℤ} {at : ℕ} where
     }
 
     pub compare-tested : {c : Comparison} {a b : Worked} {r : Tested} →
-        decodeOf (numberAt file at) ≡ Boolean (Compare c) →
+        booleanAt file at ≡ Compare c →
         Evaluates file ss vs (at + 1) a → Evaluates file ss vs q b →
         testOutcome r ≡ compared c (outcome a) (outcome b) →
         Tests file ss vs at r
@@ -204,7 +210,7 @@ module _ {file : List ℕ} {ss vs : List ℤ} {at : ℕ} where
           ∙ sym (ap (λ y. evaluate y (storeOf (lent ss vs))) (t .is));
     }
 
-    pub and-tested : {a b r : Tested} → decodeOf (numberAt file at) ≡ Boolean And →
+    pub and-tested : {a b r : Tested} → booleanAt file at ≡ And →
         Tests file ss vs (at + 1) a → Tests file ss vs q b → testOutcome r ≡ conjoined (testOutcome a) (testOutcome b) →
         Tests file ss vs at r
     unfolding evaluate
@@ -217,7 +223,7 @@ module _ {file : List ℕ} {ss vs : List ℤ} {at : ℕ} where
           ∙ sym (ap (λ y. evaluate y (storeOf (lent ss vs))) (t .is));
     }
 
-    pub or-tested : {a b r : Tested} → decodeOf (numberAt file at) ≡ Boolean Or →
+    pub or-tested : {a b r : Tested} → booleanAt file at ≡ Or →
         Tests file ss vs (at + 1) a → Tests file ss vs q b → testOutcome r ≡ disjoined (testOutcome a) (testOutcome b) →
         Tests file ss vs at r
     unfolding evaluate

@@ -4,8 +4,8 @@
 -- `not-tested` of proofs/Results tie it to the definition's `evaluate`. Assumes nothing.
 --     testOutcome, fillOutcome       the code's answers as outcomes
 --     operated .. replaced           what the definition makes of the outcomes of operands
---     CanEvaluate, CanSelect         what the functions ask for
---     Evaluates, Tests, Fills        what they promise, by sort
+--     CanEvaluate, CanSelect, CanLeaf     what the functions ask for
+--     Evaluates, Tests, Fills, Leaves     what they promise, by sort
 use mathlib.Core.Path.{_≡_}
 use mathlib.Core.Bool.{Bool, not, _&&_, _||_}
 use mathlib.Core.List.{List}
@@ -15,22 +15,22 @@ use lib.ListN.{length, getD, set}
 use Rattle.language.specs.Syntax.{Sort, Expr}
 use Rattle.language.specs.Syntax as syntax
 use Rattle.language.specs.Store.{apply, relate}
-use Rattle.layout.specs.Bytes.{numberAt}
 use Rattle.layout.specs.EvidenceWords.{expressionPart}
 use Rattle.execution.specs.Lent.{lent, storeOf, elements}
 use Rattle.execution.specs.Evaluate.{Outcome, worked, stops, onWorked, index, evaluate}
 use Rattle.ends.specs.Ends.{EndsOf}
-use Rattle.words.specs.Decode.{decodeOf}
 use Rattle.words.specs.Meaning.{operatorMeant, comparisonMeant}
 use Rattle.words.specs.declared.Operator.{Operator}
 use Rattle.words.specs.declared.Comparison.{Comparison}
 use Rattle.words.specs.declared.ArithmeticWord.the-variants.{Select}
-use Rattle.words.specs.declared.Word.the-variants.{Arithmetic}
-use Rattle.heads.specs.Stands.{PartAt, ExpressionStands}
+use Rattle.heads.specs.Stands.{arithmeticAt, PartAt, ExpressionStands}
 use Rattle.arithmetic.specs.Worked.{outcome, checked}
 use Rattle.arithmetic.specs.declared.Worked.{Worked}
+use Rattle.arithmetic.specs.declared.Worked.the-variants as Worked
 use Rattle.evaluate.specs.declared.Tested.{Tested}
 use Rattle.evaluate.specs.declared.Tested.the-variants as Tested
+use Rattle.evaluate.specs.declared.Leaf.{Leaf}
+use Rattle.evaluate.specs.declared.Leaf.the-variants as Leaf
 use Rattle.evaluate.specs.declared.Filled.{Filled}
 use Rattle.evaluate.specs.declared.Filled.the-variants as Filled
 
@@ -83,7 +83,11 @@ pub record CanEvaluate (file ends : List ℕ) (ss vs : List ℤ) (k : Sort) (at 
 -- a select stands there
 pub record CanSelect (file ends : List ℕ) (ss vs : List ℤ) (at : ℕ) : Type 0 where
   pub can : CanEvaluate file ends ss vs syntax.Arithmetic at
-  pub head : decodeOf (numberAt file at) ≡ Arithmetic Select
+  pub head : arithmeticAt file at ≡ Select
+
+pub record CanLeaf (file : List ℕ) (ss : List ℤ) (at : ℕ) : Type 0 where
+  pub expression : ExpressionStands file syntax.Arithmetic at
+  pub scalars-sized : length ss ≡ 32
 
 module _ (file : List ℕ) (ss vs : List ℤ) (at : ℕ) where
   pub record Evaluates (r : Worked) : Type 0 where
@@ -97,3 +101,8 @@ module _ (file : List ℕ) (ss vs : List ℤ) (at : ℕ) where
   pub record Fills (r : Filled) (l : List ℤ) : Type 0 where
     pub is : (e : Expr syntax.Array) (p : ℕ) → PartAt file (expressionPart e) at p →
         fillOutcome r l ≡ onWorked (evaluate e (storeOf (lent ss vs))) λ f. worked (elements f)
+
+-- whatever the arrays are
+abbrev pub Leaves : List ℕ → List ℤ → ℕ → Leaf → Type 0
+Leaves file ss at (Leaf.Value z) = (vs : List ℤ) → Evaluates file ss vs at (Worked.Value z)
+Leaves file ss at Leaf.Other = Unit {0}

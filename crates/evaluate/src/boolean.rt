@@ -4,7 +4,7 @@ use super::combine::both;
 use super::combine::compare_both;
 use super::combine::either;
 use super::combine::negate;
-use super::expression::eval_arithmetic;
+use super::expression::eval_operand;
 use ends::end_at;
 use heads::boolean_head;
 use words::BooleanWord;
@@ -18,9 +18,9 @@ pub fn eval_boolean(w: &[u32], ends: &[u32], at: usize, scalars: &[i64], values:
     let head = boolean_head(w, at);
     match head {
         BooleanWord::Compare(c) => {
-            let a = eval_arithmetic(w, ends, at + 1, scalars, values);
+            let a = eval_operand(w, ends, at + 1, scalars, values);
             let second = end_at(ends, at + 1);
-            let b = eval_arithmetic(w, ends, second, scalars, values);
+            let b = eval_operand(w, ends, second, scalars, values);
             compare_both(c, a, b)
         }
         BooleanWord::Truth(t) => Tested::Is(t),
@@ -40,5 +40,6 @@ pub fn eval_boolean(w: &[u32], ends: &[u32], at: usize, scalars: &[i64], values:
             let a = eval_boolean(w, ends, at + 1, scalars, values);
             negate(a)
         }
+        BooleanWord::Other => Tested::Stops(0),
     }
 }

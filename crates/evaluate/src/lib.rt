@@ -3,6 +3,7 @@
 // after its neighbours are worked out, in their order.
 pub mod store; // store.rt: reading and writing the values of a store
 pub mod combine; // combine.rt: what comes of operands
+pub mod leaves; // leaves.rt: constants and scalars
 pub mod expression; // expression.rt: arithmetic and array expressions, each calling on the other
 pub mod boolean; // boolean.rt: boolean expressions
 
@@ -16,4 +17,10 @@ pub enum Tested {
 pub enum Filled {
     Done,
     Stops(u32),
+}
+
+// The value of a constant or a scalar; or it is neither.
+pub enum Leaf {
+    Value(i64),
+    Other,
 }

@@ -4,7 +4,10 @@
 --     One, Two, Three                                                so many parts, one after the other
 --     ArithmeticParts, BooleanParts, ArrayParts, CommandParts        the parts by the first word
 --     arithmetic-parts, boolean-parts, array-parts, command-parts    are what stands there
-use mathlib.Core.Path.{_≡_, refl, sym, ap, subst}
+--     expression-starts, command-starts                              as callers have them: there is a word
+--     boolean-settled, command-settled                               a word that is allowed is settled by its kind
+use mathlib.Core.Path.{_≡_, refl, sym, ap, subst, _∙_}
+use mathlib.Core.Bool.{Bool, true, false, cond}
 use mathlib.Core.List.{List, _∷_, _++_}
 use Prim.Native.Nat.{ℕ, zero, suc, _+_, _<_, _≤_}
 use native.Mathlib.Omega.{arith}
@@ -16,26 +19,28 @@ use Rattle.language.specs.Syntax.{array, zeros, update, toScalar, toArray}
 use Rattle.language.specs.Syntax.{skip, sequence, assert, assign, ifElse, while, for}
 use Rattle.rules.specs.Words as spelled
 use Rattle.rules.specs.Words.{words, commandWords}
-use Rattle.layout.specs.Bytes.{numberAt}
+use Rattle.layout.specs.Bytes.{kindAt, payloadAt}
 use Rattle.layout.specs.Spelling.{FitsExpression, FitsCommand}
 use Rattle.layout.specs.EvidenceWords.{Part, expressionPart, commandPart}
 use Rattle.layout.specs.Standing.{Stands, PartStands}
 use Rattle.layout.proofs.Stands.{stands-end, stands-inside, parted}
 use Rattle.ends.proofs.Ends.{rest, less-fit}
-use Rattle.words.specs.Decode.{decodeOf}
+use Rattle.words.specs.Decode.{booleanOf, commandOf}
 use Rattle.words.specs.Meaning.{operatorMeant, comparisonMeant}
 use Rattle.words.specs.declared.ArithmeticWord.{ArithmeticWord}
+use Rattle.words.specs.declared.ArithmeticWord.the-variants as arithmetic
 use Rattle.words.specs.declared.ArithmeticWord.the-variants.{Constant, Scalar, Operation, Select}
 use Rattle.words.specs.declared.BooleanWord.{BooleanWord}
+use Rattle.words.specs.declared.BooleanWord.the-variants as boolean
 use Rattle.words.specs.declared.BooleanWord.the-variants.{Compare, Truth, And, Or, Not}
 use Rattle.words.specs.declared.ArrayWord.{ArrayWord}
+use Rattle.words.specs.declared.ArrayWord.the-variants as array
 use Rattle.words.specs.declared.ArrayWord.the-variants.{Identifier, Zeros, Update}
 use Rattle.words.specs.declared.CommandWord.{CommandWord}
+use Rattle.words.specs.declared.CommandWord.the-variants as command
 use Rattle.words.specs.declared.CommandWord.the-variants.{Skip, Sequence, Assert, AssignScalar, AssignArray, If, While}
 use Rattle.words.specs.declared.CommandWord.the-variants.{For}
-use Rattle.words.specs.declared.Word.{Word}
-use Rattle.words.specs.declared.Word.the-variants.{Arithmetic, Boolean, Array, Command}
-use Rattle.heads.specs.Stands.{PartAt}
+use Rattle.heads.specs.Stands.{arithmeticAt, booleanAt, arrayAt, commandAt, PartAt, ExpressionStands, CommandStands}
 use Rattle.heads.proofs.Decoded.{operatorHead, comparisonHead, arithmeticHead, booleanHead, arrayHead}
 use Rattle.heads.proofs.Decoded.{commandHead}
 use Rattle.heads.proofs.Decoded.{arithmetic-decoded, boolean-decoded, array-head-decoded, command-decoded}
@@ -86,6 +91,7 @@ module _ (file : List ℕ) where
   ArithmeticParts (Scalar x) e at p = (e ≡ scalar x) × (x ≤ 31)
   ArithmeticParts (Operation o) e at p = Two arithmeticPart arithmeticPart (operation (operatorMeant o)) e (at + 1) p
   ArithmeticParts Select e at p = Two arrayPart arithmeticPart select e (at + 1) p
+  ArithmeticParts arithmetic.Other e at p = ⊥
 
   abbrev pub BooleanParts : BooleanWord → Expr syntax.Boolean → ℕ → ℕ → Type 0
   BooleanParts (Compare r) e at p = Two arithmeticPart arithmeticPart (compare (comparisonMeant r)) e (at + 1) p
@@ -93,11 +99,13 @@ module _ (file : List ℕ) where
   BooleanParts And e at p = Two booleanPart booleanPart and e (at + 1) p
   BooleanParts Or e at p = Two booleanPart booleanPart or e (at + 1) p
   BooleanParts Not e at p = One booleanPart neg e (at + 1) p
+  BooleanParts boolean.Other e at p = ⊥
 
   abbrev pub ArrayParts : ArrayWord → Expr syntax.Array → ℕ → ℕ → Type 0
   ArrayParts (Identifier a) e at p = (e ≡ array a) × (a ≤ 31)
   ArrayParts Zeros e at p = e ≡ zeros
   ArrayParts Update e at p = Three arrayPart arithmeticPart arithmeticPart update e (at + 1) p
+  ArrayParts array.Other e at p = ⊥
 
   abbrev pub CommandParts : CommandWord → syntax.Command → ℕ → ℕ → Type 0
   CommandParts Skip c at p = c ≡ skip
@@ -108,6 +116,7 @@ module _ (file : List ℕ) where
   CommandParts If c at p = Three booleanPart commandPart commandPart ifElse c (at + 1) p
   CommandParts While c at p = Two booleanPart commandPart while c (at + 1) p
   CommandParts (For q m) c at p = One commandPart (for q m) c (at + 1) p × ((q ≤ 31) × (m ≤ 31))
+  CommandParts command.Other c at p = ⊥
 
 operator-meant : (o : syntax.Operator) → operatorMeant (operatorHead o) ≡ o
 operator-meant plus = refl
@@ -248,29 +257,52 @@ module _ {file : List ℕ} where
 
   -- by the word that stands there
   pub arithmetic-parts : (e : Expr syntax.Arithmetic) {at p : ℕ} {h : ArithmeticWord} →
-      PartAt file (expressionPart e) at p → decodeOf (numberAt file at) ≡ Arithmetic h → ArithmeticParts file h e at p
+      PartAt file (expressionPart e) at p → arithmeticAt file at ≡ h → ArithmeticParts file h e at p
   arithmetic-parts e {at} {p} {h} s eq =
       let k = arithmetic-decoded (s .levels) e at p (s .stands) in
       let same : arithmeticHead e ≡ h = cc in
       subst (λ i. ArithmeticParts file i e at p) same (arithmetic-own (s .levels) e at p (s .stands))
 
   pub boolean-parts : (e : Expr syntax.Boolean) {at p : ℕ} {h : BooleanWord} →
-      PartAt file (expressionPart e) at p → decodeOf (numberAt file at) ≡ Boolean h → BooleanParts file h e at p
+      PartAt file (expressionPart e) at p → booleanAt file at ≡ h → BooleanParts file h e at p
   boolean-parts e {at} {p} {h} s eq =
       let k = boolean-decoded (s .levels) e at p (s .stands) in
       let same : booleanHead e ≡ h = cc in
       subst (λ i. BooleanParts file i e at p) same (boolean-own (s .levels) e at p (s .stands))
 
   pub array-parts : (e : Expr syntax.Array) {at p : ℕ} {h : ArrayWord} →
-      PartAt file (expressionPart e) at p → decodeOf (numberAt file at) ≡ Array h → ArrayParts file h e at p
+      PartAt file (expressionPart e) at p → arrayAt file at ≡ h → ArrayParts file h e at p
   array-parts e {at} {p} {h} s eq =
       let k = array-head-decoded (s .levels) e at p (s .stands) in
       let same : arrayHead e ≡ h = cc in
       subst (λ i. ArrayParts file i e at p) same (array-own (s .levels) e at p (s .stands))
 
   pub command-parts : (c : syntax.Command) {at p : ℕ} {h : CommandWord} →
-      PartAt file (commandPart c) at p → decodeOf (numberAt file at) ≡ Command h → CommandParts file h c at p
+      PartAt file (commandPart c) at p → commandAt file at ≡ h → CommandParts file h c at p
   command-parts c {at} {p} {h} s eq =
       let k = command-decoded (s .levels) c at p (s .stands) in
       let same : commandHead c ≡ h = cc in
       subst (λ i. CommandParts file i c at p) same (command-own (s .levels) c at p (s .stands))
+
+module _ {file : List ℕ} {at : ℕ} where
+  pub expression-starts : {k : Sort} → ExpressionStands file k at → at < length file
+  expression-starts x = let i = expression-inside (x .tree) (x .there) in omega arith
+
+  pub command-starts : CommandStands file at → at < length file
+  command-starts x = let i = command-inside (x .tree) (x .there) in omega arith
+
+-- a word that is allowed is settled by its kind: b is the test of its payload, o what the word is where the test fails
+settled : {A : Type 0} (of : ℕ → ℕ → A) {k p : ℕ} (n : ℕ) (b : Bool) {w o : A} → k ≡ n → of n p ≡ cond b w o →
+    (of k p ≡ o → ⊥) → w ≡ of k p
+settled of {k} {p} n true e f h = sym f ∙ ap (λ x. of x p) (sym e)
+settled of {k} {p} n false e f h = absurd (h (ap (λ x. of x p) e ∙ f))
+
+-- as the code has them: k is the kind that it found
+module _ {file : List ℕ} {at k : ℕ} (found : k ≡ kindAt file at) (n : ℕ) (is : k ≡ n) (b : Bool) where
+  pub boolean-settled : (w : BooleanWord) → ExpressionStands file syntax.Boolean at →
+      booleanOf n (payloadAt file at) ≡ cond b w boolean.Other → w ≡ booleanAt file at
+  boolean-settled w x f = settled booleanOf n b (sym found ∙ is) f λ e. boolean-parts (x .tree) (x .there) e
+
+  pub command-settled : (w : CommandWord) → CommandStands file at →
+      commandOf n (payloadAt file at) ≡ cond b w command.Other → w ≡ commandAt file at
+  command-settled w x f = settled commandOf n b (sym found ∙ is) f λ e. command-parts (x .tree) (x .there) e

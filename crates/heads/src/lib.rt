@@ -1,56 +1,90 @@
-// The first word of an expression or a command that stands at a place, decoded, and the place past a part.
+// The first word of an expression or a command that stands at a place, decoded by its group alone.
 use words::ArithmeticWord;
 use words::ArrayWord;
 use words::BooleanWord;
 use words::CommandWord;
-use words::Word;
-use words::decode::decode;
+use words::Comparison;
+use words::decode::arithmetic_word;
+use words::decode::array_word;
+use words::decode::kind;
+use words::decode::payload;
+use words::kinds::AND;
+use words::kinds::ASSERT;
+use words::kinds::COMPARISON;
+use words::kinds::FOR;
+use words::kinds::IF;
+use words::kinds::NOT;
+use words::kinds::OR;
+use words::kinds::SEQUENCE;
+use words::kinds::SKIP;
+use words::kinds::TO_ARRAY;
+use words::kinds::TO_SCALAR;
+use words::kinds::TRUTH;
+use words::kinds::WHILE;
 ghost use mathlib.Core.Path.{_≡_};
+ghost use Prim.Native.Nat.{_<_};
+ghost use lib.ListN.{length};
 ghost use Rattle.language.specs.Syntax as syntax;
-ghost use Rattle.layout.specs.Bytes.{numberAt};
-ghost use Rattle.words.specs.Decode.{decodeOf};
-ghost use Rattle.heads.specs.Stands.{ExpressionStands, CommandStands};
+ghost use Rattle.heads.specs.Stands.{arithmeticAt, booleanAt, arrayAt, commandAt, ExpressionStands, CommandStands};
 
 pub fn arithmetic_head(w: &[u32], at: usize) -> ArithmeticWord
-    requires { ⌜ ExpressionStands (now w) syntax.Arithmetic «at» ⌝ }
-    ensures { λ r. ⌜ decodeOf (numberAt (now (w .entry)) «at») ≡ Word.Arithmetic r ⌝ }
+    requires { ⌜ «at» < length (now w) ⌝ }
+    ensures { λ r. ⌜ r ≡ arithmeticAt (now (w .entry)) «at» ⌝ }
 {
-    let word = decode(w[at]);
-    match word {
-        Word::Arithmetic(head) => head,
-        _ => ArithmeticWord::Select,
-    }
+    let word = w[at];
+    arithmetic_word(kind(word), payload(word))
 }
 
+// The word is allowed, so its kind settles the form: no payload is tested.
 pub fn boolean_head(w: &[u32], at: usize) -> BooleanWord
     requires { ⌜ ExpressionStands (now w) syntax.Boolean «at» ⌝ }
-    ensures { λ r. ⌜ decodeOf (numberAt (now (w .entry)) «at») ≡ Word.Boolean r ⌝ }
+    ensures { λ r. ⌜ r ≡ booleanAt (now (w .entry)) «at» ⌝ }
 {
-    let word = decode(w[at]);
-    match word {
-        Word::Boolean(head) => head,
-        _ => BooleanWord::Not,
+    let word = w[at];
+    let k = kind(word);
+    let p = payload(word);
+    match k {
+        COMPARISON => match p {
+            0 => BooleanWord::Compare(Comparison::Equal),
+            1 => BooleanWord::Compare(Comparison::Less),
+            _ => BooleanWord::Compare(Comparison::AtMost),
+        },
+        TRUTH => match p {
+            0 => BooleanWord::Truth(false),
+            _ => BooleanWord::Truth(true),
+        },
+        AND => BooleanWord::And,
+        OR => BooleanWord::Or,
+        NOT => BooleanWord::Not,
+        _ => BooleanWord::Other,
     }
 }
 
 pub fn array_head(w: &[u32], at: usize) -> ArrayWord
-    requires { ⌜ ExpressionStands (now w) syntax.Array «at» ⌝ }
-    ensures { λ r. ⌜ decodeOf (numberAt (now (w .entry)) «at») ≡ Word.Array r ⌝ }
+    requires { ⌜ «at» < length (now w) ⌝ }
+    ensures { λ r. ⌜ r ≡ arrayAt (now (w .entry)) «at» ⌝ }
 {
-    let word = decode(w[at]);
-    match word {
-        Word::Array(head) => head,
-        _ => ArrayWord::Zeros,
-    }
+    let word = w[at];
+    array_word(kind(word), payload(word))
 }
 
+// As for booleans.
 pub fn command_head(w: &[u32], at: usize) -> CommandWord
     requires { ⌜ CommandStands (now w) «at» ⌝ }
-    ensures { λ r. ⌜ decodeOf (numberAt (now (w .entry)) «at») ≡ Word.Command r ⌝ }
+    ensures { λ r. ⌜ r ≡ commandAt (now (w .entry)) «at» ⌝ }
 {
-    let word = decode(w[at]);
-    match word {
-        Word::Command(head) => head,
-        _ => CommandWord::Skip,
+    let word = w[at];
+    let k = kind(word);
+    let p = payload(word);
+    match k {
+        SKIP => CommandWord::Skip,
+        SEQUENCE => CommandWord::Sequence,
+        ASSERT => CommandWord::Assert,
+        TO_SCALAR => CommandWord::AssignScalar(p),
+        TO_ARRAY => CommandWord::AssignArray(p),
+        IF => CommandWord::If,
+        WHILE => CommandWord::While,
+        FOR => CommandWord::For(p % 32, p / 32),
+        _ => CommandWord::Other,
     }
 }

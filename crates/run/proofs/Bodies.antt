@@ -19,7 +19,6 @@ use Rattle.execution.specs.Lent.{Lent}
 use Rattle.ends.specs.Ends.{EndsOf}
 use Rattle.words.specs.declared.CommandWord.the-variants.{Sequence, Assert, AssignScalar, AssignArray, If, While}
 use Rattle.words.specs.declared.CommandWord.the-variants.{For}
-use Rattle.words.specs.declared.Word.the-variants.{Command}
 use Rattle.heads.specs.Stands.{PartAt}
 use Rattle.heads.proofs.Parts.{expression-inside, command-inside, command-parts}
 use Rattle.evaluate.specs.Evaluated.{CanEvaluate}

@@ -19,17 +19,15 @@ use mir.Val.{SFits, toZ, ofZ}
 use Rattle.language.specs.Syntax as syntax
 use Rattle.language.specs.Runs.{increment}
 use Rattle.rules.specs.Words.{words, commandWords}
-use Rattle.layout.specs.Bytes.{numberAt}
 use Rattle.layout.specs.EvidenceWords.{expressionPart, commandPart}
 use Rattle.execution.specs.Lent.{Lent, lent, storeOf, elements}
 use Rattle.execution.specs.Evaluate.{Outcome, worked, onWorked, evaluate}
 use Rattle.execution.specs.Run as definition
 use Rattle.execution.specs.Run.{ended, stopped, onEnded, step, assigns, turns, run}
 use Rattle.ends.specs.Ends.{EndsOf}
-use Rattle.words.specs.Decode.{decodeOf}
 use Rattle.words.specs.declared.CommandWord.the-variants.{Skip, Sequence, Assert, AssignScalar, AssignArray, If, While}
 use Rattle.words.specs.declared.CommandWord.the-variants.{For}
-use Rattle.words.specs.declared.Word.the-variants.{Command}
+use Rattle.heads.specs.Stands.{commandAt}
 use Rattle.heads.proofs.Parts.{command-parts}
 use Rattle.arithmetic.specs.Worked.{outcome, checked}
 use Rattle.arithmetic.proofs.Signed.{back, held-two}
@@ -61,7 +59,7 @@ ended-same (stopped k p n m) = refl
 
 module _ {file : List ℕ} {at n : ℕ} where
   module _ {m : Lent} where
-    pub skip-runs : decodeOf (numberAt file at) ≡ Command Skip → {r : End} → r ≡ passed at n → RunsAs file at m n r m
+    pub skip-runs : commandAt file at ≡ Skip → {r : End} → r ≡ passed at n → RunsAs file at m n r m
     unfolding run
     skip-runs h e = record {
       is = λ c p s.
@@ -69,7 +67,7 @@ module _ {file : List ℕ} {at n : ℕ} where
     }
 
   module _ {ss vs : List ℤ} where
-    pub assert-runs : decodeOf (numberAt file at) ≡ Command Assert → {t : Tested} {r : End} →
+    pub assert-runs : commandAt file at ≡ Assert → {t : Tested} {r : End} →
         Tests file ss vs (at + 1) t →
         r ≡ asserted at n (testOutcome t) → RunsAs file at (lent ss vs) n r (lent ss vs)
     unfolding run
@@ -81,7 +79,7 @@ module _ {file : List ℕ} {at n : ℕ} where
           ∙ asserted-is at n (evaluate (t .first) (storeOf m)) m ∙ sym (ap (λ x. run x at n m) (t .is));
     }
 
-    pub scalar-runs : {x : ℕ} → decodeOf (numberAt file at) ≡ Command (AssignScalar x) →
+    pub scalar-runs : {x : ℕ} → commandAt file at ≡ AssignScalar x →
         {v : Worked} {r : End} {after : List ℤ} →
         Evaluates file ss vs (at + 1) v → StoresScalar ss x (outcome v) at n r after →
         RunsAs file at (lent ss vs) n r (lent after vs)
@@ -95,7 +93,7 @@ module _ {file : List ℕ} {at n : ℕ} where
           ∙ sym (ap (λ y. run y at n (lent ss vs)) (t .is));
     }
 
-    pub array-runs : {a : ℕ} → decodeOf (numberAt file at) ≡ Command (AssignArray a) →
+    pub array-runs : {a : ℕ} → commandAt file at ≡ AssignArray a →
         {v : Filled} {l : List ℤ} {r : End}
         {after : List ℤ} → Fills file ss vs (at + 1) v l → StoresArray vs a (fillOutcome v l) at n r after →
         RunsAs file at (lent ss vs) n r (lent ss after)
@@ -114,7 +112,7 @@ module _ {file : List ℕ} {at n : ℕ} where
     }
 
     -- the start of a `for`
-    pub for-ended : {q r : ℕ} → decodeOf (numberAt file at) ≡ Command (For q r) →
+    pub for-ended : {q r : ℕ} → commandAt file at ≡ For q r →
         {e f : End} {after : List ℤ} {k : ℕ} {m : Lent} →
         StoresScalar ss q (worked (pos 1)) at n e after → e ≡ Ended k → TurnsAs file at (lent after vs) k f m →
         RunsAs file at (lent ss vs) n f m
@@ -130,7 +128,7 @@ module _ {file : List ℕ} {at n : ℕ} where
           ∙ sym (ap (λ y. run y at n (lent ss vs)) (t .is));
     }
 
-    pub for-stopped : {q r : ℕ} → decodeOf (numberAt file at) ≡ Command (For q r) →
+    pub for-stopped : {q r : ℕ} → commandAt file at ≡ For q r →
         {e : End} {after : List ℤ} {k z l : ℕ} →
         StoresScalar ss q (worked (pos 1)) at n e after → e ≡ Stopped k z l →
         RunsAs file at (lent ss vs) n (Stopped k z l) (lent after vs)
@@ -144,7 +142,7 @@ module _ {file : List ℕ} {at n : ℕ} where
           ∙ sym (ap (λ y. run y at n (lent ss vs)) (t .is));
     }
 
-  pub while-runs : decodeOf (numberAt file at) ≡ Command While → {m m′ : Lent} {r : End} → TurnsAs file at m n r m′ →
+  pub while-runs : commandAt file at ≡ While → {m m′ : Lent} {r : End} → TurnsAs file at m n r m′ →
       RunsAs file at m n r m′
   unfolding run
   while-runs h {m} f = record {
@@ -154,7 +152,7 @@ module _ {file : List ℕ} {at n : ℕ} where
         ∙ sym (ap (λ y. run y at n m) (t .is));
   }
 
-  module _ {m m₁ : Lent} (h : decodeOf (numberAt file at) ≡ Command Sequence) {e : End}
+  module _ {m m₁ : Lent} (h : commandAt file at ≡ Sequence) {e : End}
       (f : RunsAs file (at + 1) m n e m₁) where
     pub sequence-ended : {ends : List ℕ} → EndsOf file ends → {q k : ℕ} {g : End} {m₂ : Lent} → e ≡ Ended k →
         q ≡ getD ends (at + 1) 0 → RunsAs file q m₁ k g m₂ → RunsAs file at m n g m₂
@@ -182,7 +180,7 @@ module _ {file : List ℕ} {at n : ℕ} where
     }
 
   module _ {ends : List ℕ} (x : EndsOf file ends) {ss vs : List ℤ}
-      (h : decodeOf (numberAt file at) ≡ Command If) {t : Tested}
+      (h : commandAt file at ≡ If) {t : Tested}
       (f : Tests file ss vs (at + 1) t) {c : Choice} (g : c ≡ chosen at n (testOutcome t)) where
     pub then-runs : {q k : ℕ} {r : End} {m′ : Lent} → c ≡ Choice.Then k → q ≡ getD ends (at + 1) 0 →
         RunsAs file q (lent ss vs) k r m′ → RunsAs file at (lent ss vs) n r m′
@@ -263,7 +261,7 @@ module _ {file : List ℕ} {at n : ℕ} where
 
   -- the body of a loop, and what follows it
   pub pass-runs : {ends : List ℕ} → EndsOf file ends → {m : Lent} (kind : Loop) →
-      decodeOf (numberAt file at) ≡ Command (loopWord kind) → {q : ℕ} {body : End} {ss vs after : List ℤ} {r : Turn} →
+      commandAt file at ≡ loopWord kind → {q : ℕ} {body : End} {ss vs after : List ℤ} {r : Turn} →
       q ≡ bodyPlace ends at kind → RunsAs file q m n body (lent ss vs) → EndsPass ss at kind body r after →
       PassAs file at m n r (lent after vs)
   pass-runs x {m} Test h {q} {vs = vs} j f g = record {
@@ -286,7 +284,7 @@ module _ {file : List ℕ} {at n : ℕ} where
   }
 
 module _ {file : List ℕ} {at : ℕ} {ss vs : List ℤ} where
-  pub while-tests : decodeOf (numberAt file at) ≡ Command While → {t : Tested} → Tests file ss vs (at + 1) t →
+  pub while-tests : commandAt file at ≡ While → {t : Tested} → Tests file ss vs (at + 1) t →
       TestsLoop file at (lent ss vs) t
   while-tests h f = record {
     is = λ c p s.
@@ -295,7 +293,7 @@ module _ {file : List ℕ} {at : ℕ} {ss vs : List ℤ} where
         ∙ sym (ap (λ y. evaluate (loopTest y) (storeOf (lent ss vs))) (t .is));
   }
 
-  pub for-tests : {q r : ℕ} → decodeOf (numberAt file at) ≡ Command (For q r) → {b : Bool} →
+  pub for-tests : {q r : ℕ} → commandAt file at ≡ For q r → {b : Bool} →
       b ≡ leZ (getD ss q (pos 0)) (getD ss r (pos 0)) → TestsLoop file at (lent ss vs) (Tested.Is b)
   unfolding evaluate
   for-tests h e = record {

@@ -7,15 +7,12 @@ use mathlib.Core.List.{List}
 use Prim.Native.Nat.{ℕ}
 use lib.ListN.{length}
 use Rattle.language.specs.Syntax as syntax
-use Rattle.layout.specs.Bytes.{numberAt}
 use Rattle.layout.specs.EvidenceWords.{commandPart}
 use Rattle.execution.specs.Lent.{Lent}
 use Rattle.execution.specs.Run.{run}
 use Rattle.ends.specs.Ends.{EndsOf}
-use Rattle.words.specs.Decode.{decodeOf}
 use Rattle.words.specs.declared.CommandWord.{CommandWord}
-use Rattle.words.specs.declared.Word.the-variants.{Command}
-use Rattle.heads.specs.Stands.{PartAt, CommandStands}
+use Rattle.heads.specs.Stands.{commandAt, PartAt, CommandStands}
 use Rattle.run.specs.Steps.{endAt}
 use Rattle.run.specs.declared.End.{End}
 
@@ -27,7 +24,7 @@ pub record CanRun (file ends : List ℕ) (m : Lent) (at : ℕ) : Type 0 where
 
 pub record CanRunAt (file ends : List ℕ) (m : Lent) (at : ℕ) (h : CommandWord) : Type 0 where
   pub can : CanRun file ends m at
-  pub head : decodeOf (numberAt file at) ≡ Command h
+  pub head : commandAt file at ≡ h
 
 -- from m with n steps left, the answer r and the store m′
 pub record RunsAs (file : List ℕ) (at : ℕ) (m : Lent) (n : ℕ) (r : End) (m′ : Lent) : Type 0 where

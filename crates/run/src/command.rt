@@ -43,6 +43,7 @@ pub fn run_command(
         CommandWord::If => run_if(w, ends, at, scalars, values, left),
         CommandWord::While => run_turns(w, ends, at, Loop::Test, scalars, values, left),
         CommandWord::For(q, m) => run_for(w, ends, at, q, m, scalars, values, left),
+        CommandWord::Other => End::Stopped(0, at, left),
     }
 }
 

@@ -5,8 +5,8 @@ use arithmetic::Worked;
 use evaluate::Filled;
 use evaluate::Tested;
 use evaluate::boolean::eval_boolean;
-use evaluate::expression::eval_arithmetic;
 use evaluate::expression::eval_array;
+use evaluate::expression::eval_operand;
 use evaluate::store::copy;
 use evaluate::store::put_at;
 use words::CommandWord;
@@ -140,7 +140,7 @@ pub fn assign_scalar(
     ensures { λ r. ⌜ RunsAs (now (w .entry)) «at» (lent (now (scalars .entry)) (now (values .entry))) left r
         (lent (now (scalars .exit)) (now (values .entry))) ⌝ }
 {
-    let v = eval_arithmetic(w, ends, at + 1, scalars, values);
+    let v = eval_operand(w, ends, at + 1, scalars, values);
     store_scalar(scalars, x as usize, v, at, left)
 }
 

@@ -1,8 +1,8 @@
--- `heads::array_head` meets its contract: what stands at the place has such a word. Assumes nothing.
-use mathlib.Core.Path.{sym, _∙_}
-use native.Mathlib.Omega.{arith}
-use Rattle.heads.proofs.Heads.{expression-starts, no-array}
+-- `heads::array_head` meets its contract: the word's kind and payload are decoded.
+-- Assumes nothing.
+use mathlib.Core.Path.{ap₂, _∙_}
 use borrow.Author.Needs.{needs}
+use Rattle.words.specs.Decode.{arrayOf}
 use Rattle.heads.proofs.array_head.Statement.{statement}
 use Rattle.heads.proofs.array_head.Tie as tie
 
@@ -10,10 +10,9 @@ pub array-head-spec : {M : Type 1} → statement M
 array-head-spec =
     tie.close
     (tie.spec
-    (λ c. let s = c .before in let h = expression-starts (s .pre) in omega arith)
-    (λ c. expression-starts (c .before .before .pre))
-    (λ c κs. search needs)
     (λ c. search needs)
-    (λ c. sym (c .before .before .before .decode .ensures) ∙ c .before .word .given .1)
-    (λ c. let s = c .before .before .before .before in
-    no-array (c .before .decode .ensures) (s .pre) (c .match .keys2)))
+    (λ c. search needs)
+    (λ c κs. search needs)
+    (λ c κs. search needs)
+    (λ c κs. search needs)
+    (λ c. c .array-word .ensures ∙ ap₂ arrayOf (c .before .before .kind .ensures) (c .before .payload .ensures)))

@@ -1,19 +1,53 @@
--- `heads::command_head` meets its contract: what stands at the place has such a word. Assumes nothing.
-use mathlib.Core.Path.{sym, _∙_}
+-- `heads::command_head` meets its contract: a word that is allowed is settled by its kind.
+-- Assumes nothing.
+use mathlib.Core.Path.{refl, ap, _∙_}
+use Prim.Native.Nat.{ℕ, _/_, _%_}
 use native.Mathlib.Omega.{arith}
-use Rattle.heads.proofs.Heads.{command-starts, no-command}
 use borrow.Author.Needs.{needs}
+use borrow.Author.Tests.{ne-eqb}
+use lib.Dec.{leb}
+use Rattle.layout.specs.Bytes.{payloadAt}
+use Rattle.words.specs.Decode.{commandOf}
+use Rattle.words.specs.declared.CommandWord.the-variants.{Skip, Sequence, Assert, AssignScalar, AssignArray, If, While, For}
+use Rattle.heads.proofs.Parts.{command-starts, command-settled}
 use Rattle.heads.proofs.command_head.Statement.{statement}
 use Rattle.heads.proofs.command_head.Tie as tie
 
 pub command-head-spec : {M : Type 1} → statement M
+unfolding commandOf
 command-head-spec =
     tie.close
     (tie.spec
-    (λ c. let s = c .before in let h = command-starts (s .pre) in omega arith)
+    (λ c. let h = command-starts (c .before .pre) in omega arith)
     (λ c. command-starts (c .before .before .pre))
     (λ c κs. search needs)
-    (λ c. search needs)
-    (λ c. sym (c .before .before .before .decode .ensures) ∙ c .before .word .given .1)
-    (λ c. let s = c .before .before .before .before in
-    no-command (c .before .decode .ensures) (s .pre) (c .match .keys2)))
+    (λ c κs. search needs)
+    (λ c. let s = c .before .before .before .before .before in let p = payloadAt (s .args .w .now) (s .args .at) in
+    command-settled (c .before .before .kind .ensures) 24 (c .match .keys1) (leb p 0) Skip (s .pre) refl)
+    (λ c. let s = c .before .before .before .before .before in let p = payloadAt (s .args .w .now) (s .args .at) in
+    command-settled (c .before .before .kind .ensures) 25 (c .match .keys2) (leb p 0) Sequence (s .pre) refl)
+    (λ c. let s = c .before .before .before .before .before in let p = payloadAt (s .args .w .now) (s .args .at) in
+    command-settled (c .before .before .kind .ensures) 26 (c .match .keys3) (leb p 0) Assert (s .pre) refl)
+    (λ c. let s = c .before .before .before .before .before in let p = payloadAt (s .args .w .now) (s .args .at) in
+    ap AssignScalar (c .before .payload .ensures) ∙ command-settled (c .before .before .kind .ensures) 27
+    (c .match .keys4) (leb p 31) (AssignScalar p) (s .pre) refl)
+    (λ c. let s = c .before .before .before .before .before in let p = payloadAt (s .args .w .now) (s .args .at) in
+    ap AssignArray (c .before .payload .ensures) ∙ command-settled (c .before .before .kind .ensures) 28
+    (c .match .keys5) (leb p 31) (AssignArray p) (s .pre) refl)
+    (λ c. let s = c .before .before .before .before .before in let p = payloadAt (s .args .w .now) (s .args .at) in
+    command-settled (c .before .before .kind .ensures) 29 (c .match .keys6) (leb p 0) If (s .pre) refl)
+    (λ c. let s = c .before .before .before .before .before in let p = payloadAt (s .args .w .now) (s .args .at) in
+    command-settled (c .before .before .kind .ensures) 30 (c .match .keys7) (leb p 0) While (s .pre) refl)
+    (λ c. let s = c .before .before .before .before .before in let p = payloadAt (s .args .w .now) (s .args .at) in
+    ap (λ (z : ℕ). For (z % 32) (z / 32)) (c .before .payload .ensures) ∙ command-settled
+    (c .before .before .kind .ensures) 31 (c .match .keys8) (leb p 1023) (For (p % 32) (p / 32)) (s .pre) refl)
+    (λ c. let r = c .match .rest in simp (
+      ne-eqb _ _ (λ e. r .1 (c .before .before .kind .ensures ∙ e)),
+      ne-eqb _ _ (λ e. r .0 .1 (c .before .before .kind .ensures ∙ e)),
+      ne-eqb _ _ (λ e. r .0 .0 .1 (c .before .before .kind .ensures ∙ e)),
+      ne-eqb _ _ (λ e. r .0 .0 .0 .1 (c .before .before .kind .ensures ∙ e)),
+      ne-eqb _ _ (λ e. r .0 .0 .0 .0 .1 (c .before .before .kind .ensures ∙ e)),
+      ne-eqb _ _ (λ e. r .0 .0 .0 .0 .0 .1 (c .before .before .kind .ensures ∙ e)),
+      ne-eqb _ _ (λ e. r .0 .0 .0 .0 .0 .0 .1 (c .before .before .kind .ensures ∙ e)),
+      ne-eqb _ _ (λ e. r .0 .0 .0 .0 .0 .0 .0 .1 (c .before .before .kind .ensures ∙ e)),
+    )))

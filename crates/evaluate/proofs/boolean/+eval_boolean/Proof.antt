@@ -1,11 +1,9 @@
 -- `evaluate::boolean::eval_boolean` meets its contract: what comes of a boolean is what comes of its operands. The
 -- measure is the words left from it on.
 -- Assumes nothing.
-use mathlib.Core.Path.{ap, _∙_}
+use mathlib.Core.Path.{sym, _∙_}
 use native.Mathlib.Omega.{arith}
-use Rattle.words.specs.declared.Word.the-variants.{Boolean}
-use Rattle.heads.proofs.Heads.{expression-starts}
-use Rattle.heads.proofs.Parts.{boolean-parts}
+use Rattle.heads.proofs.Parts.{expression-starts, boolean-parts}
 use Rattle.evaluate.proofs.Places.{left, only-operand, first-operand, second-operand}
 use Rattle.evaluate.proofs.Results.{compare-tested, truth-tested, and-tested, or-tested, not-tested}
 use borrow.Author.Needs.{needs}
@@ -19,7 +17,7 @@ use Rattle.evaluate.proofs.combine.both.Reads as both-reads
 use Rattle.evaluate.proofs.combine.compare_both.Reads as compare-both-reads
 use Rattle.evaluate.proofs.combine.either.Reads as either-reads
 use Rattle.evaluate.proofs.combine.negate.Reads as negate-reads
-use Rattle.evaluate.proofs.expression.eval_arithmetic.Reads as eval-arithmetic-reads
+use Rattle.evaluate.proofs.expression.eval_operand.Reads as eval-operand-reads
 use Rattle.heads.proofs.boolean_head.Reads as boolean-head-reads
 use Rattle.ends.proofs.end_at.Reads as end-at-reads
 use Rattle.evaluate.proofs.boolean.+eval_boolean.{statement}
@@ -44,8 +42,8 @@ pub +eval-boolean-spec : {M : Type 1} → statement M
 +eval-boolean-spec = close μ-eval-boolean λ t. eval-boolean-lts.spec (
   boolean-head-reads.Asked,
   boolean-head-reads.Learnt,
-  eval-arithmetic-reads.Asked,
-  eval-arithmetic-reads.Learnt,
+  eval-operand-reads.Asked,
+  eval-operand-reads.Learnt,
   end-at-reads.Asked,
   end-at-reads.Learnt,
   compare-both-reads.Asked,
@@ -67,80 +65,84 @@ pub +eval-boolean-spec : {M : Type 1} → statement M
     let i = expression-starts (p .expression) in omega arith)
     (λ c κs. let s = (c .before .before .before .before .before .before) in let p = s .pre .1 in
     let x = boolean-parts (p .expression .tree) (p .expression .there)
-    (c .before .before .before .boolean-head .ensures ∙ ap Boolean (c .before .head .given .1)) in
+    (sym (c .before .before .before .boolean-head .ensures) ∙ c .before .head .given .1) in
     first-operand p x .can)
     (λ c. let s = (c .before .before .before .before .before .before .before) in let p = s .pre .1 in
     let i = expression-starts (p .expression) in omega arith)
     (λ c κs. let s = (c .before .before .before .before .before .before .before) in let p = s .pre .1 in
     let x = boolean-parts (p .expression .tree) (p .expression .there)
-    (c .before .before .before .before .boolean-head .ensures ∙ ap Boolean (c .before .before .head .given .1)) in
+    (sym (c .before .before .before .before .boolean-head .ensures) ∙ c .before .before .head .given .1) in
     first-operand p x .listed)
     (λ c κs. let s = (c .before .before .before .before .before .before .before .before) in let p = s .pre .1 in
     let x = boolean-parts (p .expression .tree) (p .expression .there)
-    (c .before .before .before .before .before .boolean-head .ensures
-    ∙ ap Boolean (c .before .before .before .head .given .1)) in second-operand p x (c .end-at .ensures) .can)
+    (sym (c .before .before .before .before .before .boolean-head .ensures)
+    ∙ c .before .before .before .head .given .1) in second-operand p x (c .end-at .ensures) .can)
     (λ c κs. search needs)
     (λ c. search needs)
     (λ c. search needs)
     (λ c. let s = (c .before .before .before .before .before) in let p = s .pre .1 in
     let i = expression-starts (p .expression) in omega arith)
     (λ c κs. let s = (c .before .before .before .before .before) in let p = s .pre .1 in
-    let x = boolean-parts (p .expression .tree) (p .expression .there) (c .before .before .boolean-head .ensures
-    ∙ ap Boolean (c .enum-told .given .1)) in let o = first-operand p x in let m = s .pre .0 in (omega arith, o .can))
+    let x = boolean-parts (p .expression .tree) (p .expression .there) (sym (c .before .before .boolean-head .ensures)
+    ∙ c .enum-told .given .1) in let o = first-operand p x in let m = s .pre .0 in (omega arith, o .can))
     (λ c. let s = (c .before .before .before .before .before .before) in let p = s .pre .1 in
     let i = expression-starts (p .expression) in omega arith)
     (λ c κs. let s = (c .before .before .before .before .before .before) in let p = s .pre .1 in
     let x = boolean-parts (p .expression .tree) (p .expression .there)
-    (c .before .before .before .boolean-head .ensures ∙ ap Boolean (c .before .enum-told .given .1)) in
+    (sym (c .before .before .before .boolean-head .ensures) ∙ c .before .enum-told .given .1) in
     first-operand p x .listed)
     (λ c κs. let s = (c .before .before .before .before .before .before .before) in let p = s .pre .1 in
     let x = boolean-parts (p .expression .tree) (p .expression .there)
-    (c .before .before .before .before .boolean-head .ensures ∙ ap Boolean (c .before .before .enum-told .given .1)) in
+    (sym (c .before .before .before .before .boolean-head .ensures) ∙ c .before .before .enum-told .given .1) in
     let o = second-operand p x (c .end-at2 .ensures) in let m = s .pre .0 in (omega arith, o .can))
     (λ c κs. search needs)
     (λ c. search needs)
     (λ c. let s = (c .before .before .before .before .before) in let p = s .pre .1 in
     let i = expression-starts (p .expression) in omega arith)
     (λ c κs. let s = (c .before .before .before .before .before) in let p = s .pre .1 in
-    let x = boolean-parts (p .expression .tree) (p .expression .there) (c .before .before .boolean-head .ensures
-    ∙ ap Boolean (c .enum-told2 .given .1)) in let o = first-operand p x in let m = s .pre .0 in (omega arith, o .can))
+    let x = boolean-parts (p .expression .tree) (p .expression .there) (sym (c .before .before .boolean-head .ensures)
+    ∙ c .enum-told2 .given .1) in let o = first-operand p x in let m = s .pre .0 in (omega arith, o .can))
     (λ c. let s = (c .before .before .before .before .before .before) in let p = s .pre .1 in
     let i = expression-starts (p .expression) in omega arith)
     (λ c κs. let s = (c .before .before .before .before .before .before) in let p = s .pre .1 in
     let x = boolean-parts (p .expression .tree) (p .expression .there)
-    (c .before .before .before .boolean-head .ensures ∙ ap Boolean (c .before .enum-told2 .given .1)) in
+    (sym (c .before .before .before .boolean-head .ensures) ∙ c .before .enum-told2 .given .1) in
     first-operand p x .listed)
     (λ c κs. let s = (c .before .before .before .before .before .before .before) in let p = s .pre .1 in
     let x = boolean-parts (p .expression .tree) (p .expression .there)
-    (c .before .before .before .before .boolean-head .ensures
-    ∙ ap Boolean (c .before .before .enum-told2 .given .1)) in let o = second-operand p x (c .end-at3 .ensures) in
+    (sym (c .before .before .before .before .boolean-head .ensures)
+    ∙ c .before .before .enum-told2 .given .1) in let o = second-operand p x (c .end-at3 .ensures) in
     let m = s .pre .0 in (omega arith, o .can))
     (λ c κs. search needs)
     (λ c. search needs)
     (λ c. let s = (c .before .before .before .before .before) in let p = s .pre .1 in
     let i = expression-starts (p .expression) in omega arith)
     (λ c κs. let s = (c .before .before .before .before .before) in let p = s .pre .1 in
-    let x = boolean-parts (p .expression .tree) (p .expression .there) (c .before .before .boolean-head .ensures
-    ∙ ap Boolean (c .enum-told3 .given .1)) in let o = only-operand p x in let m = s .pre .0 in (omega arith, o .can))
+    let x = boolean-parts (p .expression .tree) (p .expression .there) (sym (c .before .before .boolean-head .ensures)
+    ∙ c .enum-told3 .given .1) in let o = only-operand p x in let m = s .pre .0 in (omega arith, o .can))
     (λ c κs. search needs)
+    (λ c. search needs)
     (λ c. let s = (c .before .before .before .before .before .before .before .before .before .before) in
     let p = s .pre .1 in
     compare-tested (p .ends-of) (c .before .before .end-at .ensures)
-    (c .before .before .before .before .before .before .before .boolean-head .ensures
-    ∙ ap Boolean (c .before .before .before .before .before .head .given .1))
-    (c .before .before .before .eval-arithmetic .ensures) (c .before .eval-arithmetic2 .ensures)
+    (sym (c .before .before .before .before .before .before .before .boolean-head .ensures)
+    ∙ c .before .before .before .before .before .head .given .1)
+    (c .before .before .before .eval-operand .ensures) (c .before .eval-operand2 .ensures)
     (c .compare-both .ensures))
-    (λ c. truth-tested (c .before .head2 .given .0 .0) (c .before .before .before .boolean-head .ensures
-    ∙ ap Boolean (c .before .head2 .given .1)))
+    (λ c. truth-tested (c .before .head2 .given .0 .0) (sym (c .before .before .before .boolean-head .ensures)
+    ∙ c .before .head2 .given .1))
     (λ c. let s = (c .before .before .before .before .before .before .before .before .before) in let p = s .pre .1 in
     and-tested (p .ends-of) (c .before .before .end-at2 .ensures)
-    (c .before .before .before .before .before .before .boolean-head .ensures
-    ∙ ap Boolean (c .before .before .before .before .enum-told .given .1))
+    (sym (c .before .before .before .before .before .before .boolean-head .ensures)
+    ∙ c .before .before .before .before .enum-told .given .1)
     (c .before .before .before .eval-boolean .ensures) (c .before .eval-boolean2 .ensures) (c .both .ensures))
     (λ c. let s = (c .before .before .before .before .before .before .before .before .before) in let p = s .pre .1 in
     or-tested (p .ends-of) (c .before .before .end-at3 .ensures)
-    (c .before .before .before .before .before .before .boolean-head .ensures
-    ∙ ap Boolean (c .before .before .before .before .enum-told2 .given .1))
+    (sym (c .before .before .before .before .before .before .boolean-head .ensures)
+    ∙ c .before .before .before .before .enum-told2 .given .1)
     (c .before .before .before .eval-boolean3 .ensures) (c .before .eval-boolean4 .ensures) (c .either .ensures))
-    (λ c. not-tested (c .before .before .before .before .boolean-head .ensures
-    ∙ ap Boolean (c .before .before .enum-told3 .given .1)) (c .before .eval-boolean5 .ensures) (c .negate .ensures))
+    (λ c. not-tested (sym (c .before .before .before .before .boolean-head .ensures)
+    ∙ c .before .before .enum-told3 .given .1) (c .before .eval-boolean5 .ensures) (c .negate .ensures))
+    (λ c. let p = c .before .before .before .before .before .pre .1 in
+    absurd (boolean-parts (p .expression .tree) (p .expression .there)
+    (sym (c .before .before .boolean-head .ensures) ∙ c .enum-told4 .given .1)))

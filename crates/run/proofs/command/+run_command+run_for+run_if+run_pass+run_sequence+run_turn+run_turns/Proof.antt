@@ -3,12 +3,11 @@
 -- command on, five times, so that the functions for parts of a command come between it and its own parts; a loop's is
 -- the steps left.
 -- Assumes nothing.
-use mathlib.Core.Path.{refl, sym, ap, subst, _∙_}
+use mathlib.Core.Path.{refl, sym, subst, _∙_}
 use native.Mathlib.Omega.{arith}
 use Prim.Native.Nat.{_+_, _-_, _*_}
 use lib.ListN.{length}
-use Rattle.words.specs.declared.Word.the-variants.{Command}
-use Rattle.heads.proofs.Heads.{command-starts}
+use Rattle.heads.proofs.Parts.{command-starts, command-parts}
 use Rattle.execution.specs.Lent.{lent}
 use Rattle.run.specs.Turns.{CountsIn}
 use Rattle.run.proofs.Turns.{Going, going-none, falls as turn-falls, going-on, going-ended, going-stopped}
@@ -184,30 +183,29 @@ pub +run-command+run-for+run-if+run-pass+run-sequence+run-turn+run-turns-spec :
       omega arith,
       record {
         can = p;
-        head = c .before .before .before .before .command-head .ensures
-            ∙ ap Command (c .before .before .enum-told2 .given .1);
+        head = sym (c .before .before .before .before .command-head .ensures)
+            ∙ c .before .before .enum-told2 .given .1;
       },
     ))
     (λ c. search needs)
     (λ c κs. let s = (c .before .before .before .before .before .before .before) in let p = s .pre .1 in
     record {
       can = p;
-      head = c .before .before .before .before .command-head .ensures
-          ∙ ap Command (c .before .before .enum-told3 .given .1);
+      head = sym (c .before .before .before .before .command-head .ensures) ∙ c .before .before .enum-told3 .given .1;
     })
     (λ c. search needs)
     (λ c κs. let s = (c .before .before .before .before .before .before .before .before) in let p = s .pre .1 in
     record {
       can = p;
-      head = c .before .before .before .before .before .command-head .ensures
-          ∙ ap Command (c .before .before .before .head .given .1);
+      head = sym (c .before .before .before .before .before .command-head .ensures)
+          ∙ c .before .before .before .head .given .1;
     })
     (λ c. search needs)
     (λ c κs. let s = (c .before .before .before .before .before .before .before .before) in let p = s .pre .1 in
     record {
       can = p;
-      head = c .before .before .before .before .before .command-head .ensures
-          ∙ ap Command (c .before .before .before .head2 .given .1);
+      head = sym (c .before .before .before .before .before .command-head .ensures)
+          ∙ c .before .before .before .head2 .given .1;
     })
     (λ c. search needs)
     (λ c κs. let s = (c .before .before .before .before .before .before .before) in let p = s .pre .1 in
@@ -215,8 +213,8 @@ pub +run-command+run-for+run-if+run-pass+run-sequence+run-turn+run-turns-spec :
       omega arith,
       record {
         can = p;
-        head = c .before .before .before .before .command-head .ensures
-            ∙ ap Command (c .before .before .enum-told4 .given .1);
+        head = sym (c .before .before .before .before .command-head .ensures)
+            ∙ c .before .before .enum-told4 .given .1;
       },
     ))
     (λ c. search needs)
@@ -225,8 +223,8 @@ pub +run-command+run-for+run-if+run-pass+run-sequence+run-turn+run-turns-spec :
       omega arith,
       record {
         can = p;
-        head = c .before .before .before .before .command-head .ensures
-            ∙ ap Command (c .before .before .enum-told5 .given .1);
+        head = sym (c .before .before .before .before .command-head .ensures)
+            ∙ c .before .before .enum-told5 .given .1;
       },
     ))
     (λ c. search needs)
@@ -235,12 +233,13 @@ pub +run-command+run-for+run-if+run-pass+run-sequence+run-turn+run-turns-spec :
       omega arith,
       record {
         can = p;
-        head = c .before .before .before .before .before .command-head .ensures
-            ∙ ap Command (c .before .before .before .head3 .given .1);
+        head = sym (c .before .before .before .before .before .command-head .ensures)
+            ∙ c .before .before .before .head3 .given .1;
       },
     ))
-    (λ c. skip-runs (c .before .before .before .command-head .ensures
-    ∙ ap Command (c .before .enum-told .given .1)) (c .pass-step .ensures))
+    (λ c. search needs)
+    (λ c. skip-runs (sym (c .before .before .before .command-head .ensures)
+    ∙ c .before .enum-told .given .1) (c .pass-step .ensures))
     (λ c. search needs)
     (λ c. search needs)
     (λ c. c .before .before .run-sequence .ensures)
@@ -258,12 +257,15 @@ pub +run-command+run-for+run-if+run-pass+run-sequence+run-turn+run-turns-spec :
     (λ c. c .before .before .run-if .ensures)
     (λ c. search needs)
     (λ c. search needs)
-    (λ c. while-runs (c .before .before .before .before .before .before .before .command-head .ensures
-    ∙ ap Command (c .before .before .before .before .before .enum-told5 .given .1))
+    (λ c. while-runs (sym (c .before .before .before .before .before .before .before .command-head .ensures)
+    ∙ c .before .before .before .before .before .enum-told5 .given .1)
     (c .before .before .run-turns .ensures))
     (λ c. search needs)
     (λ c. search needs)
-    (λ c. c .before .before .run-for .ensures))
+    (λ c. c .before .before .run-for .ensures)
+    (λ c. let p = c .before .before .before .before .before .pre .1 in
+    absurd (command-parts (p .command .tree) (p .command .there)
+    (sym (c .before .before .command-head .ensures) ∙ c .enum-told6 .given .1))))
     (λ t. run-for-lts.spec (
       store-scalar-reads.Asked,
       store-scalar-reads.Learnt,

@@ -1,6 +1,6 @@
 -- `run::repeat::loop_test` meets its contract, by the kind of the loop. Assumes nothing.
 use native.Mathlib.Omega.{arith}
-use Rattle.heads.proofs.Heads.{command-starts}
+use Rattle.heads.proofs.Parts.{command-starts}
 use Rattle.run.proofs.Bodies.{by-kind, while-can, for-small}
 use Rattle.run.proofs.Commands.{while-tests, for-tests, both-read}
 use borrow.Author.Needs.{needs}

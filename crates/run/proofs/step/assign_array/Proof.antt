@@ -1,6 +1,6 @@
 -- `run::step::assign_array` meets its contract. Assumes nothing.
 use native.Mathlib.Omega.{arith}
-use Rattle.heads.proofs.Heads.{command-starts}
+use Rattle.heads.proofs.Parts.{command-starts}
 use Rattle.run.proofs.Bodies.{array-can}
 use Rattle.run.proofs.Commands.{array-runs}
 use borrow.Author.Needs.{needs}

@@ -1,6 +1,6 @@
 -- `run::step::assign_scalar` meets its contract. Assumes nothing.
 use native.Mathlib.Omega.{arith}
-use Rattle.heads.proofs.Heads.{command-starts}
+use Rattle.heads.proofs.Parts.{command-starts}
 use Rattle.run.proofs.Bodies.{scalar-can}
 use Rattle.run.proofs.Commands.{scalar-runs}
 use borrow.Author.Needs.{needs}
@@ -17,4 +17,4 @@ assign-scalar-spec =
     let l = s .pre .can .scalars-sized in omega arith)
     (λ c. search needs)
     (λ c. scalar-runs ((c .before .before .before .before .before .before .before) .pre .head)
-    (c .before .before .before .eval-arithmetic .ensures) (c .before .store-scalar .ensures)))
+    (c .before .before .before .eval-operand .ensures) (c .before .store-scalar .ensures)))

@@ -1,6 +1,6 @@
 -- `run::step::run_assert` meets its contract. Assumes nothing.
 use native.Mathlib.Omega.{arith}
-use Rattle.heads.proofs.Heads.{command-starts}
+use Rattle.heads.proofs.Parts.{command-starts}
 use Rattle.run.proofs.Bodies.{assert-can}
 use Rattle.run.proofs.Commands.{assert-runs}
 use borrow.Author.Needs.{needs}
