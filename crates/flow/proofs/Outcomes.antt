@@ -10,14 +10,15 @@ use mathlib.Core.List.{List}
 use Prim.Native.Nat.{ℕ, _+_, _*_, _/_, _≤_}
 use native.Mathlib.Omega.{arith}
 use lib.ListN.{length, take}
-use Rattle.rules.specs.Context as context
+use Rattle.rules.specs.Context as rules
 use Rattle.rules.specs.Judge as judge
 use Rattle.layout.specs.Reading.{Reading, read, fault}
 use Rattle.layout.specs.File.{File, fileOf, wordsRead}
 use Rattle.layout.specs.Verdict.{judged, verdictOf}
-use Rattle.reader.specs.Walk.{limitsOf}
+use Rattle.context.specs.Contexts.{contextOf, refusal}
+use Rattle.context.specs.declared.Context.{Context}
+use Rattle.context.specs.declared.Refusal.{Refusal}
 use Rattle.reader.specs.File.{places}
-use Rattle.reader.specs.declared.Limits.{Limits}
 use Rattle.reader.specs.declared.Places.{Places}
 use Rattle.reader.specs.declared.Layout.{Layout}
 use Rattle.reader.specs.declared.Layout.the-variants as Layout
@@ -26,6 +27,7 @@ use Rattle.file.specs.Found.{CanLoad, FileRead}
 use Rattle.file.proofs.Found.{ReadAt, found-read, read-stands}
 use Rattle.file.proofs.Files.{file-words}
 use Rattle.goals.specs.Goals as goals
+use Rattle.goals.proofs.Places.{member-set, commanded}
 use Rattle.goals.specs.declared.Goal.the-variants as Goal
 use Rattle.goals.specs.declared.Judged.{Judged}
 use Rattle.goals.specs.declared.Judged.the-variants as Judged
@@ -40,113 +42,111 @@ use Rattle.flow.specs.declared.Outcome.the-variants.{Accepted, Refused}
 -- what the code makes of evidence judged
 abbrev pub outcomeFrom : Judged → Places → Outcome
 outcomeFrom (Judged.Accepted n q) s = Accepted n s
-outcomeFrom (Judged.Refused k i) s = Refused k i
+outcomeFrom (Judged.Refused x) s = Refused x
 
 with-places : (v : judge.Verdict) (end : ℕ) (s : Places) → outcomeFrom (goals.judgedOf v end) s ≡ withPlaces v s
 with-places (judge.accepted n) end s = refl
 with-places (judge.refused k i) end s = refl
 
-module _ {w ends : List ℕ} (limits : Limits) {s : Places} (h : CanJudgeFile w ends limits s) where
-  abbrev known : ReadAt (wordsRead (limitsOf limits) w) s
-  known = found-read (wordsRead (limitsOf limits) w) s (h .was-read)
+module _ {w ends : List ℕ} (context : Context) {s : Places} (h : CanJudgeFile w ends context s) where
+  abbrev known : ReadAt (wordsRead (contextOf context) w) s
+  known = found-read (wordsRead (contextOf context) w) s (h .was-read)
 
   abbrev tree : goals.TreeGoal
   tree = goals.flow (known .file .evidence) (known .file .pre) (known .file .program) (known .file .post)
 
-  goal-stands : goals.GoalStands (limitsOf limits) w (Goal.Flow (s .pre) 1 (s .post)) tree (limits .depth) (s .evidence)
+  goal-stands : goals.GoalStands (contextOf context) w ends (Goal.Flow (s .pre) 1 (s .post)) tree (context .depth) (s .evidence)
       (known .end)
   goal-stands =
-      let l = limits .depth in
+      let l = context .depth in
       let low = h .within .low in
-      let x = read-stands (limitsOf limits) w (known .file) (known .end) (known .was-read) in
-      subst (λ (z : Places). goals.GoalStands (limitsOf limits) w (Goal.Flow (z .pre) 1 (z .post)) tree l (z .evidence)
+      let x = read-stands (contextOf context) w (known .file) (known .end) (known .was-read) in
+      subst (λ (z : Places). goals.GoalStands (contextOf context) w ends (Goal.Flow (z .pre) 1 (z .post)) tree l (z .evidence)
       (known .end)) (sym (known .at))
       (goals.flow-stands
-      (record { levels = l; low = low; end = known .file .postAt; stands = x .pre-stands })
-      (record { levels = l; low = low; end = known .file .preAt; stands = x .program-stands })
-      (record { levels = l; low = low; end = known .file .evidenceAt; stands = x .post-stands })
-      (x .evidence-stands))
+      (member-set (h .ends-of) (contextOf context) (known .file .pre) l _ _ low (x .pre))
+      (commanded (h .ends-of) (known .file .program) l _ _ low (x .program))
+      (member-set (h .ends-of) (contextOf context) (known .file .post) l _ _ low (x .post))
+      (x .evidence))
 
-  pub can-judge : goals.CanJudge w ends (limits .comparisons) (Goal.Flow (s .pre) 1 (s .post)) (s .evidence)
-      (limits .depth)
+  pub can-judge : goals.CanJudge w ends (contextOf context) (Goal.Flow (s .pre) 1 (s .post)) (s .evidence)
+      (context .depth)
   can-judge = record {
     ends-of = h .ends-of;
     size = h .size;
     few = h .within .few;
     low = h .within .low;
-    limits = limitsOf limits;
-    limited = refl;
     tree = tree;
     end = known .end;
     goal-stands = goal-stands;
   }
 
-  judged-places : (r : Judged) → goals.JudgedOf w (limits .comparisons) (Goal.Flow (s .pre) 1 (s .post)) (s .evidence)
-      (limits .depth) r → outcomeFrom r s ≡ outcomeOf (limitsOf limits) (wordsRead (limitsOf limits) w)
+  judged-places : (r : Judged) → goals.JudgedOf w ends (contextOf context) (Goal.Flow (s .pre) 1 (s .post)) (s .evidence)
+      (context .depth) r → outcomeFrom r s ≡ outcomeOf (contextOf context) (wordsRead (contextOf context) w)
   judged-places r j =
-      let v = goals.verdict (record { limits = limitsOf limits }) tree in
-      ap (λ (z : Judged). outcomeFrom z s) (j .judged (limitsOf limits) refl tree (known .end) goal-stands)
+      let v = goals.verdict (contextOf context) tree in
+      ap (λ (z : Judged). outcomeFrom z s) (j .judged tree (known .end) goal-stands)
       ∙ with-places v (known .end) s ∙ ap (λ (z : Places). withPlaces v z) (known .at)
-      ∙ ap (λ (x : Reading File). outcomeOf (limitsOf limits) x) (sym (known .was-read))
+      ∙ ap (λ (x : Reading File). outcomeOf (contextOf context) x) (sym (known .was-read))
 
-  pub judged-outcome : (r q : Judged) → goals.JudgedOf w (limits .comparisons) (Goal.Flow (s .pre) 1 (s .post))
-      (s .evidence) (limits .depth) r → r ≡ q →
-      outcomeFrom q s ≡ outcomeOf (limitsOf limits) (wordsRead (limitsOf limits) w)
+  pub judged-outcome : (r q : Judged) → goals.JudgedOf w ends (contextOf context) (Goal.Flow (s .pre) 1 (s .post))
+      (s .evidence) (context .depth) r → r ≡ q →
+      outcomeFrom q s ≡ outcomeOf (contextOf context) (wordsRead (contextOf context) w)
   judged-outcome r q j e = ap (λ (z : Judged). outcomeFrom z s) (sym e) ∙ judged-places r j
 
 -- ---- refusals 1 to 7
 -- room for so many words
-pub can-load : {bytes words table : List ℕ} {n : ℕ} {limits : Limits} → Within bytes n limits → length words ≡ n →
+pub can-load : {bytes words table : List ℕ} {n : ℕ} {context : Context} → Within bytes n context → length words ≡ n →
     n + 2 * (n / 32) ≤ length table → CanLoad bytes words table
 can-load {table = table} h e r = record {
   fits = λ g. let f = h .fits g in omega arith;
   wide = subst (λ k. k + 2 * (k / 32) ≤ length table) (sym e) r;
 }
 
-module _ {limits : Limits} {bytes words table : List ℕ} {r : Layout} (f : FileRead bytes limits r words table) where
-  pub found-judge : {s : Places} → WithinLimits limits → r ≡ Layout.Found s →
-      CanJudgeFile (take (length bytes / 4) words) table limits s
+module _ {context : Context} {bytes words table : List ℕ} {r : Layout} (f : FileRead bytes context r words table) where
+  pub found-judge : {s : Places} → WithinLimits context → r ≡ Layout.Found s →
+      CanJudgeFile (take (length bytes / 4) words) table context s
   found-judge l e =
       let w = file-words f e in
       record { size = w .size; within = l; ends-of = w .ends-of; was-read = w .was-read }
 
   pub found-outcome : {s : Places} (q : Outcome) → r ≡ Layout.Found s →
-      q ≡ outcomeOf (limitsOf limits) (wordsRead (limitsOf limits) (take (length bytes / 4) words)) →
-      q ≡ outcomeOf (limitsOf limits) (fileOf (limitsOf limits) bytes)
-  found-outcome q e h = h ∙ ap (λ (z : Reading File). outcomeOf (limitsOf limits) z) (file-words f e .of-file)
+      q ≡ outcomeOf (contextOf context) (wordsRead (contextOf context) (take (length bytes / 4) words)) →
+      q ≡ outcomeOf (contextOf context) (fileOf (contextOf context) bytes)
+  found-outcome q e h = h ∙ ap (λ (z : Reading File). outcomeOf (contextOf context) z) (file-words f e .of-file)
 
-  pub refused-outcome : (n p : ℕ) → r ≡ Layout.Refused n p →
-      Refused n p ≡ outcomeOf (limitsOf limits) (fileOf (limitsOf limits) bytes)
-  refused-outcome n p e =
-      sym (ap (λ (z : Reading File). outcomeOf (limitsOf limits) z)
-      (refused-file (fileOf (limitsOf limits) bytes) n p (sym e ∙ f .layout)))
+  pub refused-outcome : (x : Refusal) → r ≡ Layout.Refused x →
+      Refused x ≡ outcomeOf (contextOf context) (fileOf (contextOf context) bytes)
+  refused-outcome x e =
+      sym (ap (λ (z : Reading File). outcomeOf (contextOf context) z)
+      (refused-file (fileOf (contextOf context) bytes) x (sym e ∙ f .layout)))
 
 -- ---- the answer
 -- document 01's limits are small enough
-pub standard-within : (limits : Limits) → limitsOf limits ≡ context.standard → WithinLimits limits
-unfolding context.standard
-standard-within limits e = record {
-  few = subst (λ (l : context.Limits). l .comparisons ≤ 16) (sym e) (omega arith);
-  low = subst (λ (l : context.Limits). l .depth ≤ 256) (sym e) (omega arith);
+pub standard-within : (context : Context) → contextOf context ≡ rules.standard → WithinLimits context
+unfolding rules.standard
+standard-within context e = record {
+  few = subst (λ (Γ : rules.Context). Γ .limits .comparisons ≤ 16) (sym e) (omega arith);
+  low = subst (λ (Γ : rules.Context). Γ .limits .depth ≤ 256) (sym e) (omega arith);
 }
 
 abbrev pub answerFrom : Outcome → Verdict
 answerFrom (Accepted n s) = Verdict.Accepted n
-answerFrom (Refused k i) = Verdict.Refused k i
+answerFrom (Refused x) = Verdict.Refused x
 
 answer-places : (v : judge.Verdict) (s : Places) → answerFrom (withPlaces v s) ≡ answerOf v
 answer-places (judge.accepted n) s = refl
 answer-places (judge.refused k i) s = refl
 
-answer-read : (limits : context.Limits) (x : Reading File) →
-    answerFrom (outcomeOf limits x) ≡ answerOf (judged (record { limits = limits }) x)
-answer-read limits (read f p) =
-    answer-places (judged (record { limits = limits }) (read f p))
+answer-read : (Γ : rules.Context) (x : Reading File) →
+    answerFrom (outcomeOf Γ x) ≡ answerOf (judged Γ x)
+answer-read Γ (read f p) =
+    answer-places (judged Γ (read f p))
     (places (f .preAt) (f .postAt) (f .evidenceAt) p)
-answer-read limits (fault n p) = refl
+answer-read Γ (fault n p) = refl
 
-pub outcome-answer : (limits : context.Limits) (bytes : List ℕ) (r q : Outcome) →
-    r ≡ outcomeOf limits (fileOf limits bytes) → r ≡ q → answerFrom q ≡ answerOf (verdictOf limits bytes)
+pub outcome-answer : (Γ : rules.Context) (bytes : List ℕ) (r q : Outcome) →
+    r ≡ outcomeOf Γ (fileOf Γ bytes) → r ≡ q → answerFrom q ≡ answerOf (verdictOf Γ bytes)
 unfolding verdictOf
-outcome-answer limits bytes r q e h =
-    ap (λ (z : Outcome). answerFrom z) (sym h ∙ e) ∙ answer-read limits (fileOf limits bytes)
+outcome-answer Γ bytes r q e h =
+    ap (λ (z : Outcome). answerFrom z) (sym h ∙ e) ∙ answer-read Γ (fileOf Γ bytes)

@@ -7,11 +7,11 @@ use mathlib.Core.Path.{_≡_, refl, sym, _∙_, ap, subst}
 use mathlib.Core.List.{List}
 use Prim.Native.Nat.{ℕ, _+_, _*_, _≤_}
 use native.Mathlib.Omega.{arith}
-use Rattle.rules.specs.Context.{Limits, standard}
+use Rattle.rules.specs.Context.{Context, standard}
 use Rattle.rules.specs.Judge as judge
 use Rattle.layout.specs.Bytes.{wordsOf}
 use Rattle.layout.specs.Reading.{Reading, read, fault}
-use Rattle.layout.specs.EvidenceWords.{joined, flowPart}
+use Rattle.layout.specs.EvidenceWords.{joined, treePart}
 use Rattle.layout.specs.Standing.{PartStands}
 use Rattle.layout.specs.File.{File, fileOf}
 use Rattle.layout.specs.FileWords.{fileParts, FileSpelled}
@@ -20,6 +20,7 @@ use Rattle.layout.proofs.Stands.{stands-chain}
 use Rattle.layout.proofs.Back.{stands-from}
 use Rattle.layout.proofs.Counted.{count-length, file-counts}
 use Rattle.words.proofs.Loading.{words-length}
+use Rattle.context.specs.Contexts.{refusal}
 use Rattle.flow.specs.Checked.{answerOf, Checked}
 use Rattle.flow.specs.declared.Verdict.{Verdict}
 use Rattle.flow.specs.declared.Verdict.the-variants.{Accepted, Refused}
@@ -32,38 +33,38 @@ abbrev pub SmallBy : ℕ → judge.Verdict → Type 0
 SmallBy n (judge.accepted m) = m ≤ n
 SmallBy n (judge.refused k i) = (k ≤ 9) × (i ≤ n)
 
-module _ (limits : Limits) (bytes : List ℕ) where
-  evidence-stands : (f : File) → FileSpelled limits (wordsOf bytes) f →
-      (at : ℕ) × (p : ℕ) × PartStands (wordsOf bytes) (flowPart limits (f .evidence)) (limits .depth) at p
+module _ (Γ : Context) (bytes : List ℕ) where
+  evidence-stands : (f : File) → FileSpelled Γ (wordsOf bytes) f →
+      (at : ℕ) × (p : ℕ) × PartStands (wordsOf bytes) (treePart Γ (f .evidence)) (Γ .limits .depth) at p
   evidence-stands f h =
-      let l = fileParts limits f in
+      let l = fileParts Γ f in
       let s = stands-from (joined l) (h .spelled) (h .fits) in
-      let x = stands-chain {file = wordsOf bytes} l (limits .depth) 1 _ s in
+      let x = stands-chain {file = wordsOf bytes} l (Γ .limits .depth) 1 _ s in
       (x .2 .2 .0, x .2 .2 .2 .0, x .2 .2 .2 .1)
 
-  read-small : (f : File) (p : ℕ) → fileOf limits bytes ≡ read f p → (v : judge.Verdict) →
-      judged (record { limits = limits }) (read f p) ≡ v → SmallBy 8192 v
+  read-small : (f : File) (p : ℕ) → fileOf Γ bytes ≡ read f p → (v : judge.Verdict) →
+      judged Γ (read f p) ≡ v → SmallBy 8192 v
   read-small f p e (judge.accepted n) h =
-      let x = read-bytes limits bytes f p e in
-      let c = file-counts (record { limits = limits }) limits f .counted n h in
-      let k = count-length (joined (fileParts limits f)) in
+      let x = read-bytes Γ bytes f p e in
+      let c = file-counts Γ f .counted n h in
+      let k = count-length (joined (fileParts Γ f)) in
       let l = words-length bytes in
       omega (arith, x .few, x .words-read .spelled .whole)
   read-small f p e (judge.refused k i) h =
-      let x = read-bytes limits bytes f p e in
+      let x = read-bytes Γ bytes f p e in
       let s = evidence-stands f (x .words-read .spelled) in
-      let c = flow-inside (wordsOf bytes) (record { limits = limits }) limits (f .evidence) (f .pre) (f .program)
-      (f .post) (limits .depth) (s .0) (s .1) (s .2) .inside k i h in
+      let c = flow-inside Γ (wordsOf bytes) (f .evidence) (f .pre) (f .program)
+      (f .post) (Γ .limits .depth) (s .0) (s .1) (s .2) .inside k i h in
       let l = words-length bytes in
       (c .0, omega (arith, x .few, c .1))
 
-  pub verdict-small : SmallBy 8192 (verdictOf limits bytes)
+  pub verdict-small : SmallBy 8192 (verdictOf Γ bytes)
   unfolding verdictOf
-  verdict-small = go (fileOf limits bytes) refl (file-fault limits bytes)
+  verdict-small = go (fileOf Γ bytes) refl (file-fault Γ bytes)
     where
-      go : (x : Reading File) → fileOf limits bytes ≡ x → FaultBy 8192 x →
-          SmallBy 8192 (judged (record { limits = limits }) x)
-      go (read f p) e h = read-small f p e (judged (record { limits = limits }) (read f p)) refl
+      go : (x : Reading File) → fileOf Γ bytes ≡ x → FaultBy 8192 x →
+          SmallBy 8192 (judged Γ x)
+      go (read f p) e h = read-small f p e (judged Γ (read f p)) refl
       go (fault n p) e h = h
 
 -- ---- the answer of the check
@@ -71,7 +72,7 @@ accepted-verdict : (v : judge.Verdict) (n : ℕ) → Accepted n ≡ answerOf v �
 accepted-verdict (judge.accepted m) n e = cc
 accepted-verdict (judge.refused k i) n e = absurd (let z : _≡_ {A = ℕ} 0 1 = cc in omega arith)
 
-refused-verdict : (v : judge.Verdict) (k i : ℕ) → Refused k i ≡ answerOf v → v ≡ judge.refused k i
+refused-verdict : (v : judge.Verdict) (k i : ℕ) → Refused (refusal k i) ≡ answerOf v → v ≡ judge.refused k i
 refused-verdict (judge.accepted m) k i e = absurd (let z : _≡_ {A = ℕ} 0 1 = cc in omega arith)
 refused-verdict (judge.refused m j) k i e = cc
 
@@ -79,19 +80,19 @@ module _ {bytes : List ℕ} {r : Verdict} (h : Checked bytes r) where
   was-accepted : (n : ℕ) → r ≡ Accepted n → verdictOf standard bytes ≡ judge.accepted n
   was-accepted n e = accepted-verdict (verdictOf standard bytes) n (sym e ∙ h .answer)
 
-  was-refused : (k i : ℕ) → r ≡ Refused k i → verdictOf standard bytes ≡ judge.refused k i
+  was-refused : (k i : ℕ) → r ≡ Refused (refusal k i) → verdictOf standard bytes ≡ judge.refused k i
   was-refused k i e = refused-verdict (verdictOf standard bytes) k i (sym e ∙ h .answer)
 
   pub accepted-small : (n : ℕ) → r ≡ Accepted n → n ≤ 8192
   accepted-small n e =
       subst (λ (v : judge.Verdict). SmallBy 8192 v) (was-accepted n e) (verdict-small standard bytes)
 
-  pub refused-small : (k i : ℕ) → r ≡ Refused k i → (k ≤ 9) × (i ≤ 8192)
+  pub refused-small : (k i : ℕ) → r ≡ Refused (refusal k i) → (k ≤ 9) × (i ≤ 8192)
   refused-small k i e =
       subst (λ (v : judge.Verdict). SmallBy 8192 v) (was-refused k i e) (verdict-small standard bytes)
 
   pub accepted-packed : (n : ℕ) → r ≡ Accepted n → n ≡ packed (verdictOf standard bytes)
   accepted-packed n e = sym (ap (λ (v : judge.Verdict). packed v) (was-accepted n e))
 
-  pub refused-packed : (k i : ℕ) → r ≡ Refused k i → k * 65536 + i ≡ packed (verdictOf standard bytes)
+  pub refused-packed : (k i : ℕ) → r ≡ Refused (refusal k i) → k * 65536 + i ≡ packed (verdictOf standard bytes)
   refused-packed k i e = sym (ap (λ (v : judge.Verdict). packed v) (was-refused k i e))

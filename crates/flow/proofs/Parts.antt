@@ -13,12 +13,12 @@ use Prim.Native.Nat.{ℕ, _*_, _≤_}
 use native.Mathlib.Omega.{arith}
 use lib.ListN.{length, length-append}
 use Rattle.rules.specs.Words.{commandWords}
-use Rattle.rules.specs.Context.{Limits}
+use Rattle.rules.specs.Context.{Context}
 use Rattle.rules.specs.Judge as judge
 use Rattle.layout.specs.Bytes.{wordsOf, wordCount}
 use Rattle.layout.specs.Reading.{Reading, read, fault}
 use Rattle.layout.specs.Spelling.{setWords}
-use Rattle.layout.specs.EvidenceWords.{joined, flowPart}
+use Rattle.layout.specs.EvidenceWords.{joined, treePart}
 use Rattle.layout.specs.File.{File, badLength, fileOf}
 use Rattle.layout.specs.FileWords.{FileSpelled}
 use Rattle.layout.specs.Verdict.{judged, verdictOf, bytesBetween, partOf, precondition, postcondition}
@@ -33,30 +33,30 @@ use Rattle.flow.specs.declared.Outcome.the-variants.{Accepted, Refused}
 use Rattle.words.proofs.Lengths.{bad-file, good-file, good-length}
 
 -- a file that was read from bytes
-pub record FileOf (limits : Limits) (bytes : List ℕ) (f : File) (p : ℕ) : Type 0 where
-  pub words-read : FileRead limits (wordsOf bytes) f p
+pub record FileOf (Γ : Context) (bytes : List ℕ) (f : File) (p : ℕ) : Type 0 where
+  pub words-read : FileRead Γ (wordsOf bytes) f p
   pub few : length bytes ≤ 32768
   pub pre-post : f .preAt ≤ f .postAt
   pub post-evidence : f .postAt ≤ f .evidenceAt
   pub inside : f .evidenceAt ≤ wordCount (wordsOf bytes)
 
-module _ (limits : Limits) (bytes : List ℕ) where
-  evidence-inside : (f : File) → FileSpelled limits (wordsOf bytes) f → f .evidenceAt ≤ wordCount (wordsOf bytes)
+module _ (Γ : Context) (bytes : List ℕ) where
+  evidence-inside : (f : File) → FileSpelled Γ (wordsOf bytes) f → f .evidenceAt ≤ wordCount (wordsOf bytes)
   unfolding joined
   evidence-inside f h =
-      let a = length-append (setWords (f .post)) (joined (flowPart limits (f .evidence) ∷ [])) in
-      let b = length-append (setWords (f .pre)) (setWords (f .post) ++ joined (flowPart limits (f .evidence) ∷ [])) in
+      let a = length-append (setWords (f .post)) (joined (treePart Γ (f .evidence) ∷ [])) in
+      let b = length-append (setWords (f .pre)) (setWords (f .post) ++ joined (treePart Γ (f .evidence) ∷ [])) in
       let c = length-append (commandWords (f .program))
-      (setWords (f .pre) ++ (setWords (f .post) ++ joined (flowPart limits (f .evidence) ∷ []))) in
+      (setWords (f .pre) ++ (setWords (f .post) ++ joined (treePart Γ (f .evidence) ∷ []))) in
       omega (arith, h .whole, h .preStarts, h .postStarts, h .evidenceStarts, a, b, c)
 
-  pub read-bytes : (f : File) (p : ℕ) → fileOf limits bytes ≡ read f p → FileOf limits bytes f p
+  pub read-bytes : (f : File) (p : ℕ) → fileOf Γ bytes ≡ read f p → FileOf Γ bytes f p
   read-bytes f p e = go (badLength bytes) refl
     where
-      go : (t : Bool) → badLength bytes ≡ t → FileOf limits bytes f p
-      go true t = absurd (let k = bad-file limits bytes t in let z : _≡_ {A = ℕ} 0 1 = cc in omega arith)
+      go : (t : Bool) → badLength bytes ≡ t → FileOf Γ bytes f p
+      go true t = absurd (let k = bad-file Γ bytes t in let z : _≡_ {A = ℕ} 0 1 = cc in omega arith)
       go false t =
-          let x = file-spelled limits (wordsOf bytes) f p (sym (good-file limits bytes t) ∙ e) in
+          let x = file-spelled Γ (wordsOf bytes) f p (sym (good-file Γ bytes t) ∙ e) in
           record {
             words-read = x;
             few = good-length bytes t;
@@ -68,9 +68,9 @@ module _ (limits : Limits) (bytes : List ℕ) where
   pub record AcceptedAt (n : ℕ) (s : Places) : Type 0 where
     pub file : File
     pub end : ℕ
-    pub reads : fileOf limits bytes ≡ read file end
+    pub reads : fileOf Γ bytes ≡ read file end
     pub at : s ≡ places (file .preAt) (file .postAt) (file .evidenceAt) end
-    pub verdict : verdictOf limits bytes ≡ judge.accepted n
+    pub verdict : verdictOf Γ bytes ≡ judge.accepted n
 
   accepted-verdict : (v : judge.Verdict) (n : ℕ) (s t : Places) → Accepted n s ≡ withPlaces v t →
       (v ≡ judge.accepted n) × (s ≡ t)
@@ -81,31 +81,31 @@ module _ (limits : Limits) (bytes : List ℕ) where
   refused-verdict (judge.accepted m) k i t e = absurd (let z : _≡_ {A = ℕ} 0 1 = cc in omega arith)
   refused-verdict (judge.refused m j) k i t e = cc
 
-  pub accepted-at : (n : ℕ) (s : Places) → Accepted n s ≡ outcomeOf limits (fileOf limits bytes) → AcceptedAt n s
+  pub accepted-at : (n : ℕ) (s : Places) → Accepted n s ≡ outcomeOf Γ (fileOf Γ bytes) → AcceptedAt n s
   unfolding verdictOf
-  accepted-at n s = go (fileOf limits bytes) refl
+  accepted-at n s = go (fileOf Γ bytes) refl
     where
-      go : (x : Reading File) → fileOf limits bytes ≡ x → Accepted n s ≡ outcomeOf limits x → AcceptedAt n s
+      go : (x : Reading File) → fileOf Γ bytes ≡ x → Accepted n s ≡ outcomeOf Γ x → AcceptedAt n s
       go (read f p) e h =
-          let k = accepted-verdict (judged (record { limits = limits }) (read f p)) n s
+          let k = accepted-verdict (judged Γ (read f p)) n s
           (places (f .preAt) (f .postAt) (f .evidenceAt) p) h in
           record {
             file = f;
             end = p;
             reads = e;
             at = k .1;
-            verdict = ap (λ (x : Reading File). judged (record { limits = limits }) x) e ∙ k .0;
+            verdict = ap (λ (x : Reading File). judged Γ x) e ∙ k .0;
           }
       go (fault m p) e h = absurd (let z : _≡_ {A = ℕ} 0 1 = cc in omega arith)
 
-  pub refused-at : (k i : ℕ) → Refused k i ≡ outcomeOf limits (fileOf limits bytes) →
-      verdictOf limits bytes ≡ judge.refused k i
+  pub refused-at : (k i : ℕ) → Refused k i ≡ outcomeOf Γ (fileOf Γ bytes) →
+      verdictOf Γ bytes ≡ judge.refused k i
   unfolding verdictOf
-  refused-at k i = go (fileOf limits bytes)
+  refused-at k i = go (fileOf Γ bytes)
     where
-      go : (x : Reading File) → Refused k i ≡ outcomeOf limits x →
-          judged (record { limits = limits }) x ≡ judge.refused k i
-      go (read f p) h = refused-verdict (judged (record { limits = limits }) (read f p)) k i
+      go : (x : Reading File) → Refused k i ≡ outcomeOf Γ x →
+          judged Γ x ≡ judge.refused k i
+      go (read f p) h = refused-verdict (judged Γ (read f p)) k i
           (places (f .preAt) (f .postAt) (f .evidenceAt) p) h
       go (fault m p) h = cc
 
@@ -116,7 +116,7 @@ module _ (limits : Limits) (bytes : List ℕ) where
     pub post-evidence : s .post ≤ s .evidence
     pub inside : 4 * s .evidence ≤ length bytes
 
-  pub places-in : (r : Outcome) (n : ℕ) (s : Places) → r ≡ outcomeOf limits (fileOf limits bytes) → r ≡ Accepted n s →
+  pub places-in : (r : Outcome) (n : ℕ) (s : Places) → r ≡ outcomeOf Γ (fileOf Γ bytes) → r ≡ Accepted n s →
       PlacesIn s
   places-in r n s e h =
       let x = accepted-at n s (sym h ∙ e) in
@@ -133,41 +133,41 @@ module _ (limits : Limits) (bytes : List ℕ) where
   -- what the code makes of the places is what the definition makes of the file
   part-accepted : {A : Type 0} (none : A) (part : File → A) (of : Places → A) →
       ((f : File) (p : ℕ) → of (places (f .preAt) (f .postAt) (f .evidenceAt) p) ≡ part f) →
-      (l : A) (r : Outcome) (n : ℕ) (s : Places) → r ≡ outcomeOf limits (fileOf limits bytes) → r ≡ Accepted n s →
-      l ≡ of s → l ≡ partOf none (verdictOf limits bytes) (fileOf limits bytes) part
+      (l : A) (r : Outcome) (n : ℕ) (s : Places) → r ≡ outcomeOf Γ (fileOf Γ bytes) → r ≡ Accepted n s →
+      l ≡ of s → l ≡ partOf none (verdictOf Γ bytes) (fileOf Γ bytes) part
   part-accepted none part of same l r n s e h k =
       let x = accepted-at n s (sym h ∙ e) in
       k ∙ ap of (x .at) ∙ same (x .file) (x .end)
       ∙ ap₂ (λ v z. partOf none v z part) (sym (x .verdict)) (sym (x .reads))
 
   pub part-refused : {A : Type 0} (none : A) (part : File → A) (r : Outcome) (k i : ℕ) →
-      r ≡ outcomeOf limits (fileOf limits bytes) → r ≡ Refused k i →
-      none ≡ partOf none (verdictOf limits bytes) (fileOf limits bytes) part
+      r ≡ outcomeOf Γ (fileOf Γ bytes) → r ≡ Refused k i →
+      none ≡ partOf none (verdictOf Γ bytes) (fileOf Γ bytes) part
   part-refused none part r k i e h =
-      ap (λ v. partOf none v (fileOf limits bytes) part) (sym (refused-at k i (sym h ∙ e)))
+      ap (λ v. partOf none v (fileOf Γ bytes) part) (sym (refused-at k i (sym h ∙ e)))
 
   -- each part: its bytes, or its places as one number
   abbrev IsPart : {A : Type 0} → (Places → A) → A → Type 0
   IsPart {A} of due =
-      (l : A) (r : Outcome) (n : ℕ) (s : Places) → r ≡ outcomeOf limits (fileOf limits bytes) → r ≡ Accepted n s →
+      (l : A) (r : Outcome) (n : ℕ) (s : Places) → r ≡ outcomeOf Γ (fileOf Γ bytes) → r ≡ Accepted n s →
       l ≡ of s → l ≡ due
 
-  pub precondition-bytes : IsPart (λ s. bytesBetween bytes (s .pre) (s .post)) (precondition limits bytes)
+  pub precondition-bytes : IsPart (λ s. bytesBetween bytes (s .pre) (s .post)) (precondition Γ bytes)
   unfolding precondition
   precondition-bytes = part-accepted [] _ _ (λ f p. refl)
 
-  pub postcondition-bytes : IsPart (λ s. bytesBetween bytes (s .post) (s .evidence)) (postcondition limits bytes)
+  pub postcondition-bytes : IsPart (λ s. bytesBetween bytes (s .post) (s .evidence)) (postcondition Γ bytes)
   unfolding postcondition
   postcondition-bytes = part-accepted [] _ _ (λ f p. refl)
 
-  pub program-places : IsPart (λ s. packedPlaces 1 (s .pre)) (programPlaces limits bytes)
+  pub program-places : IsPart (λ s. packedPlaces 1 (s .pre)) (programPlaces Γ bytes)
   unfolding programPlaces
   program-places = part-accepted 0 _ _ (λ f p. refl)
 
-  pub precondition-places : IsPart (λ s. packedPlaces (s .pre) (s .post)) (preconditionPlaces limits bytes)
+  pub precondition-places : IsPart (λ s. packedPlaces (s .pre) (s .post)) (preconditionPlaces Γ bytes)
   unfolding preconditionPlaces
   precondition-places = part-accepted 0 _ _ (λ f p. refl)
 
-  pub postcondition-places : IsPart (λ s. packedPlaces (s .post) (s .evidence)) (postconditionPlaces limits bytes)
+  pub postcondition-places : IsPart (λ s. packedPlaces (s .post) (s .evidence)) (postconditionPlaces Γ bytes)
   unfolding postconditionPlaces
   postcondition-places = part-accepted 0 _ _ (λ f p. refl)

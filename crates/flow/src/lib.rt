@@ -1,7 +1,8 @@
 // The check on bytes (document 01, "Judging order" 1 to 9): the public calls.
 mod rooms; // rooms.rt: refusals 1 to 9 in order, in room by the size of the file
 
-use file::standard_limits;
+use context::Refusal;
+use file::standard_context;
 use reader::Places;
 use rooms::outcome;
 ghost use mathlib.Core.Path.{_≡_};
@@ -15,23 +16,23 @@ ghost use Rattle.layout.specs.Verdict.{packedPlaces, programPlaces, preconditio
 ghost use Rattle.flow.specs.Checked.{Checked};
 ghost use Rattle.flow.specs.Outcome.{outcomeOf};
 
-// The count of evidence words, or the number and place of a refusal.
+// The count of evidence words, or the refusal.
 pub enum Verdict {
     Accepted(usize),
-    Refused(u32, usize),
+    Refused(Refusal),
 }
 
 // The same, with the places of an accepted file's parts.
 enum Outcome {
     Accepted(usize, Places),
-    Refused(u32, usize),
+    Refused(Refusal),
 }
 
-// Refusals 1 to 9 under document 01's limits.
+// Refusals 1 to 9 under document 01's context.
 fn standard_outcome(file: &[u8]) -> Outcome
     ensures { λ r. ⌜ r ≡ outcomeOf standard (fileOf standard (now (file .entry))) ⌝ }
 {
-    outcome(file, standard_limits())
+    outcome(file, standard_context())
 }
 
 // The check: the answer that document 01 settles for these bytes, with its demands 2 and 3.
@@ -41,7 +42,7 @@ pub fn check(file: &[u8]) -> Verdict
     let done = standard_outcome(file);
     match done {
         Outcome::Accepted(count, _) => Verdict::Accepted(count),
-        Outcome::Refused(number, place) => Verdict::Refused(number, place),
+        Outcome::Refused(refusal) => Verdict::Refused(refusal),
     }
 }
 
@@ -54,7 +55,7 @@ pub extern "C" fn flow_check(file: &[u8]) -> u32
     let answer = check(file);
     match answer {
         Verdict::Accepted(count) => count as u32,
-        Verdict::Refused(number, place) => number * 65536 + place as u32,
+        Verdict::Refused(refusal) => refusal.number * 65536 + refusal.place as u32,
     }
 }
 
@@ -75,7 +76,7 @@ pub fn precondition(file: &[u8]) -> &[u8]
     let done = standard_outcome(file);
     match done {
         Outcome::Accepted(_, places) => between(file, places.pre, places.post),
-        Outcome::Refused(_, _) => &file[..0],
+        Outcome::Refused(_) => &file[..0],
     }
 }
 
@@ -86,7 +87,7 @@ pub fn postcondition(file: &[u8]) -> &[u8]
     let done = standard_outcome(file);
     match done {
         Outcome::Accepted(_, places) => between(file, places.post, places.evidence),
-        Outcome::Refused(_, _) => &file[..0],
+        Outcome::Refused(_) => &file[..0],
     }
 }
 
@@ -107,7 +108,7 @@ pub extern "C" fn flow_program(file: &[u8]) -> u32
     let done = standard_outcome(file);
     match done {
         Outcome::Accepted(_, places) => packed_places(1, places.pre),
-        Outcome::Refused(_, _) => 0,
+        Outcome::Refused(_) => 0,
     }
 }
 
@@ -119,7 +120,7 @@ pub extern "C" fn flow_precondition(file: &[u8]) -> u32
     let done = standard_outcome(file);
     match done {
         Outcome::Accepted(_, places) => packed_places(places.pre, places.post),
-        Outcome::Refused(_, _) => 0,
+        Outcome::Refused(_) => 0,
     }
 }
 
@@ -131,6 +132,6 @@ pub extern "C" fn flow_postcondition(file: &[u8]) -> u32
     let done = standard_outcome(file);
     match done {
         Outcome::Accepted(_, places) => packed_places(places.post, places.evidence),
-        Outcome::Refused(_, _) => 0,
+        Outcome::Refused(_) => 0,
     }
 }

@@ -1,15 +1,21 @@
 -- Laws of the rules of flow.
---     Evidence    evidence of a rule, with what it carries and its children at their places
---     Goal        a goal with its evidence, as trees at their places
---     Leaves      the rules with no children
---     Nodes       the rules with children whose conditions are not on sets
---     Sets        the rules with children whose conditions are on sets
---     Single      the rules that ask for one written member
---     Steps       a goal judged by the rule of its evidence word
-pub mod Evidence
+--     Goal                a goal with its evidence, as trees at their places
+--     AtomicRules         commands of one step
+--     SequenceRules       a sequence
+--     BranchRules         an if
+--     ConsequenceRules    sets by implication
+--     UnionRules          two parts of a set
+--     UnmodifiedRules     what the command does not modify
+--     AntecedentRules     sets under an assertion
+--     LoopRules           loops
+--     Children            which child of a rule, and of which rule
 pub mod Goal
-pub mod Leaves
-pub mod Nodes
-pub mod Sets
-pub mod Single
-pub mod Steps
+pub mod AtomicRules
+pub mod SequenceRules
+pub mod BranchRules
+pub mod ConsequenceRules
+pub mod UnionRules
+pub mod UnmodifiedRules
+pub mod AntecedentRules
+pub mod LoopRules
+pub mod Children

@@ -1,58 +1,106 @@
-// The rules of flow (document 01, rules 1 to 14), tried at an evidence word of kind 33.
-pub mod leaf; // rules 1, 3, 4, 5 and 10, which have no children
-pub mod node; // rules 2, 7, 8 and 14, whose conditions are not on sets
-pub mod compared; // rules 9, 12 and 13, whose conditions are on sets
-pub mod one; // rules 6 and 11, which ask for one written member
+// The rules of flow (document 01, rules 1 to 14), at the evidence word at `at`, of kind 33, for the set at p, the
+// command at c and the set at q. `rule_` with a rule's number tries its conditions, `child_` gives the goal of its k-th
+// child, 0 the first. They are called alike, so that some do not use all that they are given; no rule of flow has an
+// implication of its own, and none uses the context.
+pub mod atomic; // rules 1, 3, 4 and 5: commands of one step
+pub mod sequence; // rule 2
+pub mod branch; // rule 6: if
+pub mod consequence; // rules 7 and 8
+pub mod union; // rule 9
+pub mod unmodified; // rules 10 and 11: what is not modified
+pub mod antecedent; // rule 12: sets under an assertion
+pub mod loops; // rules 13 and 14
 
-use compared::rule_9;
-use compared::rule_12;
-use compared::rule_13;
-use goals::Step;
-use leaf::rule_1;
-use leaf::rule_3;
-use leaf::rule_4;
-use leaf::rule_5;
-use leaf::rule_10;
-use node::rule_2;
-use node::rule_7;
-use node::rule_8;
-use node::rule_14;
-use one::rule_6;
-use one::rule_11;
+use antecedent::child_12;
+use antecedent::rule_12;
+use atomic::rule_1;
+use atomic::rule_3;
+use atomic::rule_4;
+use atomic::rule_5;
+use branch::child_6;
+use branch::rule_6;
+use consequence::child_7;
+use consequence::child_8;
+use consequence::rule_7;
+use consequence::rule_8;
+use context::Context;
+use goals::Goal;
+use implication::Condition;
+use loops::child_13;
+use loops::child_14;
+use loops::rule_13;
+use loops::rule_14;
+use sequence::child_2;
+use sequence::rule_2;
+use union::child_9;
+use union::rule_9;
+use unmodified::child_11;
+use unmodified::rule_10;
+use unmodified::rule_11;
 use words::kinds::KIND;
+ghost use mathlib.Core.Path.{_≡_};
+ghost use Rattle.context.specs.Contexts.{contextOf};
+ghost use Rattle.goals.specs.Children.{childAt};
 ghost use Rattle.goals.specs.Goals.{CanStep, StepOf};
 ghost use Rattle.goals.specs.declared.Goal.the-variants.{Flow};
+ghost use Rattle.flow_rules.specs.Children.{CanChild};
 
-// What the evidence word at `at` comes to, for the set at p, the command at c and the set at q. No rule of flow has an
-// implication of its own, so `limit` is not used; it is there for the three judgements to be called alike.
-pub fn flow_step(
+// What the conditions of the rule at the evidence word come to.
+pub fn flow_condition(
     w: &[u32],
     ends: &[u32],
-    limit: usize,
+    context: Context,
     at: usize,
     p: usize,
     c: usize,
     q: usize,
-) -> Step
-    requires { ⌜ CanStep (now w) (now ends) limit (Flow p c q) «at» ⌝ }
-    ensures { λ r. ⌜ StepOf (now (w .entry)) limit (Flow p c q) «at» r ⌝ }
+) -> Condition
+    requires { ⌜ CanStep (now w) (now ends) (contextOf context) (Flow p c q) «at» ⌝ }
+    ensures { λ r. ⌜ StepOf (now (w .entry)) (now (ends .entry)) (contextOf context) (Flow p c q) «at» r ⌝ }
 {
     let rule = w[at] % KIND;
     match rule {
-        1 => rule_1(w, ends, at, p, c, q),
-        2 => rule_2(w, ends, at, p, c, q),
-        3 => rule_3(w, ends, at, p, c, q),
-        4 => rule_4(w, ends, at, p, c, q),
-        5 => rule_5(w, ends, at, p, c, q),
-        6 => rule_6(w, ends, at, p, c, q),
-        7 => rule_7(w, ends, at, p, c, q),
-        8 => rule_8(w, ends, at, p, c, q),
-        9 => rule_9(w, ends, at, p, c, q),
-        10 => rule_10(w, ends, at, p, c, q),
-        11 => rule_11(w, ends, at, p, c, q),
-        12 => rule_12(w, ends, at, p, c, q),
-        13 => rule_13(w, ends, at, p, c, q),
+        1 => rule_1(w, ends, context, at, p, c, q),
+        2 => rule_2(w, ends, context, at, p, c, q),
+        3 => rule_3(w, ends, context, at, p, c, q),
+        4 => rule_4(w, ends, context, at, p, c, q),
+        5 => rule_5(w, ends, context, at, p, c, q),
+        6 => rule_6(w, ends, context, at, p, c, q),
+        7 => rule_7(w, ends, context, at, p, c, q),
+        8 => rule_8(w, ends, context, at, p, c, q),
+        9 => rule_9(w, ends, context, at, p, c, q),
+        10 => rule_10(w, ends, context, at, p, c, q),
+        11 => rule_11(w, ends, context, at, p, c, q),
+        12 => rule_12(w, ends, context, at, p, c, q),
+        13 => rule_13(w, ends, context, at, p, c, q),
         // a reader lets no other rule pass
-        _ => rule_14(w, ends, at, p, c, q),
+        _ => rule_14(w, ends, context, at, p, c, q),
+    }
+}
+
+// The goal of the k-th child of a rule.
+pub fn flow_child(
+    ends: &[u32],
+    rule: u32,
+    at: usize,
+    p: usize,
+    c: usize,
+    q: usize,
+    k: usize,
+) -> Goal
+    requires { ⌜ CanChild (now ends) rule p c q «at» k ⌝ }
+    ensures { λ r. ⌜ r ≡ childAt (now (ends .entry)) (Flow p c q) rule «at» k ⌝ }
+{
+    match rule {
+        2 => child_2(ends, at, p, c, q, k),
+        6 => child_6(ends, at, p, c, q, k),
+        7 => child_7(ends, at, p, c, q, k),
+        8 => child_8(ends, at, p, c, q, k),
+        9 => child_9(ends, at, p, c, q, k),
+        11 => child_11(ends, at, p, c, q, k),
+        12 => child_12(ends, at, p, c, q, k),
+        13 => child_13(ends, at, p, c, q, k),
+        // no other rule has children
+        _ => child_14(ends, at, p, c, q, k),
     }
 }

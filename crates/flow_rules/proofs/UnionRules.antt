@@ -1,0 +1,68 @@
+-- Two parts of a set, each with its own evidence (document 01, rule 9).
+-- Assumes nothing.
+--     can-first, can-second       what the code asks for
+--     union-fails, union-comes    what the rule comes to
+use mathlib.Core.Path.{_≡_, refl, sym, _∙_}
+use mathlib.Core.Bool.{Bool, true, false}
+use mathlib.Core.List.{List}
+use Prim.Native.Nat.{ℕ, _+_}
+use Rattle.rules.specs.Context.{Context}
+use Rattle.rules.specs.Evidence.{Parts, row, flow9, members, child, done, _&_}
+use Rattle.rules.specs.Judge.{flowRule, judge}
+use Rattle.implication.specs.declared.Condition.the-variants.{Fails}
+use Rattle.goals.specs.declared.Goal.the-variants.{Flow}
+use Rattle.goals.specs.Conditions.{conditionOf}
+use Rattle.goals.specs.Goals.{flow-stands, CanTry, StepOf}
+use Rattle.goals.proofs.Evidence.{Placed}
+use Rattle.goals.proofs.Comes.{two-children}
+use Rattle.sets.specs.Rules.{CanThree, SameUnion}
+use Rattle.set_laws.proofs.Sets.{set-stands, has-set}
+use Rattle.flow_rules.proofs.Goal.{second, third, fourth, Comes, tried, first-fails, second-test, up-to}
+use Rattle.flow_rules.proofs.Goal.{trees, carried}
+
+module _ {Γ : Context} {file ends : List ℕ} {p c q at : ℕ} (can : CanTry file ends Γ 9 (Flow p c q) at) where
+  asked : (t : Parts (row flow9 .after)) (d end : ℕ) → Placed Γ file ends d t (at + 1) end →
+      CanThree file ends p (at + 1) (third ends at) × CanThree file ends q (second ends at) (fourth ends at)
+  asked (members s & members s′ & members t & members t′ & l) d end (s-at, (s′-at, (t-at, (t′-at, _)))) = (
+    record {
+      ends-of = can .can .ends-of;
+      first-set = has-set (trees (can .can) .before-at);
+      second-set = has-set s-at;
+      third-set = has-set t-at;
+    },
+    record {
+      ends-of = can .can .ends-of;
+      first-set = has-set (trees (can .can) .after-at);
+      second-set = has-set s′-at;
+      third-set = has-set t′-at;
+    },
+  )
+
+  pub can-first : CanThree file ends p (at + 1) (third ends at)
+  can-first = let x = carried flow9 can in asked (x .parts) (x .levels) (x .end) (x .at-places) .0
+
+  pub can-second : CanThree file ends q (second ends at) (fourth ends at)
+  can-second = let x = carried flow9 can in asked (x .parts) (x .levels) (x .end) (x .at-places) .1
+
+  module _ {a : Bool} (u : SameUnion file p (at + 1) (third ends at) a) where
+    fails : a ≡ false → Comes Γ file ends p c q at flow9 Fails
+    unfolding flowRule judge
+    fails h x y e (members s & members s′ & members t & members t′ & l) d end f g z
+        (s-at, (s′-at, (t-at, (t′-at, _)))) =
+        first-fails _ refl (u .does x s t (set-stands f) (set-stands s-at) (set-stands t-at)) h
+
+    comes : a ≡ true → {b : Bool} → SameUnion file q (second ends at) (fourth ends at) b →
+        Comes Γ file ends p c q at flow9 (conditionOf b)
+    unfolding flowRule judge
+    comes h w x y e (members s & members s′ & members t & members t′ & child k & child l & done) d end f g z
+        (s-at, (s′-at, (t-at, (t′-at, (i, k-at, (j, l-at, last)))))) =
+        second-test refl (sym (u .does x s t (set-stands f) (set-stands s-at) (set-stands t-at)) ∙ h)
+        (w .does y s′ t′ (set-stands z) (set-stands s′-at) (set-stands t′-at))
+        (two-children (flow-stands s-at g s′-at k-at) (up-to (flow-stands t-at g t′-at l-at) last))
+
+    pub union-fails : a ≡ false → StepOf file ends Γ (Flow p c q) at Fails
+    union-fails h = tried flow9 can (fails h)
+
+    pub union-comes : a ≡ true → {b : Bool} → SameUnion file q (second ends at) (fourth ends at) b →
+        StepOf file ends Γ (Flow p c q) at (conditionOf b)
+    union-comes h w = tried flow9 can (comes h w)

@@ -1,0 +1,14 @@
+-- `flow_rules::consequence::child_8` meets its contract.
+-- Assumes nothing.
+use borrow.Author.Needs.{needs}
+use Rattle.flow_rules.proofs.Children.{last-of-two}
+use Rattle.flow_rules.proofs.consequence.child_8.Statement.{statement}
+use Rattle.flow_rules.proofs.consequence.child_8.Tie as tie
+
+pub child-8-spec : {M : Type 1} → statement M
+child-8-spec =
+    tie.close
+    (tie.spec
+    (λ c. search needs)
+    (λ c. rw (c .if1 .taken))
+    (λ c. rw (last-of-two (c .before .pre .child) (c .if1 .left))))

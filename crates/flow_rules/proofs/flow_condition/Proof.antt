@@ -1,0 +1,43 @@
+-- `flow_rules::flow_condition` meets its contract: each rule has its own function, and no other rule stands there.
+-- Assumes nothing.
+use native.Mathlib.Omega.{arith}
+use Rattle.flow_rules.proofs.Goal.{head, can-try, last-rule}
+use Rattle.flow_rules.proofs.flow_condition.Statement.{statement}
+use Rattle.flow_rules.proofs.flow_condition.Tie as tie
+
+pub flow-condition-spec : {M : Type 1} → statement M
+flow-condition-spec =
+    tie.close
+    (tie.spec
+    (λ c. let i = head (c .before .before .pre) in omega arith)
+    (λ c. head (c .before .before .before .pre))
+    (λ c κs. can-try (c .before .before .before .before .pre) (c .match .keys1))
+    (λ c κs. can-try (c .before .before .before .before .pre) (c .match .keys2))
+    (λ c κs. can-try (c .before .before .before .before .pre) (c .match .keys3))
+    (λ c κs. can-try (c .before .before .before .before .pre) (c .match .keys4))
+    (λ c κs. can-try (c .before .before .before .before .pre) (c .match .keys5))
+    (λ c κs. can-try (c .before .before .before .before .pre) (c .match .keys6))
+    (λ c κs. can-try (c .before .before .before .before .pre) (c .match .keys7))
+    (λ c κs. can-try (c .before .before .before .before .pre) (c .match .keys8))
+    (λ c κs. can-try (c .before .before .before .before .pre) (c .match .keys9))
+    (λ c κs. can-try (c .before .before .before .before .pre) (c .match .keys10))
+    (λ c κs. can-try (c .before .before .before .before .pre) (c .match .keys11))
+    (λ c κs. can-try (c .before .before .before .before .pre) (c .match .keys12))
+    (λ c κs. can-try (c .before .before .before .before .pre) (c .match .keys13))
+    (λ c κs.
+    can-try (c .before .before .before .before .pre) (last-rule (c .before .before .before .before .pre)
+    (c .match .rest)))
+    (λ c. c .rule-1 .ensures)
+    (λ c. c .rule-2 .ensures)
+    (λ c. c .rule-3 .ensures)
+    (λ c. c .rule-4 .ensures)
+    (λ c. c .rule-5 .ensures)
+    (λ c. c .rule-6 .ensures)
+    (λ c. c .rule-7 .ensures)
+    (λ c. c .rule-8 .ensures)
+    (λ c. c .rule-9 .ensures)
+    (λ c. c .rule-10 .ensures)
+    (λ c. c .rule-11 .ensures)
+    (λ c. c .rule-12 .ensures)
+    (λ c. c .rule-13 .ensures)
+    (λ c. c .rule-14 .ensures))

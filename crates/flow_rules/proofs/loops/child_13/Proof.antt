@@ -1,0 +1,14 @@
+-- `flow_rules::loops::child_13` meets its contract.
+-- Assumes nothing.
+use borrow.Author.Needs.{needs}
+use Rattle.flow_rules.proofs.Children.{last-of-one}
+use Rattle.flow_rules.proofs.loops.child_13.Statement.{statement}
+use Rattle.flow_rules.proofs.loops.child_13.Tie as tie
+
+pub child-13-spec : {M : Type 1} → statement M
+child-13-spec =
+    tie.close
+    (tie.spec
+    (λ c. search needs)
+    (λ c κs. search needs)
+    (λ c. rw (last-of-one (c .before .before .pre .child), c .end-or-zero .ensures)))

@@ -1,0 +1,13 @@
+-- `flow_rules::loops::child_14` meets its contract.
+-- Assumes nothing.
+use borrow.Author.Needs.{needs}
+use Rattle.flow_rules.proofs.Children.{last-of-one}
+use Rattle.flow_rules.proofs.loops.child_14.Statement.{statement}
+use Rattle.flow_rules.proofs.loops.child_14.Tie as tie
+
+pub child-14-spec : {M : Type 1} → statement M
+child-14-spec =
+    tie.close
+    (tie.spec
+    (λ c. search needs)
+    (λ c. rw (last-of-one (c .pre .child))))

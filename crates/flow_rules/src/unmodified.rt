@@ -1,0 +1,70 @@
+// What the command does not modify.
+use context::Context;
+use ends::end_or_zero;
+use goals::Goal;
+use goals::condition;
+use implication::Condition;
+use rule_laws::kept::is_kept;
+use rule_laws::same::is_same_consequent;
+use sets::pile::count;
+use sets::rule::same_written;
+ghost use mathlib.Core.Path.{_≡_};
+ghost use Rattle.context.specs.Contexts.{contextOf};
+ghost use Rattle.goals.specs.Children.{childAt};
+ghost use Rattle.goals.specs.Goals.{CanTry, StepOf};
+ghost use Rattle.goals.specs.declared.Goal.the-variants.{Flow};
+ghost use Rattle.flow_rules.specs.Children.{CanChild};
+
+// Rule 10. P same as Q, and no identifier of Q is modified.
+pub fn rule_10(
+    w: &[u32],
+    ends: &[u32],
+    context: Context,
+    at: usize,
+    p: usize,
+    c: usize,
+    q: usize,
+) -> Condition
+    requires { ⌜ CanTry (now w) (now ends) (contextOf context) 10 (Flow p c q) «at» ⌝ }
+    ensures { λ r. ⌜ StepOf (now (w .entry)) (now (ends .entry)) (contextOf context) (Flow p c q) «at» r ⌝ }
+{
+    if !same_written(w, ends, p, q) {
+        return Condition::Fails;
+    }
+    condition(is_kept(w, ends, q, c))
+}
+
+// Rule 11. P one written member φ ⇒ E, Q one φ' ⇒ E; none of E modified.
+pub fn rule_11(
+    w: &[u32],
+    ends: &[u32],
+    context: Context,
+    at: usize,
+    p: usize,
+    c: usize,
+    q: usize,
+) -> Condition
+    requires { ⌜ CanTry (now w) (now ends) (contextOf context) 11 (Flow p c q) «at» ⌝ }
+    ensures { λ r. ⌜ StepOf (now (w .entry)) (now (ends .entry)) (contextOf context) (Flow p c q) «at» r ⌝ }
+{
+    if count(w, p) != 1 {
+        return Condition::Fails;
+    }
+    if count(w, q) != 1 {
+        return Condition::Fails;
+    }
+    let e = end_or_zero(ends, p + 1);
+    let f = end_or_zero(ends, q + 1);
+    if !is_same_consequent(w, ends, e, f) {
+        return Condition::Fails;
+    }
+    condition(is_kept(w, ends, e, c))
+}
+
+// Its child: precondition (φ, C, φ').
+pub fn child_11(ends: &[u32], at: usize, p: usize, c: usize, q: usize, k: usize) -> Goal
+    requires { ⌜ CanChild (now ends) 11 p c q «at» k ⌝ }
+    ensures { λ r. ⌜ r ≡ childAt (now (ends .entry)) (Flow p c q) 11 «at» k ⌝ }
+{
+    Goal::Pre(p + 1, c, q + 1)
+}
