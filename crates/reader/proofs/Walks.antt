@@ -2,7 +2,7 @@
 -- Assumes nothing.
 --     due-ends, due-deep, due-there    the three cases of the word that is due
 --     room                             where a word is due, it is inside the file and a level is left
---     onto, alone, on, off, more       a part after another, as a reader and as a walk; a part alone
+--     onto, alone, on, off             a part after another, as a reader and as a walk; a part alone
 --     level-walk, due-walk             walks of `noLevel` and `wordDue`
 --     GoesBy                           a walk goes by the word that is due
 --     arithmetic-goes, boolean-goes, array-goes, command-goes, set-goes, evidence-goes
@@ -99,9 +99,6 @@ on k e h = h ∙ ap (λ (z : Walk). onward z k) (sym e)
 
 pub off : {x : Refusal} {r : Walk} (k : ℕ → Walk) → r ≡ Refused x → r ≡ onward r k
 off k e = e ∙ ap (λ (z : Walk). onward z k) (sym e)
-
-pub more : {r s t : Walk} (k : ℕ → Walk) → r ≡ onward s k → s ≡ t → r ≡ onward t k
-more k e h = e ∙ ap (λ (z : Walk). onward z k) h
 
 -- ---- by the word that is due
 allowed-after : {A : Type 0} (o : Option (Reader A)) (at : ℕ) → allowed o at ≡ after o at (at + 1)

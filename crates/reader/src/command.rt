@@ -2,6 +2,8 @@
 use super::Due;
 use super::Sort;
 use super::Walk;
+use super::expression::read_arithmetic;
+use super::expression::read_array;
 use super::expression::read_operand;
 use super::word::word_due;
 use context::Refusal;
@@ -24,8 +26,8 @@ pub fn read_command(w: &[u32], at: usize, left: usize) -> Walk
                 CommandWord::Skip => from,
                 CommandWord::Sequence => read_body(w, read_body(w, from, below), below),
                 CommandWord::Assert => read_operand(Sort::Boolean, w, from, below),
-                CommandWord::AssignScalar(_) => read_operand(Sort::Arithmetic, w, from, below),
-                CommandWord::AssignArray(_) => read_operand(Sort::Array, w, from, below),
+                CommandWord::AssignScalar(_) => read_arithmetic(w, next, below),
+                CommandWord::AssignArray(_) => read_array(w, next, below),
                 CommandWord::If => {
                     let test = read_operand(Sort::Boolean, w, from, below);
                     read_body(w, read_body(w, test, below), below)

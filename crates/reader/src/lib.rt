@@ -2,8 +2,8 @@
 use context::Refusal;
 
 pub mod word; // word.rt: the word that is due at a place
-pub mod operand; // operand.rt: the operands that follow a word
-pub mod expression; // expression.rt: expressions of the three sorts
+pub mod leaf; // leaf.rt: operands of one word
+pub mod expression; // expression.rt: the three sorts of expressions
 pub mod command; // command.rt: commands
 pub mod set; // set.rt: members and sets
 pub mod evidence; // evidence.rt: evidence
@@ -26,15 +26,6 @@ pub enum Sort {
     Arithmetic,
     Boolean,
     Array,
-}
-
-// The sorts of the operands that follow a word, in the file's order; or the word is not allowed.
-pub enum Operands {
-    None,
-    One(Sort),
-    Two(Sort, Sort),
-    Three(Sort, Sort, Sort),
-    NotAllowed,
 }
 
 // The places of a file's parts: its command is at 1, and the evidence ends at `end`.

@@ -3,9 +3,9 @@
 -- Assumes nothing.
 use borrow.Author.Needs.{needs}
 use native.Mathlib.Omega.{arith}
-use mathlib.Core.Path.{refl, ap}
+use mathlib.Core.Path.{refl, _∙_, ap}
 use Prim.Native.Nat.{ℕ, _<_, _+_, _*_}
-use Rattle.reader.proofs.Walks.{onto, command-goes, stop, arm}
+use Rattle.reader.proofs.Walks.{onto, alone, command-goes, stop, arm}
 use Rattle.reader.proofs.Forward.{wordsLeft, word-left, expression-left, command-left}
 use borrow.Fn.Kinds.{In}
 use borrow.Fn.PlainCycle.{Measures, is, falls, and}
@@ -16,6 +16,8 @@ use Rattle.reader.proofs.command.read_command.Reads as read-command
 use Rattle.reader.proofs.command.read_command.Kinds as read-command-kinds
 use Rattle.reader.proofs.command.+read_body+read_command.Lts-read_command as read-command-lts
 use Rattle.reader.specs.declared.Walk.the-variants.{Next}
+use Rattle.reader.proofs.expression.read_arithmetic.Reads as read-arithmetic-reads
+use Rattle.reader.proofs.expression.read_array.Reads as read-array-reads
 use Rattle.reader.proofs.expression.read_operand.Reads as read-operand-reads
 use Rattle.reader.proofs.word.word_due.Reads as word-due-reads
 use Rattle.words.proofs.decode.command_word.Reads as command-word-reads
@@ -69,6 +71,10 @@ pub +read-body+read-command-spec : {M : Type 1} → statement M
       read-body.Post,
       read-operand-reads.Asked,
       read-operand-reads.Learnt,
+      read-arithmetic-reads.Asked,
+      read-arithmetic-reads.Learnt,
+      read-array-reads.Asked,
+      read-array-reads.Learnt,
     )
     (read-command-at t)
     read-command.Post
@@ -95,18 +101,18 @@ pub +read-body+read-command-spec : {M : Type 1} → statement M
     (λ c κs. search needs)
     (λ c κs. let m = c .before .before .before .before .before in
     let h = word-left _ _ _ (m .before .before .word-due .ensures) (m .d2 .given .1) in
-    let f = expression-left h _ _ (c .read-operand4 .ensures) in
+    let f = expression-left h _ _ (c .read-operand2 .ensures) in
     omega arith)
     (λ c κs. let m = c .before .before .before .before .before .before in
     let h = word-left _ _ _ (m .before .before .word-due .ensures) (m .d2 .given .1) in
-    let f = expression-left h _ _ (c .before .read-operand4 .ensures) in
+    let f = expression-left h _ _ (c .before .read-operand2 .ensures) in
     let g = command-left f _ (c .read-body3 .ensures) in
     omega arith)
     (λ c. search needs)
     (λ c κs. search needs)
     (λ c κs. let m = c .before .before .before .before .before in
     let h = word-left _ _ _ (m .before .before .word-due .ensures) (m .d2 .given .1) in
-    let f = expression-left h _ _ (c .read-operand5 .ensures) in
+    let f = expression-left h _ _ (c .read-operand3 .ensures) in
     omega arith)
     (λ c. search needs)
     (λ c κs. let m = c .before .before .before .before in
@@ -117,13 +123,11 @@ pub +read-body+read-command-spec : {M : Type 1} → statement M
     let a = m .before .before .before .before .args in
     stop (command-goes (a .w .now) (a .left) (a .at)) (m .before .before .word-due .ensures)
     (m .d .given .1))
-    (λ c. let e = c in
-    let m = e .before .before .before .before in
+    (λ c. let m = c .before .before .before .before in
     let a = m .before .before .before .before .args in
     arm (command-goes (a .w .now) (a .left) (a .at)) (m .before .before .word-due .ensures)
-    (m .d2 .given .1) (e .before .before .command-word .ensures)
-    (e .enum-told .given .1)
-    refl)
+    (m .d2 .given .1) (c .before .before .command-word .ensures)
+    (c .enum-told .given .1) refl)
     (λ c. let e = c .before .before in
     let m = e .before .before .before .before in
     let a = m .before .before .before .before .args in
@@ -144,14 +148,14 @@ pub +read-body+read-command-spec : {M : Type 1} → statement M
     arm (command-goes (a .w .now) (a .left) (a .at)) (m .before .before .word-due .ensures)
     (m .d2 .given .1) (e .before .before .command-word .ensures)
     (e .enum-told4 .given .1)
-    (onto _ _ _ (c .read-operand2 .ensures) refl))
+    (c .read-arithmetic .ensures ∙ alone _ _ _))
     (λ c. let e = c .before in
     let m = e .before .before .before .before in
     let a = m .before .before .before .before .args in
     arm (command-goes (a .w .now) (a .left) (a .at)) (m .before .before .word-due .ensures)
     (m .d2 .given .1) (e .before .before .command-word .ensures)
     (e .enum-told5 .given .1)
-    (onto _ _ _ (c .read-operand3 .ensures) refl))
+    (c .read-array .ensures ∙ alone _ _ _))
     (λ c. let e = c .before .before .before in
     let m = e .before .before .before .before in
     let a = m .before .before .before .before .args in
@@ -160,14 +164,14 @@ pub +read-body+read-command-spec : {M : Type 1} → statement M
     (e .enum-told6 .given .1)
     (onto _ _ _ (c .read-body4 .ensures)
     (onto _ _ _ (c .before .read-body3 .ensures)
-    (onto _ _ _ (c .before .before .read-operand4 .ensures) refl))))
+    (onto _ _ _ (c .before .before .read-operand2 .ensures) refl))))
     (λ c. let e = c .before .before in
     let m = e .before .before .before .before in
     let a = m .before .before .before .before .args in
     arm (command-goes (a .w .now) (a .left) (a .at)) (m .before .before .word-due .ensures)
     (m .d2 .given .1) (e .before .before .command-word .ensures)
     (e .enum-told7 .given .1)
-    (onto _ _ _ (c .read-body5 .ensures) (onto _ _ _ (c .before .read-operand5 .ensures) refl)))
+    (onto _ _ _ (c .read-body5 .ensures) (onto _ _ _ (c .before .read-operand3 .ensures) refl)))
     (λ c. let e = c .before in
     let m = e .before .before .before .before in
     let a = m .before .before .before .before .args in
