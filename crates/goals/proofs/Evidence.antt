@@ -3,6 +3,7 @@
 -- Assumes nothing.
 --     payload-is         the number of its rule is the payload of its word
 --     Placed, placed     parts at their places; of parts that stand
+--     payload-is         the payload of an evidence word is its rule's number
 --     evidence-of        evidence whose word has the number of a rule is of that rule
 use mathlib.Core.Path.{_≡_, refl, sym, ap, subst, _∙_}
 use mathlib.Core.List.{List}

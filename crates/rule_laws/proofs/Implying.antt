@@ -4,11 +4,12 @@
 --     assertion-known        an assertion's place is in the list of ends
 --     can-imply              a call of `implies` for two assertions
 --     implies-at             what it answers
-use mathlib.Core.Path.{_≡_, sym, subst}
+use mathlib.Core.Path.{_≡_, refl, sym, subst}
 use mathlib.Core.List.{List}
 use Prim.Native.Nat.{ℕ}
 use native.Mathlib.Omega.{arith}
 use Rattle.language.specs.Syntax.{Sort, Expr}
+use Rattle.rules.specs.Context.{Context}
 use Rattle.layout.specs.EvidenceWords.{expressionPart}
 use Rattle.layout.specs.Standing.{PartStands}
 use Rattle.ends.specs.Ends.{EndsOf}
@@ -32,8 +33,9 @@ module _ {file ends : List ℕ} where
   pub assertion-known : {at : ℕ} → EndsOf file ends → AssertionAt file ends at → PartKnown file ends at
   assertion-known o x = written-known o (x .tree-at)
 
-  module _ {limit a b p q : ℕ} (e : p ≡ endAt ends a) (h : q ≡ endAt ends b) where
-    pub can-imply : CanImplyAt file ends limit a b → CanImply file (One a p) (One b q) limit
+  module _ {Γ : Context} {a b p q : ℕ} (e : p ≡ endAt ends a) (h : q ≡ endAt ends b) where
+    pub can-imply : CanImplyAt file ends Γ a b →
+        CanImply file (One a p) (One b q) (Γ .limits .comparisons)
     can-imply c = record {
       φ = c .left .tree;
       ψ = c .right .tree;
@@ -45,5 +47,6 @@ module _ {file ends : List ℕ} where
       few = c .few;
     }
 
-    pub implies-at : {r : Condition} → Implied file (One a p) (One b q) limit r → ImpliesAt file ends limit a b r
-    implies-at i = record { is = λ φ ψ x y Γ l. i .is φ ψ 256 256 (deep e x) (deep h y) Γ l }
+    pub implies-at : {r : Condition} → Implied file (One a p) (One b q) (Γ .limits .comparisons) r →
+        ImpliesAt file ends Γ a b r
+    implies-at i = record { is = λ φ ψ x y. i .is φ ψ 256 256 (deep e x) (deep h y) Γ refl }

@@ -19,13 +19,13 @@ module _ (file ends : List ℕ) where
     pub tree : Expr Boolean
     pub tree-at : WrittenAt file ends tree at
 
-  pub record CanImplyAt (limit a b : ℕ) : Type 0 where
+  pub record CanImplyAt (Γ : Context) (a b : ℕ) : Type 0 where
     pub ends-of : EndsOf file ends
     pub size : length file ≤ 8192
-    pub few : limit ≤ 16
+    pub few : Γ .limits .comparisons ≤ 16
     pub left : AssertionAt a
     pub right : AssertionAt b
 
-  pub record ImpliesAt (limit a b : ℕ) (r : Condition) : Type 0 where
-    pub is : (φ ψ : Expr Boolean) → WrittenAt file ends φ a → WrittenAt file ends ψ b → (Γ : Context) →
-        Γ .limits .comparisons ≡ limit → resultOf r ≡ implication Γ φ ψ
+  pub record ImpliesAt (Γ : Context) (a b : ℕ) (r : Condition) : Type 0 where
+    pub is : (φ ψ : Expr Boolean) → WrittenAt file ends φ a → WrittenAt file ends ψ b →
+        resultOf r ≡ implication Γ φ ψ

@@ -1,13 +1,13 @@
--- Laws about the rules of implications between sets.
---     Evidence      evidence of a rule, with what it carries and its children at their places
---     Goal          a goal with its evidence, as trees at their places
---     Conditions    the rules' conditions on written sets
---     Operands      the operands of a written expression
---     Leaves        the rules with no children
---     Nodes         the rules with children
-pub mod Evidence
+-- Laws of the rules of implications between sets (document 01, rules 13 to 19 of sets).
+--     Goal          a goal of two sets as trees at their places; a rule with no children; children by their number
+--     Inclusions    rule 13
+--     EmptySets     rules 14 and 15
+--     Unions        rules 16 and 17
+--     Antecedents   rule 18
+--     Operands      rule 19
 pub mod Goal
-pub mod Conditions
+pub mod Inclusions
+pub mod EmptySets
+pub mod Unions
+pub mod Antecedents
 pub mod Operands
-pub mod Leaves
-pub mod Nodes

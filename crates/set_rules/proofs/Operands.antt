@@ -4,10 +4,11 @@
 --     TwoAt, OneAt, Split, split                an expression's operands at their places
 --     can-one-same, can-two-same, first-known   what the code asks for
 --     one-split, two-split, none-split          the written set compared with φ ⇒ each operand
+--     can-split, apart-fails, split-rule        rule 19
 use mathlib.Core.Path.{_≡_, refl, sym, ap, subst, _∙_}
 use mathlib.Core.Bool.{Bool, true, false}
 use mathlib.Core.List.{List, [], _∷_, _++_}
-use mathlib.Core.Option.{none, some}
+use mathlib.Core.Option.{Option, none, some}
 use Prim.Native.Nat.{ℕ, zero, suc, _+_, _<_, _≤_}
 use native.Mathlib.Omega.{arith}
 use borrow.Author.Tests.{ne-eqb}
@@ -16,8 +17,11 @@ use lib.ListN.{length}
 use Rattle.laws.proofs.Bools.{clash}
 use Rattle.language.specs.Syntax.{Sort, Boolean, Expr, constant, scalar, operation, select, compare, truth, and, or}
 use Rattle.language.specs.Syntax.{neg, array, zeros, update}
-use Rattle.rules.specs.Assertion.{member, one}
-use Rattle.rules.specs.Condition.{onSome}
+use Rattle.rules.specs.Assertion.{Members, member, one}
+use Rattle.rules.specs.Context.{Context}
+use Rattle.rules.specs.Condition.{test, onOne, onSome}
+use Rattle.rules.specs.Evidence.{set19}
+use Rattle.rules.specs.Judge.{misfit, leaf, setRule}
 use Rattle.rules.specs.Sets.{operands}
 use Rattle.rules.specs.Tests.{same}
 use Rattle.rules.specs.Words.{words, operatorPayload, comparisonPayload, truthPayload}
@@ -30,13 +34,21 @@ use Rattle.layout.proofs.Words.{kind-of-word, payload-small}
 use Rattle.ends.specs.Ends.{EndsOf}
 use Rattle.compare.specs.Places.{endAt}
 use Rattle.compare.proofs.Operands.{operator-small, comparison-small, truth-small}
+use Rattle.implication.specs.declared.Condition.{Condition}
+use Rattle.implication.specs.declared.Condition.the-variants.{Fails}
+use Rattle.goals.specs.Conditions.{conditionOf}
+use Rattle.goals.specs.Goals.{CanTry, StepOf}
+use Rattle.goals.specs.declared.Goal.the-variants.{Set}
 use Rattle.goals.specs.Places.{WrittenAt, PartKnown}
-use Rattle.goals.proofs.Places.{expression-past, written, written-inside, written-known}
+use Rattle.goals.proofs.Places.{expression-past, written, written-to, written-inside, written-known}
+use Rattle.rule_laws.proofs.Trying.{tested}
 use Rattle.sets.specs.Trees.{ExpressionStands, stands-empty, stands-one, HasPile, CanSameSet, SameSet}
 use Rattle.sets.specs.declared.pile.Pile.the-variants.{Empty, One}
 use Rattle.sets.specs.declared.pile.Piles.{Piles}
-use Rattle.set_laws.proofs.Sets.{set-stands}
+use Rattle.sets.specs.Piles.{countAt}
+use Rattle.set_laws.proofs.Sets.{set-stands, has-set, is-one, not-one}
 use Rattle.set_rules.specs.Conditions.{hasTwo, CanSplit, SplitAt}
+use Rattle.set_rules.proofs.Goal.{here, right-one, leaf-rule}
 
 -- the kinds in code
 pub two-known : {k n : ℕ} → k ≡ n → hasTwo n ≡ true → true ≡ hasTwo k
@@ -192,18 +204,18 @@ module _ {file ends : List ℕ} {p f e : ℕ} (can : CanSplit file ends p f e) w
       }
 
   module _ (g : kindAt file e ≡ 12 → ⊥) (h : hasTwo (kindAt file e) ≡ true) where
-    here : TwoAt file ends (can .whole) e
-    here = by-two (split (can .ends-of) (can .whole-at)) g h
+    both-at : TwoAt file ends (can .whole) e
+    both-at = by-two (split (can .ends-of) (can .whole-at)) g h
 
     pub first-known : PartKnown file ends (e + 1)
-    first-known = written-known (can .ends-of) (here .first-at)
+    first-known = written-known (can .ends-of) (both-at .first-at)
 
     pub can-two-same : {next : ℕ} → next ≡ endAt ends (e + 1) → CanSameSet file ends p (twoPiles f (e + 1) next)
     can-two-same i = record {
       ends-of = can .ends-of;
       set = can .set;
-      first-pile = has-pair (can .antecedent-at) refl (here .first-at);
-      second-pile = has-pair (can .antecedent-at) i (here .second-at);
+      first-pile = has-pair (can .antecedent-at) refl (both-at .first-at);
+      second-pile = has-pair (can .antecedent-at) i (both-at .second-at);
       third-pile = record { tree = _; stands = stands-empty };
     }
 
@@ -211,7 +223,7 @@ module _ {file ends : List ℕ} {p f e : ℕ} (o : EndsOf file ends) where
   pub one-split : kindAt file e ≡ 12 → {r : Bool} → SameSet file p (onePiles f (e + 1)) r → SplitAt file ends p f e r
   unfolding onSome
   one-split h same-as = record {
-    is = λ limits l φ d a b c.
+    is = λ Γ l φ d a b c.
         let t = by-one (split o c) h in
         same-as .does l (one φ (t .only)) [] [] (set-stands a) (stands-one (stands-there b) (stands-there (t .only-at)))
         stands-empty stands-empty
@@ -222,14 +234,14 @@ module _ {file ends : List ℕ} {p f e : ℕ} (o : EndsOf file ends) where
     pub none-split : {t : Bool} → t ≡ hasTwo (kindAt file e) → t ≡ false → SplitAt file ends p f e false
     unfolding onSome
     none-split i h = record {
-      is = λ limits l φ d a b c. ap (λ m. onSome m false (λ x. same l x)) (sym (by-none (split o c) g (sym i ∙ h) φ));
+      is = λ Γ l φ d a b c. ap (λ m. onSome m false (λ x. same l x)) (sym (by-none (split o c) g (sym i ∙ h) φ));
     }
 
     pub two-split : hasTwo (kindAt file e) ≡ true → {next : ℕ} → next ≡ endAt ends (e + 1) → {r : Bool} →
         SameSet file p (twoPiles f (e + 1) next) r → SplitAt file ends p f e r
     unfolding onSome
     two-split h i same-as = record {
-      is = λ limits l φ d a b c.
+      is = λ Γ l φ d a b c.
           let t = by-two (split o c) g h in
           same-as .does l (one φ (t .first)) (one φ (t .second)) [] (set-stands a)
           (stands-one (stands-there b) (stands-there (t .first-at)))
@@ -237,3 +249,41 @@ module _ {file ends : List ℕ} {p f e : ℕ} (o : EndsOf file ends) where
           stands-empty
           ∙ ap (λ m. onSome m false (λ x. same l x)) (sym (t .is φ));
     }
+
+-- operands that are not there are a condition that fails
+some-result : (m : Option Members) (l : Members) →
+    onSome m misfit (λ r. leaf (test (same l r))) ≡ leaf (test (onSome m false (λ r. same l r)))
+unfolding onSome test
+some-result none l = refl
+some-result (some r) l = refl
+
+module _ {file ends : List ℕ} {Γ : Context} {p q at : ℕ} (can : CanTry file ends Γ 19 (Set p q) at) {k : ℕ}
+    (n : k ≡ countAt file q) where
+  pub apart-fails : (k ≡ 1 → ⊥) → StepOf file ends Γ (Set p q) at Fails
+  unfolding setRule
+  apart-fails g = leaf-rule can set19 refl λ x y a b. not-one b misfit _ (λ e. g (n ∙ e))
+
+  module _ (g : k ≡ 1) {e : ℕ} (i : e ≡ endAt ends (q + 1)) where
+    pub can-split : CanSplit file ends p (q + 1) e
+    can-split =
+        let z = right-one can n g in
+        record {
+          ends-of = can .can .ends-of;
+          size = can .can .size;
+          set = has-set (here can .left-at);
+          φ = z .only .antecedent;
+          antecedent-at = z .only-at .antecedent-at;
+          sort = z .only .sort;
+          whole = z .only .consequent;
+          whole-at = written-to i (z .only-at .consequent-at);
+        }
+
+    pub split-rule : {b : Bool} → SplitAt file ends p (q + 1) e b → {c : Condition} → c ≡ conditionOf b →
+        StepOf file ends Γ (Set p q) at c
+    unfolding setRule onOne
+    split-rule splits d = leaf-rule can set19 refl λ x y a b.
+        let z = is-one b (can .can .ends-of) (sym n ∙ g) in
+        ap (setRule Γ set19 x) (z .is)
+        ∙ some-result (operands (z .only .antecedent) (z .only .consequent)) x
+        ∙ ap leaf (sym (tested d (splits .is Γ x _ (z .only .consequent) a (z .only-at .antecedent-at)
+        (written-to i (z .only-at .consequent-at)))))

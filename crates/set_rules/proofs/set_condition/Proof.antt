@@ -1,0 +1,28 @@
+-- `set_rules::set_condition` meets its contract, rule by rule.
+-- Assumes nothing.
+use native.Mathlib.Omega.{arith}
+use Rattle.set_rules.proofs.Goal.{step-head, can-try, last-rule}
+use Rattle.set_rules.proofs.set_condition.Statement.{statement}
+use Rattle.set_rules.proofs.set_condition.Tie as tie
+
+pub set-condition-spec : {M : Type 1} → statement M
+set-condition-spec =
+    tie.close
+    (tie.spec
+    (λ c. omega (arith, step-head (c .before .before .pre)))
+    (λ c. step-head (c .before .before .before .pre))
+    (λ c κs. can-try (c .before .before .before .before .pre) (c .match .keys1))
+    (λ c κs. can-try (c .before .before .before .before .pre) (c .match .keys2))
+    (λ c κs. can-try (c .before .before .before .before .pre) (c .match .keys3))
+    (λ c κs. can-try (c .before .before .before .before .pre) (c .match .keys4))
+    (λ c κs. can-try (c .before .before .before .before .pre) (c .match .keys5))
+    (λ c κs. can-try (c .before .before .before .before .pre) (c .match .keys6))
+    (λ c κs. let r = c .match .rest in last-rule (c .before .before .before .before .pre) (r .0 .0 .0 .0 .0 .1)
+    (r .0 .0 .0 .0 .1) (r .0 .0 .0 .1) (r .0 .0 .1) (r .0 .1) (r .1))
+    (λ c. c .rule-13 .ensures)
+    (λ c. c .rule-14 .ensures)
+    (λ c. c .rule-15 .ensures)
+    (λ c. c .rule-16 .ensures)
+    (λ c. c .rule-17 .ensures)
+    (λ c. c .rule-18 .ensures)
+    (λ c. c .rule-19 .ensures))

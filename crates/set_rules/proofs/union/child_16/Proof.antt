@@ -1,0 +1,19 @@
+-- `set_rules::union::child_16` meets its contract.
+-- Assumes nothing.
+use borrow.Author.Needs.{needs}
+use Rattle.rule_laws.proofs.Trying.{is-second}
+use Rattle.set_rules.proofs.union.child_16.Statement.{statement}
+use Rattle.set_rules.proofs.union.child_16.Tie as tie
+
+pub child-16-spec : {M : Type 1} → statement M
+child-16-spec =
+    tie.close
+    (tie.spec
+    (λ c. search needs)
+    (λ c κs. search needs)
+    (λ c. search needs)
+    (λ c. rw (c .if1 .taken) (cc (c .before .end-or-zero .ensures)))
+    (λ c κs. search needs)
+    (λ c κs. search needs)
+    (λ c. rw (is-second (c .before .before .before .before .before .pre .1) (c .before .before .if1 .left)) (cc
+    (c .before .before .before .end-or-zero .ensures, c .before .end-or-zero2 .ensures, c .end-or-zero3 .ensures))))

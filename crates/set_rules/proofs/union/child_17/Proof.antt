@@ -1,0 +1,20 @@
+-- `set_rules::union::child_17` meets its contract.
+-- Assumes nothing.
+use borrow.Author.Needs.{needs}
+use Rattle.rule_laws.proofs.Trying.{is-second}
+use Rattle.set_rules.proofs.union.child_17.Statement.{statement}
+use Rattle.set_rules.proofs.union.child_17.Tie as tie
+
+pub child-17-spec : {M : Type 1} → statement M
+child-17-spec =
+    tie.close
+    (tie.spec
+    (λ c. search needs)
+    (λ c κs. search needs)
+    (λ c. search needs)
+    (λ c. rw (c .if1 .taken) (cc (c .before .end-or-zero .ensures)))
+    (λ c κs. search needs)
+    (λ c. rw (is-second (c .before .before .before .before .pre .1) (c .before .if1 .left)) (cc (
+      c .before .before .end-or-zero .ensures,
+      c .end-or-zero2 .ensures,
+    ))))
