@@ -1,107 +1,150 @@
 -- A goal of necessary preconditions with its evidence, as trees at their places.
 -- Assumes nothing.
---     GoalAt, goal-at, here            the trees; of a goal that stands, of one that can be tried
---     head, low-head, command-head     its evidence word and its command's first word are in the file
+--     GoalAt, here                   the trees of a goal that can be tried
+--     last-rule                      a goal that can be judged, tried by the last rule
+--     command-head, low-command      its command's first word is in the file
 --     first-known, second-known, command-known
---                                      its three parts are in the list of ends
---     verdict-is                       its verdict, by its evidence
---     tried, leaf-tried                a rule tried for every such tree; a rule with no children
-use mathlib.Core.Path.{_≡_, refl, sym, ap, subst, _∙_}
-use mathlib.Core.Bool.{Bool}
-use mathlib.Core.List.{List}
-use Prim.Native.Nat.{ℕ, suc, _<_, _≤_}
+--                                    its three parts are in the list of ends
+--     parts-of, first-carried        what stands after the word of a rule; an assertion that stands there first
+--     leaf-rule, misfit-rule         a rule with no children, by its conditions' result; a command of another form
+--     is-30                          the last rule that has children
+use mathlib.Core.Path.{_≡_, refl, sym, subst}
+use mathlib.Core.List.{List, [], _∷_}
+use Prim.Native.Nat.{ℕ, suc, _+_, _<_}
 use native.Mathlib.Omega.{arith}
+use borrow.Author.Tests.{ne-eqb}
 use lib.ListN.{length}
 use Rattle.language.specs.Syntax.{Boolean, Expr, Command}
-use Rattle.rules.specs.Context.{Limits, Context}
-use Rattle.rules.specs.Condition.{test}
-use Rattle.rules.specs.Evidence.{PreEvidence}
-use Rattle.rules.specs.Judge.{Verdict, judgePre, judgeLeaf}
-use Rattle.ends.specs.Ends.{EndsOf}
-use Rattle.goals.specs.Goals.{TreeGoal, pre, verdict, GoalStands, pre-stands, Comes}
+use Rattle.rules.specs.Context.{Context}
+use Rattle.rules.specs.Evidence.{Item, assertionItem, Rule, row, PreEvidence, Parts, precondition, assertion, done, _&_}
+use Rattle.rules.specs.Evidence.{pre30}
+use Rattle.rules.specs.Judge.{accepted, misfit, leaf, applied, preRule, judge}
+use Rattle.layout.specs.Bytes.{payloadAt}
+use Rattle.layout.proofs.SpelledEvidence.{TreeAt}
+use Rattle.layout.proofs.BackEvidence.{rule-row}
+use Rattle.implication.specs.Sides.{resultOf}
+use Rattle.implication.specs.declared.Condition.{Condition}
+use Rattle.implication.specs.declared.Condition.the-variants.{Fails}
+use Rattle.goals.specs.Children.{childrenAt}
+use Rattle.goals.specs.Goals.{TreeGoal, GoalStands, pre-stands, ChildrenOf, ComesTo, CanStep, CanTry, StepOf}
 use Rattle.goals.specs.declared.Goal.the-variants.{Pre}
-use Rattle.goals.specs.declared.Step.{Step}
 use Rattle.goals.specs.Places.{WrittenAt, CommandAt, PartKnown}
-use Rattle.rule_laws.specs.Steps.{leafStep}
-use Rattle.goals.proofs.Places.{written-at, command-at, command-inside, written-known}
+use Rattle.goals.proofs.Places.{command-inside, written-known}
 use Rattle.goals.proofs.Places as places
-use Rattle.rule_laws.proofs.Children.{leaf-comes}
-use Rattle.pre_rules.specs.Tried.{CanTry, Tried}
-use Rattle.pre_rules.proofs.Evidence.{EvidenceAt, LeafAt}
+use Rattle.goals.proofs.Evidence.{Placed}
+use Rattle.goals.proofs.Comes.{no-children, comes, misfit-comes, pre-rule}
+use Rattle.rule_laws.specs.Implications.{AssertionAt}
+use Rattle.rule_laws.proofs.Trying.{can-try, listed, last-row, PartsAt, parts-at, only-rule}
 
-pub record GoalAt (file ends : List ℕ) (f c g : ℕ) (t : TreeGoal) (d at end : ℕ) : Type 0 where
+pub record GoalAt (Γ : Context) (file ends : List ℕ) (f c g d at end : ℕ) : Type 0 where
   pub φ : Expr Boolean
   pub φ′ : Expr Boolean
   pub command : Command
-  pub evidence : PreEvidence
-  pub is : t ≡ pre evidence φ command φ′
   pub first-at : WrittenAt file ends φ f
   pub second-at : WrittenAt file ends φ′ g
   pub command-at : CommandAt file ends command c
-  pub evidence-at : EvidenceAt file evidence (suc d) at end
+  pub evidence : PreEvidence
+  pub evidence-at : TreeAt Γ file (suc d) at evidence end
 
-pub goal-at : {limits : Limits} {file ends : List ℕ} {f c g : ℕ} {t : TreeGoal} {d at end : ℕ} → EndsOf file ends →
-    GoalStands limits file (Pre f c g) t (suc d) at end → GoalAt file ends f c g t d at end
-goal-at o (pre-stands {k = k} {φ = φ} {φ′ = φ′} {c = c} a b e s) = record {
+trees : {Γ : Context} {file ends : List ℕ} {f c g : ℕ} {t : TreeGoal} {d at end : ℕ} →
+    GoalStands Γ file ends (Pre f c g) t (suc d) at end → GoalAt Γ file ends f c g d at end
+trees (pre-stands {k = k} {φ = φ} {φ′ = φ′} {c = e} x y z s) = record {
   φ = φ;
   φ′ = φ′;
-  command = c;
+  command = e;
+  first-at = x;
+  second-at = z;
+  command-at = y;
   evidence = k;
-  is = refl;
-  first-at = written-at o φ a;
-  second-at = written-at o φ′ e;
-  command-at = command-at o c b;
-  evidence-at = record { stands = s };
+  evidence-at = s;
 }
 
-module _ {file ends : List ℕ} {rule f c g at : ℕ} (p : CanTry file ends rule f c g at) where
-  pub here : GoalAt file ends f c g (p .tree) (p .levels) at (p .end)
-  here = goal-at (p .ends-of) (p .goal-stands)
+-- an assertion that is carried first
+first-of : (Γ : Context) (file ends : List ℕ) (d at end : ℕ) {l : List Item} (t : Parts (assertionItem ∷ l)) →
+    Placed Γ file ends d t at end → AssertionAt file ends at
+first-of Γ file ends d at end (assertion φ & t) (a, x) = record { tree = φ; tree-at = a }
 
-  pub head : at < length file
-  head = here .evidence-at .stands .stand .0
+module _ {file ends : List ℕ} {Γ : Context} {f c g at : ℕ} where
+  module _ (can : CanStep file ends Γ (Pre f c g) at) where
+    stands : GoalAt Γ file ends f c g (can .levels) at (can .end)
+    stands = trees (can .goal-stands)
 
-  pub low-head : at < 8192
-  low-head = let h = head in let s = p .size in omega arith
+    -- a rule that is none of 20 to 29
+    pub last-rule : (payloadAt file at ≡ 20 → ⊥) → (payloadAt file at ≡ 21 → ⊥) → (payloadAt file at ≡ 22 → ⊥) →
+        (payloadAt file at ≡ 23 → ⊥) → (payloadAt file at ≡ 24 → ⊥) → (payloadAt file at ≡ 25 → ⊥) →
+        (payloadAt file at ≡ 26 → ⊥) → (payloadAt file at ≡ 27 → ⊥) → (payloadAt file at ≡ 28 → ⊥) →
+        (payloadAt file at ≡ 29 → ⊥) → CanTry file ends Γ 30 (Pre f c g) at
+    last-rule n20 n21 n22 n23 n24 n25 n26 n27 n28 n29 =
+        let x = stands in
+        let h = listed Γ file ends (x .evidence) (suc (can .levels)) at (can .end) (x .evidence-at) in
+        let n = payloadAt file at in
+        can-try can (last-row n 30 (row pre30) (h .0)
+        (rw (
+          ne-eqb n 20 n20,
+          ne-eqb n 21 n21,
+          ne-eqb n 22 n22,
+          ne-eqb n 23 n23,
+          ne-eqb n 24 n24,
+          ne-eqb n 25 n25,
+          ne-eqb n 26 n26,
+          ne-eqb n 27 n27,
+          ne-eqb n 28 n28,
+          ne-eqb n 29 n29,
+        ) at (h .1)))
 
-  pub command-head : c < length file
-  command-head =
-      let i = command-inside (here .command-at) in
-      let s = i .start in
-      let w = i .within in
-      omega arith
+  module _ {n : ℕ} (can : CanTry file ends Γ n (Pre f c g) at) where
+    pub here : GoalAt Γ file ends f c g (can .can .levels) at (can .can .end)
+    here = stands (can .can)
 
-  pub first-known : PartKnown file ends f
-  first-known = written-known (p .ends-of) (here .first-at)
+    pub command-head : c < length file
+    command-head =
+        let i = command-inside (here .command-at) in
+        let s = i .start in
+        let w = i .within in
+        omega arith
 
-  pub second-known : PartKnown file ends g
-  second-known = written-known (p .ends-of) (here .second-at)
+    pub low-command : c < 8192
+    low-command = let h = command-head in let s = can .can .size in omega arith
 
-  pub command-known : PartKnown file ends c
-  command-known = places.command-known (p .ends-of) (here .command-at)
+    pub first-known : PartKnown file ends f
+    first-known = written-known (can .can .ends-of) (here .first-at)
 
-module _ {file ends : List ℕ} {f c g : ℕ} {t : TreeGoal} {d at end : ℕ} where
-  pub verdict-is : (Γ : Context) (x : GoalAt file ends f c g t d at end) {k : PreEvidence} {v : Verdict} →
-      x .evidence ≡ k → judgePre Γ k (x .φ) (x .command) (x .φ′) ≡ v → verdict Γ t ≡ v
-  verdict-is Γ x e h =
-      ap (verdict Γ) (x .is) ∙ ap (λ k. judgePre Γ k (x .φ) (x .command) (x .φ′)) e ∙ h
+    pub second-known : PartKnown file ends g
+    second-known = written-known (can .can .ends-of) (here .second-at)
 
-module _ {file ends : List ℕ} {f c g at : ℕ} (o : EndsOf file ends) where
-  pub tried : {r : Step} →
-      ((limits : Limits) (t : TreeGoal) (d end : ℕ) → d ≤ 256 → GoalAt file ends f c g t d at end →
-      Comes limits file t d at end r) →
-      Tried file f c g at r
-  tried h = record { comes = λ limits t d end l s. h limits t d end l (goal-at o s) }
+    pub command-known : PartKnown file ends c
+    command-known = places.command-known (can .can .ends-of) (here .command-at)
 
-  pub leaf-tried : (make : ℕ → PreEvidence) →
-      ((d end : ℕ) (k : PreEvidence) → d ≤ 256 → EvidenceAt file k (suc d) at end → LeafAt at end make k) → (b : Bool) →
-      ((Γ : Context) (φ φ′ : Expr Boolean) (e : Command) → WrittenAt file ends φ f → WrittenAt file ends φ′ g →
-      CommandAt file ends e c → judgePre Γ (make at) φ e φ′ ≡ judgeLeaf at (test b)) →
-      {r : Step} → r ≡ leafStep at b → Tried file f c g at r
-  leaf-tried make leaf b judged e =
-      subst (λ r. Tried file f c g at r) (sym e)
-      (tried λ limits t d end l x.
-      let k = leaf d end (x .evidence) l (x .evidence-at) in
-      leaf-comes limits file t d at end b (k .past)
-      (verdict-is (record { limits = limits }) x (k .is)
-      (judged (record { limits = limits }) (x .φ) (x .φ′) (x .command) (x .first-at) (x .second-at) (x .command-at))))
+    pub parts-of : {l : List Item} → Rule precondition n l → PartsAt Γ file ends l (at + 1)
+    parts-of r = parts-at r (can .can .ends-of) (here .evidence) (can .can .low) (here .evidence-at) (can .rule-is)
+
+    pub first-carried : {l : List Item} → Rule precondition n (assertionItem ∷ l) → AssertionAt file ends (at + 1)
+    first-carried r =
+        let x = parts-of r in
+        first-of Γ file ends (x .levels) (at + 1) (x .end) (x .parts) (x .parts-placed)
+
+    pub leaf-rule : (r : Rule precondition n []) → childrenAt ends (Pre f c g) n at ≡ [] → {u : Condition} →
+        ((φ φ′ : Expr Boolean) (e : Command) → WrittenAt file ends φ f → CommandAt file ends e c →
+        WrittenAt file ends φ′ g → preRule Γ r φ e φ′ ≡ leaf (resultOf u)) → StepOf file ends Γ (Pre f c g) at u
+    leaf-rule r none {u} h = pre-rule (can .can .ends-of) (can .rule-is) (row r) (rule-row r .0) go
+      where
+        go : (φ φ′ : Expr Boolean) (e : Command) (t : Parts []) (d end : ℕ) → WrittenAt file ends φ f →
+            CommandAt file ends e c → WrittenAt file ends φ′ g → Placed Γ file ends d t (at + 1) end →
+            ComesTo Γ file ends (preRule Γ r φ e φ′) (childrenAt ends (Pre f c g) n at) d (at + 1) end u
+        go φ φ′ e done d end x y z s =
+            comes (accepted 0) u (h φ φ′ e x y z) refl
+            (subst (λ l. ChildrenOf Γ file ends (accepted 0) l d (at + 1) end) (sym none) (no-children s))
+
+    pub misfit-rule : {l : List Item} (r : Rule precondition n l) →
+        ((φ φ′ : Expr Boolean) (e : Command) (t : Parts l) → CommandAt file ends e c →
+        applied l (preRule Γ r) (judge Γ t) φ e φ′ ≡ misfit) → StepOf file ends Γ (Pre f c g) at Fails
+    misfit-rule r h =
+        pre-rule (can .can .ends-of) (can .rule-is) (row r) (rule-row r .0)
+        λ φ φ′ e t d end x y z s. misfit-comes (h φ φ′ e t y)
+
+-- rules 20, 21, 23, 28 and 30 alone have children
+pub is-30 : (ends : List ℕ) (f c g at k rule : ℕ) → (rule ≡ 20 → ⊥) → (rule ≡ 21 → ⊥) → (rule ≡ 23 → ⊥) →
+    (rule ≡ 28 → ⊥) → k < length (childrenAt ends (Pre f c g) rule at) → rule ≡ 30
+is-30 ends f c g at k rule n20 n21 n23 n28 h =
+    only-rule rule 30 _ k
+    (rw (ne-eqb rule 20 n20, ne-eqb rule 21 n21, ne-eqb rule 23 n23, ne-eqb rule 28 n28) at h)

@@ -1,15 +1,19 @@
--- Laws of the rules of necessary preconditions.
---     Assertions    the rules' tests of assertions by words
---     Evidence      evidence of a rule, and its parts at their places
---     Goal          a goal with its evidence, as trees at their places
---     Leaves        the rules with no children
---     Nodes         the rules with children and no implication
---     Implications  the rules with implications
---     Steps         a goal judged by the rule of its evidence word
+-- Laws of the rules of necessary preconditions (document 01, rules 20 to 30).
+--     Assertions      the rules' tests of assertions by words
+--     Goal            a goal as trees at their places; a rule by the result of its conditions; the rules with children
+--     Commands        rules 22, 24, 25 and 26
+--     Sequences       rule 23
+--     Branches        rule 20
+--     Implications    the two implications of rule 21
+--     Iterations      rules 21 and 30
+--     Modifies        rule 27
+--     Consequences    rules 28 and 29
 pub mod Assertions
-pub mod Evidence
 pub mod Goal
-pub mod Leaves
-pub mod Nodes
+pub mod Commands
+pub mod Sequences
+pub mod Branches
 pub mod Implications
-pub mod Steps
+pub mod Iterations
+pub mod Modifies
+pub mod Consequences

@@ -1,52 +1,82 @@
-// The rules of necessary preconditions (document 01, rules 20 to 30), tried at an evidence word of kind 35.
-pub mod condition; // the rules' tests of assertions
-pub mod leaf; // rules 22, 24 to 27 and 29, which have no children
-pub mod node; // rules 20, 23 and 30, which have children
-pub mod implied; // rules 21 and 28, which have implications
+// The rules of necessary preconditions (document 01, rules 20 to 30), tried at an evidence word of kind 35. All take the
+// same, also what a rule does not ask for: the file, its ends, the context, the place of the evidence word, and the places
+// f, c and g of the assertion, the command and the other assertion.
+pub mod condition; // the rules' tests of assertions by words
+pub mod command; // rules 22, 24, 25 and 26: commands of one step
+pub mod sequence; // rule 23
+pub mod branch; // rule 20
+pub mod iteration; // rules 21 and 30: while and for
+pub mod unmodified; // rule 27: what a command does not modify
+pub mod consequence; // rules 28 and 29: a stronger assertion, and true
 
-use goals::Step;
-use implied::rule_21;
-use implied::rule_28;
-use leaf::rule_22;
-use leaf::rule_24;
-use leaf::rule_25;
-use leaf::rule_26;
-use leaf::rule_27;
-use leaf::rule_29;
-use node::rule_20;
-use node::rule_23;
-use node::rule_30;
+use branch::child_20;
+use branch::rule_20;
+use command::rule_22;
+use command::rule_24;
+use command::rule_25;
+use command::rule_26;
+use consequence::child_28;
+use consequence::rule_28;
+use consequence::rule_29;
+use context::Context;
+use goals::Goal;
+use implication::Condition;
+use iteration::child_21;
+use iteration::child_30;
+use iteration::rule_21;
+use iteration::rule_30;
+use sequence::child_23;
+use sequence::rule_23;
+use unmodified::rule_27;
 use words::kinds::KIND;
+ghost use mathlib.Core.Path.{_≡_};
+ghost use Prim.Native.Nat.{_<_};
+ghost use lib.ListN.{length};
+ghost use Rattle.context.specs.Contexts.{contextOf};
+ghost use Rattle.goals.specs.Children.{childrenAt, childAt};
 ghost use Rattle.goals.specs.Goals.{CanStep, StepOf};
 ghost use Rattle.goals.specs.declared.Goal.the-variants.{Pre};
 
-// What the evidence word at `at` comes to, for the assertion at f, the command at c and the assertion at g. An
-// implication over more than `limit` comparisons is too large.
-pub fn pre_step(
+// What the conditions of the rule of the evidence word at `at` come to.
+pub fn pre_condition(
     w: &[u32],
     ends: &[u32],
-    limit: usize,
+    context: Context,
     at: usize,
     f: usize,
     c: usize,
     g: usize,
-) -> Step
-    requires { ⌜ CanStep (now w) (now ends) limit (Pre f c g) «at» ⌝ }
-    ensures { λ r. ⌜ StepOf (now (w .entry)) limit (Pre f c g) «at» r ⌝ }
+) -> Condition
+    requires { ⌜ CanStep (now w) (now ends) (contextOf context) (Pre f c g) «at» ⌝ }
+    ensures { λ r. ⌜ StepOf (now (w .entry)) (now (ends .entry)) (contextOf context) (Pre f c g) «at» r ⌝ }
 {
     let rule = w[at] % KIND;
     match rule {
-        20 => rule_20(w, ends, at, f, c, g),
-        21 => rule_21(w, ends, limit, at, f, c, g),
-        22 => rule_22(w, ends, at, f, c, g),
-        23 => rule_23(w, ends, at, f, c, g),
-        24 => rule_24(w, ends, at, f, c, g),
-        25 => rule_25(w, ends, at, f, c, g),
-        26 => rule_26(w, ends, at, f, c, g),
-        27 => rule_27(w, ends, at, f, c, g),
-        28 => rule_28(w, ends, limit, at, f, c, g),
-        29 => rule_29(w, ends, at, f, c, g),
+        20 => rule_20(w, ends, context, at, f, c, g),
+        21 => rule_21(w, ends, context, at, f, c, g),
+        22 => rule_22(w, ends, context, at, f, c, g),
+        23 => rule_23(w, ends, context, at, f, c, g),
+        24 => rule_24(w, ends, context, at, f, c, g),
+        25 => rule_25(w, ends, context, at, f, c, g),
+        26 => rule_26(w, ends, context, at, f, c, g),
+        27 => rule_27(w, ends, context, at, f, c, g),
+        28 => rule_28(w, ends, context, at, f, c, g),
+        29 => rule_29(w, ends, context, at, f, c, g),
         // a reader lets no other rule pass
-        _ => rule_30(w, ends, at, f, c, g),
+        _ => rule_30(w, ends, context, at, f, c, g),
+    }
+}
+
+// The goal of child k of a rule that has children.
+pub fn pre_child(ends: &[u32], rule: u32, at: usize, f: usize, c: usize, g: usize, k: usize) -> Goal
+    requires { ⌜ («at» < 8192) × (c < 8192) × (k < length (childrenAt (now ends) (Pre f c g) rule «at»)) ⌝ }
+    ensures { λ r. ⌜ r ≡ childAt (now (ends .entry)) (Pre f c g) rule «at» k ⌝ }
+{
+    match rule {
+        20 => child_20(ends, at, f, c, g, k),
+        21 => child_21(ends, at, f, c, g, k),
+        23 => child_23(ends, at, f, c, g, k),
+        28 => child_28(ends, at, f, c, g, k),
+        _ => child_30(ends, at, f, c, g, k),
     }
 }

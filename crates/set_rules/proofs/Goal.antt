@@ -1,24 +1,24 @@
 -- A goal of two sets with its evidence, as trees at their places.
 -- Assumes nothing.
 --     GoalAt, here                  the trees of a goal that can be tried
---     head, low-head, left-in, right-in, low-left, low-right
---                                   its evidence word and its two sets are in the file
---     can-try, step-head, last-rule a goal that can be judged, tried by its rule
+--     last-rule                     a goal that can be judged, tried by the last rule
+--     left-in, right-in, low-left, low-right
+--                                   its two sets are in the file
 --     left-one, right-one           its sets, where each is one member
 --     parts-of                      what stands after the word of a rule
 --     leaf-rule                     a rule with no children, by the result of its conditions
 use mathlib.Core.Path.{_≡_, refl, sym, subst, _∙_}
 use mathlib.Core.List.{List, []}
-use Prim.Native.Nat.{ℕ, suc, _+_, _<_, _≤_}
+use Prim.Native.Nat.{ℕ, suc, _+_, _<_}
 use native.Mathlib.Omega.{arith}
+use borrow.Author.Tests.{ne-eqb}
 use lib.ListN.{length}
 use Rattle.rules.specs.Assertion.{Members}
 use Rattle.rules.specs.Context.{Context}
-use Rattle.rules.specs.Evidence.{Item, Rule, row, SetEvidence, Parts, implication, by, done, set13, set14, set15}
-use Rattle.rules.specs.Evidence.{set16, set17, set18, set19}
+use Rattle.rules.specs.Evidence.{Item, Rule, row, SetEvidence, Parts, implication, done, set19}
 use Rattle.rules.specs.Judge.{accepted, leaf, setRule}
 use Rattle.layout.specs.Bytes.{payloadAt}
-use Rattle.layout.proofs.SpelledEvidence.{TreeAt, head-inside}
+use Rattle.layout.proofs.SpelledEvidence.{TreeAt}
 use Rattle.layout.proofs.BackEvidence.{rule-row}
 use Rattle.implication.specs.Sides.{resultOf}
 use Rattle.implication.specs.declared.Condition.{Condition}
@@ -27,9 +27,9 @@ use Rattle.goals.specs.Goals.{TreeGoal, GoalStands, set-stands, ChildrenOf, Com
 use Rattle.goals.specs.declared.Goal.the-variants.{Set}
 use Rattle.goals.specs.Places.{SetAt}
 use Rattle.goals.proofs.Places.{set-inside}
-use Rattle.goals.proofs.Evidence.{Placed, payload-is}
+use Rattle.goals.proofs.Evidence.{Placed}
 use Rattle.goals.proofs.Comes.{no-children, comes, set-rule}
-use Rattle.rule_laws.proofs.Trying.{PartsAt, parts-at}
+use Rattle.rule_laws.proofs.Trying.{can-try, listed, last-row, PartsAt, parts-at}
 use Rattle.sets.specs.Piles.{countAt}
 use Rattle.set_laws.specs.Members.{OneWritten}
 use Rattle.set_laws.proofs.Sets.{is-one}
@@ -50,34 +50,10 @@ trees (set-stands {k = k} {p = x} {q = y} a b s) =
 in-file : {file ends : List ℕ} {Γ : Context} {m : Members} {at : ℕ} → SetAt file ends Γ m at → at < length file
 in-file x = let i = set-inside x in let s = i .start in let w = i .within in omega arith
 
--- the rules are 13 to 19
-range : {n : ℕ} {l : List Item} → Rule implication n l → (13 ≤ n) × (n ≤ 19)
-range set13 = (omega arith, omega arith)
-range set14 = (omega arith, omega arith)
-range set15 = (omega arith, omega arith)
-range set16 = (omega arith, omega arith)
-range set17 = (omega arith, omega arith)
-range set18 = (omega arith, omega arith)
-range set19 = (omega arith, omega arith)
-
-rule-range : (Γ : Context) (file ends : List ℕ) (e : SetEvidence) (d at end : ℕ) → TreeAt Γ file d at e end →
-    (13 ≤ payloadAt file at) × (payloadAt file at ≤ 19)
-rule-range Γ file ends (by r i t) d at end s =
-    let e = payload-is Γ file ends r i t d at end s in
-    let h = range r in
-    (omega (arith, h .0), omega (arith, h .1))
-
 module _ {file ends : List ℕ} {Γ : Context} {p q at : ℕ} where
   module _ (can : CanStep file ends Γ (Set p q) at) where
     stands : GoalAt Γ file ends p q (can .levels) at (can .end)
     stands = trees (can .goal-stands)
-
-    pub step-head : at < length file
-    step-head =
-        head-inside Γ file (stands .evidence) (suc (can .levels)) at (can .end) (stands .evidence-at)
-
-    pub can-try : {n : ℕ} → payloadAt file at ≡ n → CanTry file ends Γ n (Set p q) at
-    can-try e = record { can = can; rule-is = e }
 
     -- a rule that is none of 13 to 18
     pub last-rule : (payloadAt file at ≡ 13 → ⊥) → (payloadAt file at ≡ 14 → ⊥) → (payloadAt file at ≡ 15 → ⊥) →
@@ -85,15 +61,14 @@ module _ {file ends : List ℕ} {Γ : Context} {p q at : ℕ} where
         CanTry file ends Γ 19 (Set p q) at
     last-rule a b c d e f =
         let x = stands in
-        let h = rule-range Γ file ends (x .evidence) (suc (can .levels)) at (can .end) (x .evidence-at) in
-        can-try (omega (arith, h .0, h .1))
+        let h = listed Γ file ends (x .evidence) (suc (can .levels)) at (can .end) (x .evidence-at) in
+        let n = payloadAt file at in
+        can-try can (last-row n 19 (row set19) (h .0)
+        (rw (ne-eqb n 13 a, ne-eqb n 14 b, ne-eqb n 15 c, ne-eqb n 16 d, ne-eqb n 17 e, ne-eqb n 18 f) at (h .1)))
 
   module _ {n : ℕ} (can : CanTry file ends Γ n (Set p q) at) where
     pub here : GoalAt Γ file ends p q (can .can .levels) at (can .can .end)
     here = stands (can .can)
-
-    pub low-head : at < 8192
-    low-head = let h = step-head (can .can) in let s = can .can .size in omega arith
 
     pub left-in : p < length file
     left-in = in-file (here .left-at)

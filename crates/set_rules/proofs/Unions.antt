@@ -5,14 +5,12 @@
 --     first-fails, union-rule                    the rule by its two tests
 --     can-rest-same, rest-at                     the test of rule 17
 --     can-rest, rest-rule                        rule 17
---     has-16, is-17, has-17, child-to            the rules that have children
+--     is-17                                      the other rule that has children
 use mathlib.Core.Path.{_≡_, refl, sym, ap, subst, _∙_}
-use mathlib.Core.Bool.{Bool, true, false, cond}
+use mathlib.Core.Bool.{Bool, true, false}
 use mathlib.Core.List.{List, [], _++_, append-nil}
 use Prim.Native.Nat.{ℕ, zero, suc, _+_, _<_}
-use native.Mathlib.Omega.{arith}
-use borrow.Author.Tests.{eqb-true, ne-eqb}
-use lib.Dec.{eqb}
+use borrow.Author.Tests.{ne-eqb}
 use lib.ListN.{length}
 use Rattle.rules.specs.Assertion.{Members}
 use Rattle.rules.specs.Context.{Context}
@@ -26,16 +24,15 @@ use Rattle.compare.specs.Places.{endAt}
 use Rattle.implication.specs.Sides.{resultOf}
 use Rattle.implication.specs.declared.Condition.{Condition}
 use Rattle.implication.specs.declared.Condition.the-variants.{Fails}
-use Rattle.goals.specs.Children.{childrenAt, childAt, pastCarried}
+use Rattle.goals.specs.Children.{childrenAt, pastCarried}
 use Rattle.goals.specs.Conditions.{conditionOf}
 use Rattle.goals.specs.Goals.{CanTry, StepOf, ComesTo, set-stands}
-use Rattle.goals.specs.declared.Goal.{Goal}
 use Rattle.goals.specs.declared.Goal.the-variants.{Set}
 use Rattle.goals.specs.Places.{SetAt}
 use Rattle.goals.proofs.Places.{set-to}
 use Rattle.goals.proofs.Evidence.{Placed}
 use Rattle.goals.proofs.Comes.{comes, two-children, then-passes, then-fails, set-rule}
-use Rattle.rule_laws.proofs.Trying.{tested}
+use Rattle.rule_laws.proofs.Trying.{tested, only-rule}
 use Rattle.sets.specs.Rules.{CanThree, SameUnion}
 use Rattle.sets.specs.Trees.{HasSet, stands-empty, stands-plain, stands-without, CanSameSet, SameSet}
 use Rattle.sets.specs.declared.item.View.the-variants.{Plain}
@@ -181,21 +178,7 @@ module _ {file : List ℕ} {p t leave s : ℕ} where
         ∙ ap (λ v. same l (without x y ++ v)) (append-nil z);
   }
 
--- the rules that have children
-listed : (k : ℕ) (a : Bool) (l : List Goal) → k < length (cond a l []) → a ≡ true
-listed k true l h = refl
-listed k false l h = absurd (omega arith)
-
-module _ (ends : List ℕ) (p q at k rule : ℕ) where
-  pub has-16 : rule ≡ 16 → k < length (childrenAt ends (Set p q) rule at) → k < 2
-  has-16 e h = rw e at h
-
-  pub is-17 : (rule ≡ 16 → ⊥) → k < length (childrenAt ends (Set p q) rule at) → rule ≡ 17
-  is-17 n h = eqb-true rule 17 (listed k (eqb rule 17) _ (rw (ne-eqb rule 16 n) at h))
-
-  pub has-17 : rule ≡ 17 → k < length (childrenAt ends (Set p q) rule at) → k < 2
-  has-17 e h = rw e at h
-
-  pub child-to : {n : ℕ} {r : Goal} → rule ≡ n → r ≡ childAt ends (Set p q) n at k →
-      r ≡ childAt ends (Set p q) rule at k
-  child-to e h = rw e h
+-- rules 16 and 17 alone have children
+pub is-17 : (ends : List ℕ) (p q at k rule : ℕ) → (rule ≡ 16 → ⊥) → k < length (childrenAt ends (Set p q) rule at) →
+    rule ≡ 17
+is-17 ends p q at k rule n h = only-rule rule 17 _ k (rw (ne-eqb rule 16 n) at h)

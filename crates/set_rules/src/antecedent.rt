@@ -2,7 +2,7 @@ use context::Context;
 use ends::end_or_zero;
 use implication::Condition;
 use rule_laws::imply::implies_at;
-use rule_laws::same::is_same;
+use rule_laws::same::is_same_consequent;
 use sets::pile::count;
 ghost use Rattle.context.specs.Contexts.{contextOf};
 ghost use Rattle.goals.specs.Goals.{CanTry, StepOf};
@@ -28,7 +28,7 @@ pub fn rule_18(
     }
     let e = end_or_zero(ends, p + 1);
     let f = end_or_zero(ends, q + 1);
-    if !is_same(w, ends, e, f) {
+    if !is_same_consequent(w, ends, e, f) {
         return Condition::Fails;
     }
     implies_at(w, ends, context, q + 1, p + 1)

@@ -1,7 +1,8 @@
 -- `set_rules::set_condition` meets its contract, rule by rule.
 -- Assumes nothing.
 use native.Mathlib.Omega.{arith}
-use Rattle.set_rules.proofs.Goal.{step-head, can-try, last-rule}
+use Rattle.rule_laws.proofs.Trying.{step-head, can-try}
+use Rattle.set_rules.proofs.Goal.{last-rule}
 use Rattle.set_rules.proofs.set_condition.Statement.{statement}
 use Rattle.set_rules.proofs.set_condition.Tie as tie
 

@@ -3,7 +3,7 @@
 use native.Mathlib.Omega.{arith}
 use borrow.Author.Needs.{needs}
 use borrow.Author.Tests.{not-true, not-false}
-use Rattle.set_rules.proofs.Goal.{low-head}
+use Rattle.rule_laws.proofs.Trying.{low-head}
 use Rattle.set_rules.proofs.Unions.{can-first, can-second, first-fails, union-rule}
 use Rattle.set_rules.proofs.union.rule_16.Statement.{statement}
 use Rattle.set_rules.proofs.union.rule_16.Tie as tie

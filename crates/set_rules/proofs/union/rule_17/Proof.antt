@@ -2,7 +2,7 @@
 -- Assumes nothing.
 use native.Mathlib.Omega.{arith}
 use borrow.Author.Needs.{needs}
-use Rattle.set_rules.proofs.Goal.{low-head}
+use Rattle.rule_laws.proofs.Trying.{low-head}
 use Rattle.set_rules.proofs.Unions.{can-rest, rest-rule}
 use Rattle.set_rules.proofs.union.rule_17.Statement.{statement}
 use Rattle.set_rules.proofs.union.rule_17.Tie as tie

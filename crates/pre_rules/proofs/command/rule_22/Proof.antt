@@ -1,0 +1,23 @@
+-- `pre_rules::command::rule_22` meets its contract.
+-- Assumes nothing.
+use native.Mathlib.Omega.{arith}
+use borrow.Author.Needs.{needs}
+use Rattle.pre_rules.proofs.Goal.{command-head, first-known, second-known}
+use Rattle.pre_rules.proofs.Commands.{skip-fails, skip-rule}
+use Rattle.pre_rules.proofs.command.rule_22.Statement.{statement}
+use Rattle.pre_rules.proofs.command.rule_22.Tie as tie
+
+pub rule-22-spec : {M : Type 1} → statement M
+rule-22-spec =
+    tie.close
+    (tie.spec
+    (λ c. omega (arith, command-head (c .before .before .pre)))
+    (λ c. command-head (c .before .before .before .pre))
+    (λ c. skip-fails (c .before .before .before .before .pre) (c .if1 .taken))
+    (λ c κs. record {
+      first = first-known (c .before .before .before .before .pre);
+      second = second-known (c .before .before .before .before .pre);
+    })
+    (λ c κs. search needs)
+    (λ c. skip-rule (c .before .before .before .before .before .before .pre) (c .before .before .if1 .left) (c .before .is-same-assertion .ensures)
+    (c .condition .ensures)))

@@ -1,0 +1,22 @@
+-- `pre_rules::command::rule_25` meets its contract.
+-- Assumes nothing.
+use native.Mathlib.Omega.{arith}
+use borrow.Author.Needs.{needs}
+use Rattle.pre_rules.proofs.Goal.{command-head, low-command}
+use Rattle.pre_rules.proofs.Commands.{can-array, array-fails, array-rule}
+use Rattle.pre_rules.proofs.command.rule_25.Statement.{statement}
+use Rattle.pre_rules.proofs.command.rule_25.Tie as tie
+
+pub rule-25-spec : {M : Type 1} → statement M
+rule-25-spec =
+    tie.close
+    (tie.spec
+    (λ c. omega (arith, command-head (c .before .before .pre)))
+    (λ c. command-head (c .before .before .before .pre))
+    (λ c. array-fails (c .before .before .before .before .pre) (c .if1 .taken))
+    (λ c. search needs)
+    (λ c. omega (arith, low-command (c .before .before .before .before .pre)))
+    (λ c κs. can-array (c .before .before .before .before .pre) (c .if1 .left))
+    (λ c κs. search needs)
+    (λ c. array-rule (c .before .before .before .before .before .before .pre) (c .before .before .if1 .left) (c .before .is-replaced .ensures)
+    (c .condition .ensures)))

@@ -1,0 +1,15 @@
+-- `pre_rules::consequence::rule_29` meets its contract.
+-- Assumes nothing.
+use borrow.Author.Needs.{needs}
+use Rattle.pre_rules.proofs.Goal.{first-known}
+use Rattle.pre_rules.proofs.Consequences.{true-rule}
+use Rattle.pre_rules.proofs.consequence.rule_29.Statement.{statement}
+use Rattle.pre_rules.proofs.consequence.rule_29.Tie as tie
+
+pub rule-29-spec : {M : Type 1} → statement M
+rule-29-spec =
+    tie.close
+    (tie.spec
+    (λ c κs. first-known (c .before .before .pre))
+    (λ c κs. search needs)
+    (λ c. true-rule (c .before .before .before .before .pre) (c .before .is-true .ensures) (c .condition .ensures)))

@@ -1,0 +1,26 @@
+-- `pre_rules::unmodified::rule_27` meets its contract.
+-- Assumes nothing.
+use borrow.Author.Needs.{needs}
+use borrow.Author.Tests.{not-true, not-false}
+use Rattle.pre_rules.proofs.Goal.{first-known, second-known, command-known}
+use Rattle.pre_rules.proofs.Modifies.{differs-fails, kept-rule}
+use Rattle.pre_rules.proofs.unmodified.rule_27.Statement.{statement}
+use Rattle.pre_rules.proofs.unmodified.rule_27.Tie as tie
+
+pub rule-27-spec : {M : Type 1} → statement M
+rule-27-spec =
+    tie.close
+    (tie.spec
+    (λ c κs. record {
+      first = first-known (c .before .before .pre);
+      second = second-known (c .before .before .pre);
+    })
+    (λ c. differs-fails (c .before .before .before .before .pre) (c .before .is-same-assertion .ensures) (not-true _ (c .if1 .taken)))
+    (λ c κs. record {
+      ends-of = c .before .before .before .before .pre .can .ends-of;
+      part = first-known (c .before .before .before .before .pre);
+      command = command-known (c .before .before .before .before .pre);
+    })
+    (λ c κs. search needs)
+    (λ c. kept-rule (c .before .before .before .before .before .before .pre) (c .before .before .before .is-same-assertion .ensures)
+    (not-false _ (c .before .before .if1 .left)) (c .before .is-kept .ensures) (c .condition .ensures)))
