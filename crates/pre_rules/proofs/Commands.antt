@@ -21,7 +21,7 @@ use Rattle.goals.specs.Goals.{CanTry, StepOf}
 use Rattle.goals.specs.declared.Goal.the-variants.{Pre}
 use Rattle.goals.specs.Places.{PartKnown}
 use Rattle.goals.proofs.Places.{written-known}
-use Rattle.rule_laws.specs.Sameness.{SameAt}
+use Rattle.rule_laws.specs.Sameness.{SameAssertionAt}
 use Rattle.rule_laws.proofs.Commands.{is-skip, is-scalar, is-array, is-assert, other-kind, other-than-skip}
 use Rattle.rule_laws.proofs.Commands.{other-than-scalar, other-than-array, other-than-assert}
 use Rattle.rule_laws.proofs.Trying.{tested}
@@ -34,7 +34,7 @@ module _ {file ends : List ℕ} {Γ : Context} {f c g at : ℕ} where
     unfolding preRule
     skip-fails h = leaf-rule can pre22 refl λ φ φ′ e x y z. other-than-skip misfit e _ (other-kind y h)
 
-    pub skip-rule : kindAt file c ≡ 24 → {b : Bool} → SameAt file ends f g b → {r : Condition} → r ≡ conditionOf b →
+    pub skip-rule : kindAt file c ≡ 24 → {b : Bool} → SameAssertionAt file ends f g b → {r : Condition} → r ≡ conditionOf b →
         StepOf file ends Γ (Pre f c g) at r
     unfolding preRule byForm
     skip-rule h same i = leaf-rule can pre22 refl λ φ φ′ e x y z.

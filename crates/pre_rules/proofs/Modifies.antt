@@ -14,12 +14,12 @@ use Rattle.goals.specs.Conditions.{conditionOf}
 use Rattle.goals.specs.Goals.{CanTry, StepOf}
 use Rattle.goals.specs.declared.Goal.the-variants.{Pre}
 use Rattle.goals.proofs.Comes.{then-passes, then-fails}
-use Rattle.rule_laws.specs.Sameness.{SameAt, KeptAt}
+use Rattle.rule_laws.specs.Sameness.{SameAssertionAt, KeptAt}
 use Rattle.rule_laws.proofs.Trying.{tested}
 use Rattle.pre_rules.proofs.Goal.{leaf-rule}
 
 module _ {file ends : List ℕ} {Γ : Context} {f c g at : ℕ} (can : CanTry file ends Γ 27 (Pre f c g) at) {a : Bool}
-    (same : SameAt file ends f g a) where
+    (same : SameAssertionAt file ends f g a) where
   pub differs-fails : a ≡ false → StepOf file ends Γ (Pre f c g) at Fails
   unfolding preRule
   differs-fails h = leaf-rule can pre27 refl λ φ φ′ e x y z. ap leaf (then-fails _ (sym (same .is φ φ′ x z) ∙ h))
