@@ -8,14 +8,14 @@
 use mathlib.Core.Path.{_≡_, refl, sym, ap, subst, _∙_}
 use mathlib.Core.Bool.{Bool, true, false, _||_}
 use mathlib.Core.List.{List, [], _∷_}
-use Prim.Native.Nat.{ℕ, zero, suc, _/_, _<_}
+use Prim.Native.Nat.{ℕ, zero, suc, _/_, _%_, _<_}
 use native.Mathlib.Omega.{arith}
 use lib.Dec.{eqb}
 use Rattle.laws.proofs.Bools.{clash}
 use Rattle.rules.specs.Evidence.{Judgement, flow, implication, precondition, Item, assertionItem}
 use Rattle.rules.specs.Evidence.{commandItem, membersItem, childItem}
 use Rattle.words.specs.Rows.{digit, packed, rowOf}
-use Rattle.words.proofs.RowItems.{digit-first, digit-rest}
+use Rattle.words.proofs.RowItems.{digit-rest}
 use Rattle.goals.specs.declared.Goal.{Goal}
 use Rattle.goals.specs.Children.{judgementOf, carriedOff, pastCarried}
 use Rattle.compare.specs.Places.{endAt}
@@ -32,7 +32,16 @@ pub record Left (ends : List ℕ) (l : List Item) (at rest next : ℕ) : Type 0 
 pub past-start : (ends : List ℕ) (l : List Item) (at row : ℕ) → row ≡ packed l → Left ends l at row at
 past-start ends l at row e = record { items = l; rest-is = e; place = refl; off = refl }
 
--- the first digit tells whether an item is carried
+-- the first digit of a row is that of its first item
+digit-first : (x : Item) (l : List Item) → packed (x ∷ l) % 8 ≡ digit x
+digit-first assertionItem l = omega arith
+digit-first commandItem l = omega arith
+digit-first membersItem l = omega arith
+digit-first (childItem flow) l = omega arith
+digit-first (childItem implication) l = omega arith
+digit-first (childItem precondition) l = omega arith
+
+-- it tells whether an item is carried
 carried-first : (x : Item) (l : List Item) (b : Bool) → isCarried (packed (x ∷ l)) ≡ b →
     (eqb (digit x) 1 || (eqb (digit x) 2 || eqb (digit x) 3)) ≡ b
 carried-first x l b e =

@@ -1,17 +1,22 @@
 -- The children of an evidence word whose conditions pass, judged one after the other.
 -- Assumes nothing.
---     level-due, level-falls           evidence takes a level
+--     can-step-of, step-of, child-is   a rule by the judgement of its goal
+--     flow-child-asked, set-child-asked, pre-child-asked    what the goal of a child asks for, by judgement
+--     level-due                        evidence takes a level
 --     can-step, can-go                 the word: what its conditions ask for; its children, where they pass
 --     judged-failed, judged-large, judged-passed      its verdict by the result of its conditions
 --     Going                            the children from number k on, in the code's loop
 --     going-start, going-step, going-refused, going-end      at the start; past a child; a child refused; past the last
 --     child-asked, child-can           what the goal of a child and judging it ask for
+--     next-fits   a child has a small number
 --     count-fits                       the sum of counts does not overflow
 use mathlib.Core.Path.{_≡_, refl, sym, ap, subst, _∙_}
+use mathlib.Core.Bool.{Bool, true, false, cond}
 use mathlib.Core.List.{List, [], _∷_}
 use Prim.Native.Nat.{ℕ, zero, suc, _+_, _*_, _-_, _/_, _<_, _≤_}
 use native.Mathlib.Omega.{arith}
 use native.Mathlib.Numerals.{add-one}
+use lib.Dec.{eqb}
 use lib.ListN.{length, getD, drop}
 use Rattle.rules.specs.Context.{Context}
 use Rattle.rules.specs.Condition.{passes, fails, tooLarge}
@@ -20,18 +25,20 @@ use Rattle.rules.specs.Judge.{Verdict, accepted, refused, oneMore, _also_, Step
 use Rattle.layout.specs.Bytes.{payloadAt}
 use Rattle.layout.specs.EvidenceWords.{FitsTree, spelledTree}
 use Rattle.words.specs.Rows.{packed, rowOf}
-use Rattle.words.proofs.RowItems.{digit-range, digit-rest}
+use Rattle.words.proofs.RowItems.{no-item, digit-rest}
 use Rattle.implication.specs.Sides.{resultOf}
 use Rattle.implication.specs.declared.Condition.{Condition}
 use Rattle.implication.specs.declared.Condition.the-variants.{Passes, Fails, TooLarge}
 use Rattle.context.specs.declared.Refusal.{Refusal}
 use Rattle.goals.specs.declared.Goal.{Goal}
+use Rattle.goals.specs.declared.Goal.the-variants.{Flow, Set, Pre}
 use Rattle.goals.specs.declared.Judged.{Judged}
 use Rattle.goals.specs.declared.Judged.the-variants.{Accepted, Refused}
-use Rattle.goals.specs.Children.{childrenAt, childAt, judgementOf, carriedOff, pastCarried}
+use Rattle.goals.specs.Children.{ofRule, flowChildren, setChildren, preChildren, childrenAt, childAt, judgementOf, carriedOff, pastCarried}
 use Rattle.goals.specs.Goals.{TreeGoal, verdict, verdicts, treeStep, treeItems, GoalStands, GoalsStand, ChildrenOf}
 use Rattle.goals.specs.Goals.{flow, set, pre, flow-stands, set-stands, pre-stands, CanStep, StepOf, judgedOf, CanJudge, JudgedOf}
 use Rattle.goals.proofs.Children.{row-is}
+use Rattle.flow_rules.specs.Children as flows
 use Rattle.judge.specs.Row.{PastCarried}
 use Rattle.judge.specs.declared.row.First.{First}
 use Rattle.judge.specs.Going.{CanChild, CanGo, Goes}
@@ -50,6 +57,65 @@ word-is {Γ} (pre-stands {k = by r i t} {φ = φ} {φ′ = φ′} {c = c} x y z 
 
 abbrev refusal : ℕ → ℕ → Judged
 refusal n i = Refused (record { number = n; place = i })
+
+-- by the judgement of a goal
+module _ {goal g : Goal} (e : goal ≡ g) where
+  pub can-step-of : {file ends : List ℕ} {Γ : Context} {at : ℕ} → CanStep file ends Γ goal at → CanStep file ends Γ g at
+  can-step-of {file} {ends} {Γ} {at} h = subst (λ x. CanStep file ends Γ x at) e h
+
+  pub step-of : {file ends : List ℕ} {Γ : Context} {at : ℕ} {r : Condition} → StepOf file ends Γ g at r →
+      StepOf file ends Γ goal at r
+  step-of {file} {ends} {Γ} {at} {r} h = subst (λ x. StepOf file ends Γ x at r) (sym e) h
+
+  pub child-is : (ends : List ℕ) (rule at k : ℕ) {r : Goal} → r ≡ childAt ends g rule at k →
+      r ≡ childAt ends goal rule at k
+  child-is ends rule at k {r} h = subst (λ x. r ≡ childAt ends x rule at k) (sym e) h
+
+-- a rule has few children
+FewIn : List (ℕ × List Goal) → Type 0
+FewIn [] = Unit {0}
+FewIn (x ∷ l) = (length (x .1) ≤ 8) × FewIn l
+
+few-of : (n : ℕ) (l : List (ℕ × List Goal)) → FewIn l → length (ofRule n l) ≤ 8
+few-of n [] h = omega arith
+few-of n (x ∷ l) h = go (eqb n (x .0)) (few-of n l (h .1))
+  where
+    go : (b : Bool) → length (ofRule n l) ≤ 8 → length (cond b (x .1) (ofRule n l)) ≤ 8
+    go true i = h .0
+    go false i = i
+
+children-few : (ends : List ℕ) (goal : Goal) (rule at : ℕ) → length (childrenAt ends goal rule at) ≤ 8
+children-few ends (Flow p c q) rule at = few-of rule (flowChildren ends p c q at) (
+  omega arith,
+  (omega arith, (omega arith, (omega arith, (omega arith, (omega arith, (omega arith, (omega arith, (omega arith, tt)))))))),
+)
+children-few ends (Set p q) rule at = few-of rule (setChildren ends p q at) (omega arith, (omega arith, tt))
+children-few ends (Pre f c g) rule at =
+    few-of rule (preChildren ends f c g at) (omega arith, (omega arith, (omega arith, (omega arith, (omega arith, tt)))))
+
+module _ {ends : List ℕ} {goal : Goal} {rule at k : ℕ} where
+  moved : {g : Goal} → goal ≡ g → CanChild ends goal rule at k → CanChild ends g rule at k
+  moved e h = subst (λ x. CanChild ends x rule at k) e h
+
+  pub flow-child-asked : {p c q : ℕ} → goal ≡ Flow p c q → CanChild ends goal rule at k →
+      flows.CanChild ends rule p c q at k
+  flow-child-asked e h =
+      let x = moved e h in
+      record {
+        before = x .low .0;
+        command = x .low .1;
+        after = x .low .2;
+        word = x .place;
+        child = x .some;
+      }
+
+  pub set-child-asked : {p q : ℕ} → goal ≡ Set p q → CanChild ends goal rule at k →
+      (at < 8192) × (k < length (childrenAt ends (Set p q) rule at))
+  set-child-asked e h = let x = moved e h in (x .place, x .some)
+
+  pub pre-child-asked : {f c g : ℕ} → goal ≡ Pre f c g → CanChild ends goal rule at k →
+      (at < 8192) × (c < 8192) × (k < length (childrenAt ends (Pre f c g) rule at))
+  pre-child-asked e h = let x = moved e h in (x .place, x .low .1, x .some)
 
 module _ {file ends : List ℕ} {Γ : Context} {goal : Goal} {at left : ℕ} (p : CanJudge file ends Γ goal at left) where
   pub level-due : 1 ≤ left
@@ -161,11 +227,6 @@ refused-is : (v w : Verdict) (m end last : ℕ) {r : Judged} {x : Refusal} → r
 refused-is (accepted n) w m end last e h = absurd (let u : _≡_ {A = ℕ} 0 1 = cc in omega (arith, u))
 refused-is (refused k i) w m end last e h = h ∙ ap (λ v. judgedOf v last) (sym (also-stop m k i w))
 
--- what is left of a row
-row-end : (items : List Item) → packed items ≡ 0 → items ≡ []
-row-end [] e = refl
-row-end (x ∷ l) e = let h = digit-range x in absurd (omega arith)
-
 -- the first of a row's items, where one is left
 record FirstItem (items : List Item) : Type 0 where
   first : Item
@@ -211,6 +272,9 @@ module _ {file ends : List ℕ} {Γ : Context} {goal : Goal} {at left : ℕ} (p 
           let m = going .many in
           let z = ap length (item .is) in
           omega arith
+
+      pub next-fits : k < 8
+      next-fits = let h = below in let l = children-few ends goal (payloadAt file at) at in omega arith
 
       -- the goals from k on
       split : drop k (goals file ends Γ goal at left)
@@ -317,7 +381,7 @@ module _ {file ends : List ℕ} {Γ : Context} {goal : Goal} {at left : ℕ} (p 
     going-end z = record {
       judged = λ g end s.
           let x = going .goes g end s in
-          let none = row-end (going .items) (sym (going .rest-is) ∙ z) in
+          let none = no-item (going .items) (sym (going .rest-is) ∙ z) in
           let m = going .many in
           let l = ap length none in
           go g end (x .trees) (subst (λ l. GoalsStand Γ file ends l (x .trees) left next end)
