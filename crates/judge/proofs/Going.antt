@@ -72,7 +72,7 @@ module _ {goal g : Goal} (e : goal ≡ g) where
   child-is ends rule at k {r} h = subst (λ x. r ≡ childAt ends x rule at k) (sym e) h
 
 -- a rule has few children
-FewIn : List (ℕ × List Goal) → Type 0
+abbrev FewIn : List (ℕ × List Goal) → Type 0
 FewIn [] = Unit {0}
 FewIn (x ∷ l) = (length (x .1) ≤ 8) × FewIn l
 
