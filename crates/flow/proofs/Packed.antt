@@ -20,7 +20,7 @@ use Rattle.layout.proofs.Stands.{stands-chain}
 use Rattle.layout.proofs.Back.{stands-from}
 use Rattle.layout.proofs.Counted.{count-length, file-counts}
 use Rattle.words.proofs.Loading.{words-length}
-use Rattle.context.specs.Contexts.{refusal}
+use Rattle.context.specs.declared.Refusal.{Refusal}
 use Rattle.flow.specs.Checked.{answerOf, Checked}
 use Rattle.flow.specs.declared.Verdict.{Verdict}
 use Rattle.flow.specs.declared.Verdict.the-variants.{Accepted, Refused}
@@ -72,27 +72,27 @@ accepted-verdict : (v : judge.Verdict) (n : ℕ) → Accepted n ≡ answerOf v �
 accepted-verdict (judge.accepted m) n e = cc
 accepted-verdict (judge.refused k i) n e = absurd (let z : _≡_ {A = ℕ} 0 1 = cc in omega arith)
 
-refused-verdict : (v : judge.Verdict) (k i : ℕ) → Refused (refusal k i) ≡ answerOf v → v ≡ judge.refused k i
-refused-verdict (judge.accepted m) k i e = absurd (let z : _≡_ {A = ℕ} 0 1 = cc in omega arith)
-refused-verdict (judge.refused m j) k i e = cc
+refused-verdict : (v : judge.Verdict) (x : Refusal) → Refused x ≡ answerOf v → v ≡ judge.refused (x .number) (x .place)
+refused-verdict (judge.accepted m) x e = absurd (let z : _≡_ {A = ℕ} 0 1 = cc in omega arith)
+refused-verdict (judge.refused m j) x e = cc
 
 module _ {bytes : List ℕ} {r : Verdict} (h : Checked bytes r) where
   was-accepted : (n : ℕ) → r ≡ Accepted n → verdictOf standard bytes ≡ judge.accepted n
   was-accepted n e = accepted-verdict (verdictOf standard bytes) n (sym e ∙ h .answer)
 
-  was-refused : (k i : ℕ) → r ≡ Refused (refusal k i) → verdictOf standard bytes ≡ judge.refused k i
-  was-refused k i e = refused-verdict (verdictOf standard bytes) k i (sym e ∙ h .answer)
+  was-refused : (x : Refusal) → r ≡ Refused x → verdictOf standard bytes ≡ judge.refused (x .number) (x .place)
+  was-refused x e = refused-verdict (verdictOf standard bytes) x (sym e ∙ h .answer)
 
   pub accepted-small : (n : ℕ) → r ≡ Accepted n → n ≤ 8192
   accepted-small n e =
       subst (λ (v : judge.Verdict). SmallBy 8192 v) (was-accepted n e) (verdict-small standard bytes)
 
-  pub refused-small : (k i : ℕ) → r ≡ Refused (refusal k i) → (k ≤ 9) × (i ≤ 8192)
-  refused-small k i e =
-      subst (λ (v : judge.Verdict). SmallBy 8192 v) (was-refused k i e) (verdict-small standard bytes)
+  pub refused-small : (x : Refusal) → r ≡ Refused x → (x .number ≤ 9) × (x .place ≤ 8192)
+  refused-small x e =
+      subst (λ (v : judge.Verdict). SmallBy 8192 v) (was-refused x e) (verdict-small standard bytes)
 
   pub accepted-packed : (n : ℕ) → r ≡ Accepted n → n ≡ packed (verdictOf standard bytes)
   accepted-packed n e = sym (ap (λ (v : judge.Verdict). packed v) (was-accepted n e))
 
-  pub refused-packed : (k i : ℕ) → r ≡ Refused (refusal k i) → k * 65536 + i ≡ packed (verdictOf standard bytes)
-  refused-packed k i e = sym (ap (λ (v : judge.Verdict). packed v) (was-refused k i e))
+  pub refused-packed : (x : Refusal) → r ≡ Refused x → x .number * 65536 + x .place ≡ packed (verdictOf standard bytes)
+  refused-packed x e = sym (ap (λ (v : judge.Verdict). packed v) (was-refused x e))

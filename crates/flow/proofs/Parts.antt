@@ -26,6 +26,7 @@ use Rattle.layout.specs.Verdict.{packedPlaces, programPlaces, preconditionPlace
 use Rattle.layout.proofs.WholeFile.{FileRead, file-spelled}
 use Rattle.words.proofs.Loading.{words-length}
 use Rattle.reader.specs.File.{places}
+use Rattle.context.specs.declared.Refusal.{Refusal}
 use Rattle.reader.specs.declared.Places.{Places}
 use Rattle.flow.specs.Outcome.{withPlaces, outcomeOf}
 use Rattle.flow.specs.declared.Outcome.{Outcome}
@@ -77,9 +78,10 @@ module _ (Γ : Context) (bytes : List ℕ) where
   accepted-verdict (judge.accepted m) n s t e = (cc, cc)
   accepted-verdict (judge.refused k i) n s t e = absurd (let z : _≡_ {A = ℕ} 0 1 = cc in omega arith)
 
-  refused-verdict : (v : judge.Verdict) (k i : ℕ) (t : Places) → Refused k i ≡ withPlaces v t → v ≡ judge.refused k i
-  refused-verdict (judge.accepted m) k i t e = absurd (let z : _≡_ {A = ℕ} 0 1 = cc in omega arith)
-  refused-verdict (judge.refused m j) k i t e = cc
+  refused-verdict : (v : judge.Verdict) (x : Refusal) (t : Places) → Refused x ≡ withPlaces v t →
+      v ≡ judge.refused (x .number) (x .place)
+  refused-verdict (judge.accepted m) x t e = absurd (let z : _≡_ {A = ℕ} 0 1 = cc in omega arith)
+  refused-verdict (judge.refused m j) x t e = cc
 
   pub accepted-at : (n : ℕ) (s : Places) → Accepted n s ≡ outcomeOf Γ (fileOf Γ bytes) → AcceptedAt n s
   unfolding verdictOf
@@ -98,14 +100,13 @@ module _ (Γ : Context) (bytes : List ℕ) where
           }
       go (fault m p) e h = absurd (let z : _≡_ {A = ℕ} 0 1 = cc in omega arith)
 
-  pub refused-at : (k i : ℕ) → Refused k i ≡ outcomeOf Γ (fileOf Γ bytes) →
-      verdictOf Γ bytes ≡ judge.refused k i
+  pub refused-at : (r : Refusal) → Refused r ≡ outcomeOf Γ (fileOf Γ bytes) →
+      verdictOf Γ bytes ≡ judge.refused (r .number) (r .place)
   unfolding verdictOf
-  refused-at k i = go (fileOf Γ bytes)
+  refused-at r = go (fileOf Γ bytes)
     where
-      go : (x : Reading File) → Refused k i ≡ outcomeOf Γ x →
-          judged Γ x ≡ judge.refused k i
-      go (read f p) h = refused-verdict (judged Γ (read f p)) k i
+      go : (x : Reading File) → Refused r ≡ outcomeOf Γ x → judged Γ x ≡ judge.refused (r .number) (r .place)
+      go (read f p) h = refused-verdict (judged Γ (read f p)) r
           (places (f .preAt) (f .postAt) (f .evidenceAt) p) h
       go (fault m p) h = cc
 
@@ -140,11 +141,11 @@ module _ (Γ : Context) (bytes : List ℕ) where
       k ∙ ap of (x .at) ∙ same (x .file) (x .end)
       ∙ ap₂ (λ v z. partOf none v z part) (sym (x .verdict)) (sym (x .reads))
 
-  pub part-refused : {A : Type 0} (none : A) (part : File → A) (r : Outcome) (k i : ℕ) →
-      r ≡ outcomeOf Γ (fileOf Γ bytes) → r ≡ Refused k i →
+  pub part-refused : {A : Type 0} (none : A) (part : File → A) (r : Outcome) (x : Refusal) →
+      r ≡ outcomeOf Γ (fileOf Γ bytes) → r ≡ Refused x →
       none ≡ partOf none (verdictOf Γ bytes) (fileOf Γ bytes) part
-  part-refused none part r k i e h =
-      ap (λ v. partOf none v (fileOf Γ bytes) part) (sym (refused-at k i (sym h ∙ e)))
+  part-refused none part r x e h =
+      ap (λ v. partOf none v (fileOf Γ bytes) part) (sym (refused-at x (sym h ∙ e)))
 
   -- each part: its bytes, or its places as one number
   abbrev IsPart : {A : Type 0} → (Places → A) → A → Type 0

@@ -28,6 +28,7 @@ refused-inside k i h l = record {
 }
 
 inside : (n : ℕ) → Holding (λ i. i < n) (λ v m. Inside n v)
+unfolding _also_ oneMore
 inside n = record {
   nothing = accepted-inside n 0;
   both = λ v w _ _ g h. both v w g h;
@@ -37,13 +38,11 @@ inside n = record {
 }
   where
     both : (v w : Verdict) → Inside n v → Inside n w → Inside n (v also w)
-    unfolding _also_
     both (accepted a) (accepted b) g h = accepted-inside n (a + b)
     both (accepted a) (refused k i) g h = h
     both (refused k i) w g h = g
 
     passed : (v : Verdict) → Inside n v → Inside n (oneMore v)
-    unfolding oneMore
     passed (accepted a) h = accepted-inside n (suc a)
     passed (refused k i) h = h
 

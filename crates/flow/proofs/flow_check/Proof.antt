@@ -15,13 +15,18 @@ flow-check-spec =
     (λ c. omega (arith, accepted-small (c .before .before .before .check .ensures) _ (c .before .answer .given .1)))
     (λ c. search needs)
     (λ c.
-    let h = refused-small (c .before .before .before .check .ensures) _ _ (c .before .answer2 .given .1) in
+    let answer = c .before .before in
+    let h = refused-small (answer .before .before .check .ensures) _ (answer .answer2 .given .1) in
     omega (arith, h .0))
     (λ c.
-    let h = refused-small (c .before .before .before .check .ensures) _ _ (c .before .answer2 .given .1) in
+    let answer = c .before .before .before in
+    let h = refused-small (answer .before .before .check .ensures) _ (answer .answer2 .given .1) in
     omega (arith, h .1))
     (λ c.
-    let h = refused-small (c .before .before .before .check .ensures) _ _ (c .before .answer2 .given .1) in
+    let answer = c .before .before .before in
+    let h = refused-small (answer .before .before .check .ensures) _ (answer .answer2 .given .1) in
     omega (arith, h .0, h .1))
     (λ c. accepted-packed (c .before .before .before .check .ensures) _ (c .before .answer .given .1))
-    (λ c. refused-packed (c .before .before .before .check .ensures) _ _ (c .before .answer2 .given .1)))
+    (λ c.
+    let answer = c .before .before .before in
+    refused-packed (answer .before .before .check .ensures) _ (answer .answer2 .given .1)))

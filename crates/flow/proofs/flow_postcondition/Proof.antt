@@ -25,4 +25,4 @@ flow-postcondition-spec =
     postcondition-places standard _ _ _ _ _ (outcome .standard-outcome .ensures) (c .before .before .done .given .1)
     (c .packed-places .ensures))
     (λ c.
-    part-refused standard _ _ _ _ _ _ (c .before .before .standard-outcome .ensures) (c .enum-told .given .1)))
+    part-refused standard _ _ _ _ _ (c .before .before .standard-outcome .ensures) (c .enum-told .given .1)))

@@ -27,4 +27,4 @@ precondition-spec =
     (c .between .ensures))
     (λ c.
     let outcome = c .before .before .before in
-    part-refused standard _ _ _ _ _ _ (outcome .standard-outcome .ensures) (c .before .enum-told .given .1)))
+    part-refused standard _ _ _ _ _ (outcome .standard-outcome .ensures) (c .before .enum-told .given .1)))

@@ -1,4 +1,4 @@
--- `flow::standard_outcome` meets its contract: the limits are those of document 01.
+-- `flow::standard_outcome` meets its contract: the context is that of document 01.
 -- Assumes nothing.
 use borrow.Author.Needs.{needs}
 use mathlib.Core.Path.{_∙_, ap}
@@ -14,8 +14,8 @@ standard-outcome-spec =
     tie.close
     (tie.spec
     (λ c κs. search needs)
-    (λ c κs. standard-within _ (c .standard-limits .ensures))
+    (λ c κs. standard-within _ (c .standard-context .ensures))
     (λ c.
     let bytes = c .before .before .before .args .file .now in
     c .outcome .ensures
-    ∙ ap (λ (l : Context). outcomeOf l (fileOf l bytes)) (c .before .standard-limits .ensures)))
+    ∙ ap (λ (l : Context). outcomeOf l (fileOf l bytes)) (c .before .standard-context .ensures)))

@@ -32,4 +32,4 @@ check-in-spec =
     (λ c. search needs)
     (λ c.
     let file = c .before .before .before .before .before .before .before in
-    refused-outcome (file .read-file .ensures) _ _ (c .before .layout2 .given .1)))
+    refused-outcome (file .read-file .ensures) _ (c .before .layout2 .given .1)))
