@@ -1,6 +1,6 @@
-// The rules of necessary preconditions (document 01, rules 20 to 30), tried at an evidence word of kind 35. All take the
-// same, also what a rule does not ask for: the file, its ends, the context, the place of the evidence word, and the places
-// f, c and g of the assertion, the command and the other assertion.
+// The rules of necessary preconditions (document 01, rules 20 to 30), tried at an evidence word of kind 35. All take
+// the same, also what a rule does not ask for: the file, its ends, the context, the place of the evidence word, and the
+// places f, c and g of the assertion, the command and the other assertion.
 pub mod condition; // the rules' tests of assertions by words
 pub mod command; // rules 22, 24, 25 and 26: commands of one step
 pub mod sequence; // rule 23

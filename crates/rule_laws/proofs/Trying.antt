@@ -6,8 +6,7 @@
 --     PartsAt, parts-at    the parts after an evidence word of a rule, at their places
 --     tested               the code's test is the rule's
 --     is-first, is-second  the only child, and the second of two
---     only-rule, count-to, child-to
---                          the last rule that has children; the children of a rule by its number
+--     only-rule            the last rule that has children
 use mathlib.Core.Path.{_≡_, refl, ap, _∙_}
 use mathlib.Core.Bool.{Bool, true, false, cond}
 use mathlib.Core.List.{List, []}
@@ -27,7 +26,6 @@ use Rattle.layout.proofs.BackEvidence.{rule-row}
 use Rattle.ends.specs.Ends.{EndsOf}
 use Rattle.implication.specs.Sides.{resultOf}
 use Rattle.implication.specs.declared.Condition.{Condition}
-use Rattle.goals.specs.Children.{childrenAt, childAt}
 use Rattle.goals.specs.Conditions.{conditionOf}
 use Rattle.goals.specs.Goals.{TreeGoal, GoalStands, flow-stands, set-stands, pre-stands, CanStep, CanTry}
 use Rattle.goals.specs.declared.Goal.{Goal}
@@ -97,10 +95,3 @@ in-first false l k h = absurd (omega arith)
 -- a rule that has children, and is none of those before the last
 pub only-rule : (rule n : ℕ) (l : List Goal) (k : ℕ) → k < length (cond (eqb rule n) l []) → rule ≡ n
 only-rule rule n l k h = eqb-true rule n (in-first (eqb rule n) l k h)
-
-module _ (ends : List ℕ) (goal : Goal) (at k rule : ℕ) {n : ℕ} (e : rule ≡ n) where
-  pub count-to : k < length (childrenAt ends goal rule at) → k < length (childrenAt ends goal n at)
-  count-to h = rw (← e) h
-
-  pub child-to : {r : Goal} → r ≡ childAt ends goal n at k → r ≡ childAt ends goal rule at k
-  child-to h = rw e h

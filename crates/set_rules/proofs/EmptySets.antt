@@ -179,8 +179,8 @@ module _ {file ends : List ℕ} {Γ : Context} {p q at : ℕ} where
       unfolding setRule
       full-fails h = leaf-rule can set14 refl λ x y a b. not-empty a misfit _ (λ e. h (m ∙ e))
 
-      pub each-rule : j ≡ 0 → {k : ℕ} → k ≡ countAt file q → {c : Condition} → EachAt file ends (Γ .limits .comparisons) k (q + 1) c →
-          StepOf file ends Γ (Set p q) at c
+      pub each-rule : j ≡ 0 → {k : ℕ} → k ≡ countAt file q → {c : Condition} →
+          EachAt file ends (Γ .limits .comparisons) k (q + 1) c → StepOf file ends Γ (Set p q) at c
       unfolding setRule onEmpty
       each-rule h n each = leaf-rule can set14 refl λ x y a b.
           ap (λ z. setRule Γ set14 z y) (is-empty a (sym m ∙ h))

@@ -51,7 +51,8 @@ pub fn child_16(ends: &[u32], at: usize, p: usize, q: usize, k: usize) -> Goal
     Goal::Set(t, t2)
 }
 
-// Whether the written set at p is the same as that at t without the members of that at `leave`, and that at s, together.
+// Whether the written set at p is the same as that at t without the members of that at `leave`, and that at s,
+// together.
 fn is_rest_union(w: &[u32], ends: &[u32], p: usize, t: usize, leave: usize, s: usize) -> bool
     requires { ⌜ CanRest (now w) (now ends) p t leave s ⌝ }
     ensures { λ r. ⌜ RestAt (now (w .entry)) p t leave s r ⌝ }

@@ -22,9 +22,10 @@ pre-condition-spec =
     (λ c κs. can-try (c .before .before .before .before .pre) (c .match .keys8))
     (λ c κs. can-try (c .before .before .before .before .pre) (c .match .keys9))
     (λ c κs. can-try (c .before .before .before .before .pre) (c .match .keys10))
-    (λ c κs. let r = c .match .rest in last-rule (c .before .before .before .before .pre) (r .0 .0 .0 .0 .0 .0 .0 .0 .0 .1)
-    (r .0 .0 .0 .0 .0 .0 .0 .0 .1) (r .0 .0 .0 .0 .0 .0 .0 .1) (r .0 .0 .0 .0 .0 .0 .1) (r .0 .0 .0 .0 .0 .1) (r .0 .0 .0 .0 .1)
-    (r .0 .0 .0 .1) (r .0 .0 .1) (r .0 .1) (r .1))
+    (λ c κs. let r = c .match .rest in
+    last-rule (c .before .before .before .before .pre) (r .0 .0 .0 .0 .0 .0 .0 .0 .0 .1)
+    (r .0 .0 .0 .0 .0 .0 .0 .0 .1) (r .0 .0 .0 .0 .0 .0 .0 .1) (r .0 .0 .0 .0 .0 .0 .1) (r .0 .0 .0 .0 .0 .1)
+    (r .0 .0 .0 .0 .1) (r .0 .0 .0 .1) (r .0 .0 .1) (r .0 .1) (r .1))
     (λ c. c .rule-20 .ensures)
     (λ c. c .rule-21 .ensures)
     (λ c. c .rule-22 .ensures)

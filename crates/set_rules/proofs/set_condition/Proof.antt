@@ -18,8 +18,9 @@ set-condition-spec =
     (λ c κs. can-try (c .before .before .before .before .pre) (c .match .keys4))
     (λ c κs. can-try (c .before .before .before .before .pre) (c .match .keys5))
     (λ c κs. can-try (c .before .before .before .before .pre) (c .match .keys6))
-    (λ c κs. let r = c .match .rest in last-rule (c .before .before .before .before .pre) (r .0 .0 .0 .0 .0 .1)
-    (r .0 .0 .0 .0 .1) (r .0 .0 .0 .1) (r .0 .0 .1) (r .0 .1) (r .1))
+    (λ c κs. let r = c .match .rest in
+    last-rule (c .before .before .before .before .pre) (r .0 .0 .0 .0 .0 .1) (r .0 .0 .0 .0 .1) (r .0 .0 .0 .1)
+    (r .0 .0 .1) (r .0 .1) (r .1))
     (λ c. c .rule-13 .ensures)
     (λ c. c .rule-14 .ensures)
     (λ c. c .rule-15 .ensures)

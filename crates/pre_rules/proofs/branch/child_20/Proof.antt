@@ -16,5 +16,10 @@ child-20-spec =
     (λ c. search needs)
     (λ c κs. search needs)
     (λ c κs. search needs)
-    (λ c. rw (is-second (c .before .before .before .before .before .pre .2) (c .before .before .if1 .left)) (cc
-    (c .before .before .before .end-or-zero .ensures, c .before .end-or-zero2 .ensures, c .end-or-zero3 .ensures))))
+    (λ c. let c₁ = c .before in let c₂ = c₁ .before in let c₃ = c₂ .before in let c₅ = c₃ .before .before in
+    rw (is-second (c₅ .pre .2) (c₂ .if1 .left)) (cc (
+      c₃ .end-or-zero .ensures,
+      c₁ .end-or-zero2 .ensures,
+      c
+          .end-or-zero3 .ensures,
+    ))))

@@ -12,14 +12,16 @@ pub rule-20-spec : {M : Type 1} → statement M
 rule-20-spec =
     tie.close
     (tie.spec
-    (λ c. omega (arith, command-head (c .before .before .pre)))
+    (λ c. let i = command-head (c .before .before .pre) in omega arith)
     (λ c. command-head (c .before .before .before .pre))
     (λ c. if-fails (c .before .before .before .before .pre) (c .if1 .taken))
-    (λ c. omega (arith, low-head (c .before .before .before .before .pre)))
+    (λ c. let i = low-head (c .before .before .before .before .pre) in omega arith)
     (λ c κs. search needs)
-    (λ c. omega (arith, low-command (c .before .before .before .before .before .pre)))
-    (λ c. omega (arith, low-head (c .before .before .before .before .before .pre)))
-    (λ c κs. can-split (c .before .before .before .before .before .pre) (c .before .if1 .left) (c .end-or-zero .ensures))
+    (λ c. let i = low-command (c .before .before .before .before .before .pre) in omega arith)
+    (λ c. let i = low-head (c .before .before .before .before .before .pre) in omega arith)
+    (λ c κs. can-split (c .before .before .before .before .before .pre) (c .before .if1 .left)
+    (c .end-or-zero .ensures))
     (λ c κs. search needs)
-    (λ c. if-rule (c .before .before .before .before .before .before .before .pre) (c .before .before .before .if1 .left)
-    (c .before .before .end-or-zero .ensures) (c .before .is-split .ensures) (c .condition .ensures)))
+    (λ c. let c₁ = c .before in let c₂ = c₁ .before in let c₃ = c₂ .before in
+    let c₇ = c₃ .before .before .before .before in
+    if-rule (c₇ .pre) (c₃ .if1 .left) (c₂ .end-or-zero .ensures) (c₁ .is-split .ensures) (c .condition .ensures)))

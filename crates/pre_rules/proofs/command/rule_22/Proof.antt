@@ -11,13 +11,14 @@ pub rule-22-spec : {M : Type 1} → statement M
 rule-22-spec =
     tie.close
     (tie.spec
-    (λ c. omega (arith, command-head (c .before .before .pre)))
+    (λ c. let i = command-head (c .before .before .pre) in omega arith)
     (λ c. command-head (c .before .before .before .pre))
     (λ c. skip-fails (c .before .before .before .before .pre) (c .if1 .taken))
     (λ c κs. record {
       first = first-known (c .before .before .before .before .pre);
-      second = second-known (c .before .before .before .before .pre);
+      second = second-known
+          (c .before .before .before .before .pre);
     })
     (λ c κs. search needs)
-    (λ c. skip-rule (c .before .before .before .before .before .before .pre) (c .before .before .if1 .left) (c .before .is-same-assertion .ensures)
-    (c .condition .ensures)))
+    (λ c. let c₁ = c .before in let c₂ = c₁ .before in let c₆ = c₂ .before .before .before .before in
+    skip-rule (c₆ .pre) (c₂ .if1 .left) (c₁ .is-same-assertion .ensures) (c .condition .ensures)))

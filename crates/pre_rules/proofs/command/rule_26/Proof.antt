@@ -11,11 +11,11 @@ pub rule-26-spec : {M : Type 1} → statement M
 rule-26-spec =
     tie.close
     (tie.spec
-    (λ c. omega (arith, command-head (c .before .before .pre)))
+    (λ c. let i = command-head (c .before .before .pre) in omega arith)
     (λ c. command-head (c .before .before .before .pre))
     (λ c. assert-fails (c .before .before .before .before .pre) (c .if1 .taken))
-    (λ c. omega (arith, low-command (c .before .before .before .before .pre)))
+    (λ c. let i = low-command (c .before .before .before .before .pre) in omega arith)
     (λ c κs. can-join (c .before .before .before .before .pre) (c .if1 .left))
     (λ c κs. search needs)
-    (λ c. assert-rule (c .before .before .before .before .before .before .pre) (c .before .before .if1 .left) (c .before .is-join .ensures)
-    (c .condition .ensures)))
+    (λ c. let c₁ = c .before in let c₂ = c₁ .before in let c₆ = c₂ .before .before .before .before in
+    assert-rule (c₆ .pre) (c₂ .if1 .left) (c₁ .is-join .ensures) (c .condition .ensures)))

@@ -10,6 +10,6 @@ pub rule-28-spec : {M : Type 1} → statement M
 rule-28-spec =
     tie.close
     (tie.spec
-    (λ c. omega (arith, low-head (c .before .before .pre)))
+    (λ c. let i = low-head (c .before .before .pre) in omega arith)
     (λ c κs. can-imply (c .before .before .pre))
     (λ c. stronger-rule (c .before .before .before .pre) (c .implies-at .ensures)))

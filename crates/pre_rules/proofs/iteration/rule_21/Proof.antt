@@ -11,10 +11,10 @@ pub rule-21-spec : {M : Type 1} → statement M
 rule-21-spec =
     tie.close
     (tie.spec
-    (λ c. omega (arith, command-head (c .before .before .pre)))
+    (λ c. let i = command-head (c .before .before .pre) in omega arith)
     (λ c. command-head (c .before .before .before .pre))
     (λ c. while-fails (c .before .before .before .before .pre) (c .if1 .taken))
-    (λ c. omega (arith, low-head (c .before .before .before .before .pre)))
-    (λ c. omega (arith, low-command (c .before .before .before .before .pre)))
+    (λ c. let i = low-head (c .before .before .before .before .pre) in omega arith)
+    (λ c. let i = low-command (c .before .before .before .before .pre) in omega arith)
     (λ c κs. can-repeat (c .before .before .before .before .pre) (c .if1 .left))
     (λ c. while-rule (c .before .before .before .before .before .pre) (c .before .if1 .left) (c .repeats .ensures)))

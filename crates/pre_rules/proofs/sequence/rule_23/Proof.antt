@@ -10,7 +10,7 @@ pub rule-23-spec : {M : Type 1} → statement M
 rule-23-spec =
     tie.close
     (tie.spec
-    (λ c. omega (arith, command-head (c .pre)))
+    (λ c. let i = command-head (c .pre) in omega arith)
     (λ c. command-head (c .before .pre))
     (λ c. sequence-fails (c .before .before .pre) (c .if1 .taken))
     (λ c. sequence-rule (c .before .before .pre) (c .if1 .left)))

@@ -15,12 +15,11 @@ rule-27-spec =
       first = first-known (c .before .before .pre);
       second = second-known (c .before .before .pre);
     })
-    (λ c. differs-fails (c .before .before .before .before .pre) (c .before .is-same-assertion .ensures) (not-true _ (c .if1 .taken)))
-    (λ c κs. record {
-      ends-of = c .before .before .before .before .pre .can .ends-of;
-      part = first-known (c .before .before .before .before .pre);
-      command = command-known (c .before .before .before .before .pre);
-    })
+    (λ c. differs-fails (c .before .before .before .before .pre) (c .before .is-same-assertion .ensures) (not-true _
+    (c .if1 .taken)))
+    (λ c κs. let c₄ = c .before .before .before .before in
+    record { ends-of = c₄ .pre .can .ends-of; part = first-known (c₄ .pre); command = command-known (c₄ .pre) })
     (λ c κs. search needs)
-    (λ c. kept-rule (c .before .before .before .before .before .before .pre) (c .before .before .before .is-same-assertion .ensures)
-    (not-false _ (c .before .before .if1 .left)) (c .before .is-kept .ensures) (c .condition .ensures)))
+    (λ c. let c₁ = c .before in let c₂ = c₁ .before in let c₃ = c₂ .before in let c₆ = c₃ .before .before .before in
+    kept-rule (c₆ .pre) (c₃ .is-same-assertion .ensures) (not-false _ (c₂ .if1 .left)) (c₁ .is-kept .ensures)
+    (c .condition .ensures)))

@@ -13,7 +13,7 @@ rule-14-spec =
     (λ c κs. left-in (c .before .before .pre))
     (λ c. full-fails (c .before .before .before .before .pre) (c .before .count .ensures) (c .if1 .taken))
     (λ c κs. right-in (c .before .before .before .before .pre))
-    (λ c. omega (arith, low-right (c .before .before .before .before .before .pre)))
+    (λ c. let i = low-right (c .before .before .before .before .before .pre) in omega arith)
     (λ c κs. can-try-each (c .before .before .before .before .before .pre) (c .count2 .ensures))
-    (λ c. each-rule (c .before .before .before .before .before .before .pre) (c .before .before .before .count .ensures)
-    (c .before .before .if1 .left) (c .before .count2 .ensures) (c .each-implies-false .ensures)))
+    (λ c. let c₁ = c .before in let c₂ = c₁ .before in let c₃ = c₂ .before in let c₆ = c₃ .before .before .before in
+    each-rule (c₆ .pre) (c₃ .count .ensures) (c₂ .if1 .left) (c₁ .count2 .ensures) (c .each-implies-false .ensures)))

@@ -14,14 +14,16 @@ rule-15-spec =
     (λ c κs. left-in (c .before .before .pre))
     (λ c. some-fails (c .before .before .before .before .pre) (c .before .count .ensures) (c .if1 .taken))
     (λ c κs. right-in (c .before .before .before .before .pre))
-    (λ c. many-fails (c .before .before .before .before .before .before .pre) (c .before .before .before .count .ensures)
-    (c .before .before .if1 .left) (c .before .count2 .ensures) (c .if2 .taken))
-    (λ c. omega (arith, low-right (c .before .before .before .before .before .before .pre)))
+    (λ c. let c₁ = c .before in let c₂ = c₁ .before in let c₃ = c₂ .before in let c₆ = c₃ .before .before .before in
+    many-fails (c₆ .pre) (c₃ .count .ensures) (c₂ .if1 .left) (c₁ .count2 .ensures) (c .if2 .taken))
+    (λ c. let i = low-right (c .before .before .before .before .before .before .pre) in omega arith)
     (λ c κs. search needs)
-    (λ c κs. one-starts (c .before .before .before .before .before .before .before .pre) (c .before .before .before .before .count .ensures)
-    (c .before .before .before .if1 .left) (c .before .before .count2 .ensures) (c .before .if2 .left) (c .end-or-zero .ensures))
+    (λ c κs. let c₁ = c .before in let c₂ = c₁ .before in let c₃ = c₂ .before in let c₄ = c₃ .before in
+    let c₇ = c₄ .before .before .before in
+    one-starts (c₇ .pre) (c₄ .count .ensures) (c₃ .if1 .left) (c₂ .count2 .ensures) (c₁ .if2 .left)
+    (c .end-or-zero .ensures))
     (λ c κs. search needs)
-    (λ c. closed-rule (c .before .before .before .before .before .before .before .before .before .pre) (c .before .before .before .before .before .before .count .ensures)
-    (c .before .before .before .before .before .if1 .left) (c .before .before .before .before .count2 .ensures)
-    (c .before .before .before .if2 .left) (c .before .before .end-or-zero .ensures) (c .before .closed-at .ensures)
-    (c .condition .ensures)))
+    (λ c. let c₁ = c .before in let c₂ = c₁ .before in let c₃ = c₂ .before in let c₄ = c₃ .before in
+    let c₅ = c₄ .before in let c₆ = c₅ .before in let c₉ = c₆ .before .before .before in
+    closed-rule (c₉ .pre) (c₆ .count .ensures) (c₅ .if1 .left) (c₄ .count2 .ensures) (c₃ .if2 .left)
+    (c₂ .end-or-zero .ensures) (c₁ .closed-at .ensures) (c .condition .ensures)))

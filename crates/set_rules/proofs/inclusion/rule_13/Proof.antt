@@ -11,4 +11,5 @@ rule-13-spec =
     (tie.spec
     (λ c κs. can-include (c .before .before .pre))
     (λ c κs. search needs)
-    (λ c. within-rule (c .before .before .before .before .pre) (c .before .is-within .ensures) (c .condition .ensures)))
+    (λ c. within-rule (c .before .before .before .before .pre) (c .before .is-within .ensures)
+    (c .condition .ensures)))

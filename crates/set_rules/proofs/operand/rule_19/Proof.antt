@@ -13,12 +13,13 @@ rule-19-spec =
     (tie.spec
     (λ c κs. right-in (c .before .before .pre))
     (λ c. apart-fails (c .before .before .before .before .pre) (c .before .count .ensures) (c .if1 .taken))
-    (λ c. omega (arith, low-right (c .before .before .before .before .pre)))
+    (λ c. let i = low-right (c .before .before .before .before .pre) in omega arith)
     (λ c κs. search needs)
-    (λ c. omega (arith, low-right (c .before .before .before .before .before .pre)))
-    (λ c κs. can-split (c .before .before .before .before .before .pre) (c .before .before .count .ensures) (c .before .if1 .left)
-    (c .end-or-zero .ensures))
+    (λ c. let i = low-right (c .before .before .before .before .before .pre) in omega arith)
+    (λ c κs. let c₁ = c .before in let c₂ = c₁ .before in let c₅ = c₂ .before .before .before in
+    can-split (c₅ .pre) (c₂ .count .ensures) (c₁ .if1 .left) (c .end-or-zero .ensures))
     (λ c κs. search needs)
-    (λ c. split-rule (c .before .before .before .before .before .before .before .pre) (c .before .before .before .before .count .ensures)
-    (c .before .before .before .if1 .left) (c .before .before .end-or-zero .ensures) (c .before .is-split .ensures)
+    (λ c. let c₁ = c .before in let c₂ = c₁ .before in let c₃ = c₂ .before in let c₄ = c₃ .before in
+    let c₇ = c₄ .before .before .before in
+    split-rule (c₇ .pre) (c₄ .count .ensures) (c₃ .if1 .left) (c₂ .end-or-zero .ensures) (c₁ .is-split .ensures)
     (c .condition .ensures)))

@@ -12,20 +12,22 @@ pub rule-16-spec : {M : Type 1} → statement M
 rule-16-spec =
     tie.close
     (tie.spec
-    (λ c. omega (arith, low-head (c .before .before .pre)))
+    (λ c. let i = low-head (c .before .before .pre) in omega arith)
     (λ c κs. search needs)
     (λ c κs. search needs)
     (λ c κs. search needs)
-    (λ c. omega (arith, low-head (c .before .before .before .before .before .pre)))
-    (λ c κs. can-first (c .before .before .before .before .before .pre) (c .before .before .end-or-zero .ensures)
-    (c .before .end-or-zero2 .ensures) (c .end-or-zero3 .ensures))
-    (λ c. first-fails (c .before .before .before .before .before .before .before .pre) (c .before .before .before .before .end-or-zero .ensures)
-    (c .before .before .before .end-or-zero2 .ensures) (c .before .before .end-or-zero3 .ensures) (c .before .same-union .ensures)
-    (not-true _ (c .if1 .taken)))
-    (λ c κs. can-second (c .before .before .before .before .before .before .before .pre) (c .before .before .before .before .end-or-zero .ensures)
-    (c .before .before .before .end-or-zero2 .ensures) (c .before .before .end-or-zero3 .ensures))
+    (λ c. let i = low-head (c .before .before .before .before .before .pre) in omega arith)
+    (λ c κs. let c₁ = c .before in let c₂ = c₁ .before in let c₅ = c₂ .before .before .before in
+    can-first (c₅ .pre) (c₂ .end-or-zero .ensures) (c₁ .end-or-zero2 .ensures) (c .end-or-zero3 .ensures))
+    (λ c. let c₁ = c .before in let c₂ = c₁ .before in let c₃ = c₂ .before in let c₄ = c₃ .before in
+    let c₇ = c₄ .before .before .before in
+    first-fails (c₇ .pre) (c₄ .end-or-zero .ensures) (c₃ .end-or-zero2 .ensures) (c₂ .end-or-zero3 .ensures)
+    (c₁ .same-union .ensures) (not-true _ (c .if1 .taken)))
+    (λ c κs. let c₂ = c .before .before in let c₃ = c₂ .before in let c₄ = c₃ .before in
+    let c₇ = c₄ .before .before .before in
+    can-second (c₇ .pre) (c₄ .end-or-zero .ensures) (c₃ .end-or-zero2 .ensures) (c₂ .end-or-zero3 .ensures))
     (λ c κs. search needs)
-    (λ c. union-rule (c .before .before .before .before .before .before .before .before .before .pre) (c .before .before .before .before .before .before .end-or-zero .ensures)
-    (c .before .before .before .before .before .end-or-zero2 .ensures) (c .before .before .before .before .end-or-zero3 .ensures)
-    (c .before .before .before .same-union .ensures) (not-false _ (c .before .before .if1 .left)) (c .before .same-union2 .ensures)
-    (c .condition .ensures)))
+    (λ c. let c₁ = c .before in let c₂ = c₁ .before in let c₃ = c₂ .before in let c₄ = c₃ .before in
+    let c₅ = c₄ .before in let c₆ = c₅ .before in let c₉ = c₆ .before .before .before in
+    union-rule (c₉ .pre) (c₆ .end-or-zero .ensures) (c₅ .end-or-zero2 .ensures) (c₄ .end-or-zero3 .ensures)
+    (c₃ .same-union .ensures) (not-false _ (c₂ .if1 .left)) (c₁ .same-union2 .ensures) (c .condition .ensures)))

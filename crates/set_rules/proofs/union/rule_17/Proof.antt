@@ -11,11 +11,13 @@ pub rule-17-spec : {M : Type 1} → statement M
 rule-17-spec =
     tie.close
     (tie.spec
-    (λ c. omega (arith, low-head (c .before .before .pre)))
+    (λ c. let i = low-head (c .before .before .pre) in omega arith)
     (λ c κs. search needs)
     (λ c κs. search needs)
-    (λ c. omega (arith, low-head (c .before .before .before .before .pre)))
-    (λ c κs. can-rest (c .before .before .before .before .pre) (c .before .end-or-zero .ensures) (c .end-or-zero2 .ensures))
+    (λ c. let i = low-head (c .before .before .before .before .pre) in omega arith)
+    (λ c κs. can-rest (c .before .before .before .before .pre) (c .before .end-or-zero .ensures)
+    (c .end-or-zero2 .ensures))
     (λ c κs. search needs)
-    (λ c. rest-rule (c .before .before .before .before .before .before .pre) (c .before .before .before .end-or-zero .ensures)
-    (c .before .before .end-or-zero2 .ensures) (c .before .is-rest-union .ensures) (c .condition .ensures)))
+    (λ c. let c₁ = c .before in let c₂ = c₁ .before in let c₃ = c₂ .before in let c₆ = c₃ .before .before .before in
+    rest-rule (c₆ .pre) (c₃ .end-or-zero .ensures) (c₂ .end-or-zero2 .ensures) (c₁ .is-rest-union .ensures)
+    (c .condition .ensures)))
