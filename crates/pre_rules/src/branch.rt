@@ -29,8 +29,9 @@ pub fn rule_20(
     if w[c] / KIND != IF {
         return Condition::Fails;
     }
-    let right = end_or_zero(ends, at + 1);
-    condition(is_split(w, ends, f, c + 1, at + 1, right))
+    let left = at + 1;
+    let right = end_or_zero(ends, left);
+    condition(is_split(w, ends, f, c + 1, left, right))
 }
 
 // Its children: (φ1, C1, φ'), (φ2, C2, φ').

@@ -26,10 +26,12 @@ pub fn rule_18(
     if count(w, q) != 1 {
         return Condition::Fails;
     }
-    let e = end_or_zero(ends, p + 1);
-    let f = end_or_zero(ends, q + 1);
+    let a = p + 1;
+    let e = end_or_zero(ends, a);
+    let b = q + 1;
+    let f = end_or_zero(ends, b);
     if !is_same_consequent(w, ends, e, f) {
         return Condition::Fails;
     }
-    implies_at(w, ends, context, q + 1, p + 1)
+    implies_at(w, ends, context, b, a)
 }

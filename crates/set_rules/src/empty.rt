@@ -71,6 +71,7 @@ pub fn rule_15(
     if count(w, q) != 1 {
         return Condition::Fails;
     }
-    let e = end_or_zero(ends, q + 1);
+    let f = q + 1;
+    let e = end_or_zero(ends, f);
     condition(closed_at(w, ends, e))
 }

@@ -75,6 +75,7 @@ pub fn rule_19(
     if count(w, q) != 1 {
         return Condition::Fails;
     }
-    let e = end_or_zero(ends, q + 1);
-    condition(is_split(w, ends, p, q + 1, e))
+    let f = q + 1;
+    let e = end_or_zero(ends, f);
+    condition(is_split(w, ends, p, f, e))
 }

@@ -28,10 +28,11 @@ pub fn rule_16(
     requires { ⌜ CanTry (now w) (now ends) (contextOf context) 16 (Set p q) «at» ⌝ }
     ensures { λ r. ⌜ StepOf (now (w .entry)) (now (ends .entry)) (contextOf context) (Set p q) «at» r ⌝ }
 {
-    let s2 = end_or_zero(ends, at + 1);
+    let s = at + 1;
+    let s2 = end_or_zero(ends, s);
     let t = end_or_zero(ends, s2);
     let t2 = end_or_zero(ends, t);
-    if !same_union(w, ends, p, at + 1, t) {
+    if !same_union(w, ends, p, s, t) {
         return Condition::Fails;
     }
     condition(same_union(w, ends, q, s2, t2))
@@ -42,9 +43,10 @@ pub fn child_16(ends: &[u32], at: usize, p: usize, q: usize, k: usize) -> Goal
     requires { ⌜ («at» < 8192) × (k < 2) ⌝ }
     ensures { λ r. ⌜ r ≡ childAt (now (ends .entry)) (Set p q) 16 «at» k ⌝ }
 {
-    let s2 = end_or_zero(ends, at + 1);
+    let s = at + 1;
+    let s2 = end_or_zero(ends, s);
     if k == 0 {
-        return Goal::Set(at + 1, s2);
+        return Goal::Set(s, s2);
     }
     let t = end_or_zero(ends, s2);
     let t2 = end_or_zero(ends, t);
@@ -77,9 +79,10 @@ pub fn rule_17(
     requires { ⌜ CanTry (now w) (now ends) (contextOf context) 17 (Set p q) «at» ⌝ }
     ensures { λ r. ⌜ StepOf (now (w .entry)) (now (ends .entry)) (contextOf context) (Set p q) «at» r ⌝ }
 {
-    let s2 = end_or_zero(ends, at + 1);
+    let s = at + 1;
+    let s2 = end_or_zero(ends, s);
     let t = end_or_zero(ends, s2);
-    condition(is_rest_union(w, ends, p, t, s2, at + 1))
+    condition(is_rest_union(w, ends, p, t, s2, s))
 }
 
 // Its children: (S, S'), (T, Q).
@@ -87,9 +90,10 @@ pub fn child_17(ends: &[u32], at: usize, p: usize, q: usize, k: usize) -> Goal
     requires { ⌜ («at» < 8192) × (k < 2) ⌝ }
     ensures { λ r. ⌜ r ≡ childAt (now (ends .entry)) (Set p q) 17 «at» k ⌝ }
 {
-    let s2 = end_or_zero(ends, at + 1);
+    let s = at + 1;
+    let s2 = end_or_zero(ends, s);
     if k == 0 {
-        return Goal::Set(at + 1, s2);
+        return Goal::Set(s, s2);
     }
     let t = end_or_zero(ends, s2);
     Goal::Set(t, q)

@@ -18,7 +18,6 @@ rule-20-spec =
     (λ c. let i = low-head (c .before .before .before .before .pre) in omega arith)
     (λ c κs. search needs)
     (λ c. let i = low-command (c .before .before .before .before .before .pre) in omega arith)
-    (λ c. let i = low-head (c .before .before .before .before .before .pre) in omega arith)
     (λ c κs. can-split (c .before .before .before .before .before .pre) (c .before .if1 .left)
     (c .end-or-zero .ensures))
     (λ c κs. search needs)

@@ -29,10 +29,6 @@ rule-18-spec =
     let c₅ = c₄ .before in let c₆ = c₅ .before in let c₇ = c₆ .before in let c₁₀ = c₇ .before .before .before in
     differ-fails (c₁₀ .pre) (c₇ .count .ensures) (c₆ .if1 .left) (c₅ .count2 .ensures) (c₄ .if2 .left)
     (c₃ .end-or-zero .ensures) (c₂ .end-or-zero2 .ensures) (c₁ .is-same-consequent .ensures) (not-true _ (c .if3 .taken)))
-    (λ c. let i = low-right (c .before .before .before .before .before .before .before .before .before .before .pre)
-    in omega arith)
-    (λ c. let i = low-left (c .before .before .before .before .before .before .before .before .before .before .pre)
-    in omega arith)
     (λ c κs. let c₄ = c .before .before .before .before in let c₅ = c₄ .before in let c₆ = c₅ .before in
     let c₇ = c₆ .before in let c₁₀ = c₇ .before .before .before in
     can-imply (c₁₀ .pre) (c₇ .count .ensures) (c₆ .if1 .left) (c₅ .count2 .ensures) (c₄ .if2 .left))

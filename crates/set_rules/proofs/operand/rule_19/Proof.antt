@@ -15,7 +15,6 @@ rule-19-spec =
     (λ c. apart-fails (c .before .before .before .before .pre) (c .before .count .ensures) (c .if1 .taken))
     (λ c. let i = low-right (c .before .before .before .before .pre) in omega arith)
     (λ c κs. search needs)
-    (λ c. let i = low-right (c .before .before .before .before .before .pre) in omega arith)
     (λ c κs. let c₁ = c .before in let c₂ = c₁ .before in let c₅ = c₂ .before .before .before in
     can-split (c₅ .pre) (c₂ .count .ensures) (c₁ .if1 .left) (c .end-or-zero .ensures))
     (λ c κs. search needs)

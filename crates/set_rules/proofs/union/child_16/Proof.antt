@@ -11,7 +11,6 @@ child-16-spec =
     (tie.spec
     (λ c. search needs)
     (λ c κs. search needs)
-    (λ c. search needs)
     (λ c. rw (c .if1 .taken) (cc (c .before .end-or-zero .ensures)))
     (λ c κs. search needs)
     (λ c κs. search needs)

@@ -16,7 +16,6 @@ rule-16-spec =
     (λ c κs. search needs)
     (λ c κs. search needs)
     (λ c κs. search needs)
-    (λ c. let i = low-head (c .before .before .before .before .before .pre) in omega arith)
     (λ c κs. let c₁ = c .before in let c₂ = c₁ .before in let c₅ = c₂ .before .before .before in
     can-first (c₅ .pre) (c₂ .end-or-zero .ensures) (c₁ .end-or-zero2 .ensures) (c .end-or-zero3 .ensures))
     (λ c. let c₁ = c .before in let c₂ = c₁ .before in let c₃ = c₂ .before in let c₄ = c₃ .before in

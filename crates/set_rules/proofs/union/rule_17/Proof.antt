@@ -14,7 +14,6 @@ rule-17-spec =
     (λ c. let i = low-head (c .before .before .pre) in omega arith)
     (λ c κs. search needs)
     (λ c κs. search needs)
-    (λ c. let i = low-head (c .before .before .before .before .pre) in omega arith)
     (λ c κs. can-rest (c .before .before .before .before .pre) (c .before .end-or-zero .ensures)
     (c .end-or-zero2 .ensures))
     (λ c κs. search needs)
