@@ -35,9 +35,10 @@ pub fn child_23(ends: &[u32], at: usize, f: usize, c: usize, g: usize, k: usize)
     requires { ⌜ («at» < 8192) × (c < 8192) × (k < 2) ⌝ }
     ensures { λ r. ⌜ r ≡ childAt (now (ends .entry)) (Pre f c g) 23 «at» k ⌝ }
 {
+    let middle = at + 1;
     if k == 0 {
-        return Goal::Pre(f, c + 1, at + 1);
+        return Goal::Pre(f, c + 1, middle);
     }
     let second = end_or_zero(ends, c + 1);
-    Goal::Pre(at + 1, second, g)
+    Goal::Pre(middle, second, g)
 }
