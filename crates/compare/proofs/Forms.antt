@@ -4,7 +4,7 @@
 --     and-matched, and-not-matched, split-matched        φ ∧ B; φ ∧ ¬B; (φ1 ∧ B) ∨ (φ2 ∧ ¬B)
 --     of-written .. of-exchanged                         what a form names stands there
 --     as-written .. as-true                              a cursor after an antecedent, by form
---     came-to, antecedent-written, consequent-written, consequent-replaced
+--     came-to, antecedent-written, antecedent-true, consequent-written, consequent-replaced
 --                                                        what the tests answer
 use mathlib.Core.Path.{_≡_, sym, ap, _∙_}
 use mathlib.Core.Bool.{Bool, true}
@@ -140,6 +140,11 @@ module _ (file ends : List ℕ) (at : ℕ) (p : PartKnown file ends at) {r : Boo
       r ≡ sameNumbers (part file ends at) (antecedentNumbers file ends form)
   unfolding antecedentNumbers
   antecedent-written form a e h = rw e h
+
+  pub antecedent-true : (form : Antecedent) → form ≡ True →
+      r ≡ sameNumbers (part file ends at) (antecedentNumbers file ends True) →
+      r ≡ sameNumbers (part file ends at) (antecedentNumbers file ends form)
+  antecedent-true form e h = rw e h
 
   pub consequent-written : (form : Consequent) (a : ℕ) → form ≡ Plain a →
       r ≡ sameNumbers (part file ends at) (part file ends a) →

@@ -4,11 +4,12 @@
 --     came-lost, came-end                       the test in code whether a cursor has come to a place
 --     came-same                                 a cursor that comes to the end of a part has passed its numbers
 --     parts-length, parts-last, parts-rest      two parts: of other lengths, with other last words, the words before these
+--     one-length, one-word                      a part that is one word, or not
 --     numbers-same                              sameness by words, of words that their numbers tell
 use mathlib.Core.Path.{_≡_, refl, sym, ap, ap₂, _∙_}
 use mathlib.Core.Bool.{Bool, true, false}
 use mathlib.Core.List.{List, [], _∷_, _++_, head-eq-of-cons-eq, tail-eq-of-cons-eq, cons≢nil, nil≢cons}
-use Prim.Native.Nat.{ℕ, _-_, _≤_}
+use Prim.Native.Nat.{ℕ, _+_, _-_, _≤_}
 use native.Mathlib.Omega.{arith}
 use borrow.Author.Tests.{eqb-true, eq-eqb}
 use lib.Dec.{eqb}
@@ -18,10 +19,12 @@ use Rattle.laws.proofs.Decides.{Decides, decides-same, decides-map, decides-and
 use Rattle.rules.specs.Words.{Word, sameWords}
 use Rattle.rules.proofs.Decides.{sameWords-decides}
 use Rattle.compare.specs.Matching.{between, numbers, matched, came, sameNumbers}
+use Rattle.compare.specs.EqualWords.{EqualCount}
 use Rattle.compare.specs.Places.{endAt, PartKnown}
 use Rattle.compare.specs.Forms.{part}
 use Rattle.compare.specs.declared.cursor.Match.{Match}
-use Rattle.compare.proofs.Ranges.{between-last, between-length}
+use Rattle.compare.proofs.Ranges.{between-none, between-first, between-last, between-length}
+use Rattle.compare.proofs.EqualWords.{equal-matched}
 use Rattle.compare.proofs.Whole.{cursor, whole-past, whole-sound, whole-complete}
 
 -- a test of what does not hold
@@ -120,10 +123,10 @@ module _ (file ends : List ℕ) (f g : ℕ) (p : PartKnown file ends f) (q : Par
         false ≡ sameNumbers (part file ends f) (part file ends g)
     parts-last x = decides-false _ decided λ r. x (head-eq-of-cons-eq (ended r .1))
 
-    pub parts-rest : (m : Match) → getD file (e - 1) 0 ≡ getD file (to - 1) 0 →
-        m ≡ matched file (cursor true f) (between file g (to - 1)) →
+    pub parts-rest : (m : Match) (d : ℕ) → getD file (e - 1) 0 ≡ getD file (to - 1) 0 → EqualCount file f g (to - 1 - g) d →
+        m ≡ matched file (cursor true (f + d)) (between file (g + d) (to - 1)) →
         m .same ≡ sameNumbers (part file ends f) (part file ends g)
-    parts-rest m x y =
+    parts-rest m d x c y =
         let s = p .start in
         let t = q .start in
         let i = p .inside in
@@ -136,8 +139,27 @@ module _ (file ends : List ℕ) (f g : ℕ) (p : PartKnown file ends f) (q : Par
         ∙ ap₂ (λ z c. z ++ (c ∷ [])) r x
         ∙ sym (between-last file g to (omega arith) (omega arith)))
         (λ r. ended r .0)
-        (same-decides file m (between file g (to - 1)) f (e - 1) (omega arith) (omega arith) y (omega arith)))
+        (same-decides file m (between file g (to - 1)) f (e - 1) (omega arith) (omega arith)
+        (y ∙ equal-matched file (to - 1) (omega arith) d f g (omega (arith, c .few)) (omega (arith, c .few)) (c .equal))
+        (omega arith)))
         decided
+
+-- a part that is one word
+module _ (file ends : List ℕ) (at : ℕ) (p : PartKnown file ends at) (to : ℕ) (h : to ≡ endAt ends at) (x : ℕ) where
+  pub one-length : (to - at ≡ 1 → ⊥) → false ≡ sameNumbers (part file ends at) (x ∷ [])
+  one-length n =
+      decides-false _ (sameNumbers-decides _ _)
+      λ r. n (ap (λ e. e - at) h ∙ sym (between-length file at (endAt ends at) (p .inside)) ∙ ap length r)
+
+  pub one-word : to - at ≡ 1 → eqb (getD file at 0) x ≡ sameNumbers (part file ends at) (x ∷ [])
+  one-word n =
+      let s = p .start in
+      let word =
+      between-first file at (endAt ends at) s (p .inside)
+      ∙ ap (λ z. getD file at 0 ∷ z) (between-none file (at + 1) (endAt ends at) (omega arith)) in
+      decides-same _ _
+      (decides-map (λ r. word ∙ ap (λ y. y ∷ []) r) (λ r. head-eq-of-cons-eq (sym word ∙ r)) (eqb-decides (getD file at 0) x))
+      (sameNumbers-decides (part file ends at) (x ∷ []))
 
 -- words that their numbers tell
 pub numbers-same : (k l : List Word) → (numbers k ≡ numbers l → k ≡ l) → sameNumbers (numbers k) (numbers l) ≡ sameWords k l

@@ -5,6 +5,7 @@ use crate::expression::match_boolean;
 use crate::part::came_to_end;
 use crate::part::match_part;
 use crate::part::same_parts;
+use ends::end_at;
 use words::kinds::AND_WORD;
 use words::kinds::NOT_WORD;
 use words::kinds::OR_WORD;
@@ -14,6 +15,7 @@ ghost use Rattle.compare.specs.Matching.{matched, sameNumbers};
 ghost use Rattle.compare.specs.Places.{PartKnown};
 ghost use Rattle.compare.specs.Forms.{part, andNumbers, andNotNumbers, splitNumbers, antecedentNumbers, AntecedentAt};
 ghost use Rattle.compare.specs.Forms.{CanAntecedent};
+ghost use Rattle.compare.specs.declared.antecedent.Antecedent.the-variants.{True};
 
 // An antecedent, or an assertion of rules 20 to 30, as the rules form it, by places: the boolean at a place; φ ∧ B; φ ∧ ¬B;
 // (φ1 ∧ B) ∨ (φ2 ∧ ¬B) by φ1, φ2 and B; the boolean at a place with words put for a word; true.
@@ -82,7 +84,19 @@ pub fn same_formed(w: &[u32], ends: &[u32], at: usize, form: Antecedent) -> bool
     came_to_end(ends, m, at)
 }
 
-// The same, with the most usual form first: the antecedent that is written at a place.
+// Whether the written antecedent at `at` is true: one word, 9:1.
+fn same_true(w: &[u32], ends: &[u32], at: usize) -> bool
+    requires { ⌜ PartKnown (now w) (now ends) «at» ⌝ }
+    ensures { λ r. ⌜ r ≡ sameNumbers (part (now (w .entry)) (now (ends .entry)) «at»)
+        (antecedentNumbers (now (w .entry)) (now (ends .entry)) True) ⌝ }
+{
+    if end_at(ends, at) - at != 1 {
+        return false;
+    }
+    w[at] == TRUE_WORD
+}
+
+// The same, with the most usual forms first: the antecedent that is written at a place, and true.
 pub fn same_antecedent(w: &[u32], ends: &[u32], at: usize, form: Antecedent) -> bool
     requires { ⌜ CanAntecedent (now w) (now ends) «at» form ⌝ }
     ensures { λ r. ⌜ r ≡ sameNumbers (part (now (w .entry)) (now (ends .entry)) «at»)
@@ -90,6 +104,9 @@ pub fn same_antecedent(w: &[u32], ends: &[u32], at: usize, form: Antecedent) -> 
 {
     if let Antecedent::Written(a) = form {
         return same_parts(w, ends, at, a);
+    }
+    if let Antecedent::True = form {
+        return same_true(w, ends, at);
     }
     same_formed(w, ends, at, form)
 }

@@ -44,7 +44,7 @@ fn least(a: usize, b: usize) -> usize
 }
 
 // The words from `from` up to `to` stand from `at` on, one by one.
-fn match_rest(w: &[u32], at: usize, from: usize, to: usize) -> Match
+pub fn match_rest(w: &[u32], at: usize, from: usize, to: usize) -> Match
     requires { ⌜ to ≤ length (now w) ⌝ }
     ensures { λ r. ⌜ r ≡ matched (now (w .entry)) (matchAt «at») (between (now (w .entry)) from to) ⌝ }
 {

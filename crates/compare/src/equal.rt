@@ -22,8 +22,12 @@ pub fn equal_words(w: &[u32], a: usize, b: usize, count: usize) -> usize
     requires { ⌜ Room (now w) a b count ⌝ }
     ensures { λ r. ⌜ EqualCount (now (w .entry)) a b count r ⌝ }
 {
+    if count < 4 {
+        return 0;
+    }
+    let last = count - 3;
     let mut k = 0;
-    while 4 <= count - k {
+    while k < last {
         if !same_four(w, a + k, b + k) {
             return k;
         }

@@ -1,5 +1,7 @@
 use crate::cursor::Match;
 use crate::cursor::match_range;
+use crate::cursor::match_rest;
+use crate::equal::equal_words;
 use ends::end_at;
 ghost use mathlib.Core.Path.{_≡_};
 ghost use Prim.Native.Nat.{_<_};
@@ -45,6 +47,7 @@ pub fn same_parts(w: &[u32], ends: &[u32], f: usize, g: usize) -> bool
     if w[e - 1] != w[to - 1] {
         return false;
     }
-    let m = match_range(w, Match { same: true, at: f }, g, to - 1);
+    let k = equal_words(w, f, g, to - 1 - g);
+    let m = match_rest(w, f + k, g + k, to - 1);
     m.same
 }

@@ -90,6 +90,19 @@ pub fn same_item(w: &[u32], ends: &[u32], at: usize, item: Item) -> bool
     same_consequent(w, ends, middle, consequent)
 }
 
+// Whether the written member at `at` is φ ⇒ E, φ at f and E at b: the usual one at once.
+pub fn same_pair(w: &[u32], ends: &[u32], at: usize, f: usize, b: usize) -> bool
+    requires { ⌜ CanCompare (now w) (now ends) «at» (pairItem f b) ⌝ }
+    ensures { λ r. ⌜ r ≡ sameHalves (writtenHalves (now (w .entry)) (now (ends .entry)) «at»)
+        (itemHalves (now (w .entry)) (now (ends .entry)) (pairItem f b)) ⌝ }
+{
+    if !same_parts(w, ends, at, f) {
+        return false;
+    }
+    let middle = end_at(ends, at);
+    same_parts(w, ends, middle, b)
+}
+
 // Whether the written member at `at` is the one at a, seen as the view says. Each view has its own call, so that the
 // compiler sees which halves are compared.
 pub fn same_seen(w: &[u32], ends: &[u32], at: usize, a: usize, view: View) -> bool
@@ -99,7 +112,7 @@ pub fn same_seen(w: &[u32], ends: &[u32], at: usize, a: usize, view: View) -> bo
 {
     let middle = end_at(ends, a);
     match view {
-        View::Plain => same_item(w, ends, at, pair_item(a, middle)),
+        View::Plain => same_pair(w, ends, at, a, middle),
         View::Under(b) => {
             let item = Item {
                 antecedent: Antecedent::And(a, b),

@@ -1,7 +1,7 @@
--- `compare::antecedent::same_antecedent` meets its contract: two parts, or one that is formed.
+-- `compare::antecedent::same_antecedent` meets its contract: two parts, true, or one that is formed.
 -- Assumes nothing.
 use borrow.Author.Needs.{needs}
-use Rattle.compare.proofs.Forms.{of-written, antecedent-written}
+use Rattle.compare.proofs.Forms.{of-written, antecedent-written, antecedent-true}
 use Rattle.compare.proofs.antecedent.same_antecedent.Statement.{statement}
 use Rattle.compare.proofs.antecedent.same_antecedent.Tie as tie
 
@@ -18,5 +18,10 @@ same-antecedent-spec =
     let e = c .before .before in
     let p = e .before .before .before .before .pre in
     antecedent-written _ _ _ (p .whole) _ _ (e .form .given .1) (c .same-parts .ensures))
+    (λ c. search needs)
+    (λ c κs. search needs)
+    (λ c.
+    let told = c .before in
+    antecedent-true _ _ _ (told .before .before .before .before .before .pre .whole) _ (told .enum-told .given .1) (c .same-true .ensures))
     (λ c κs. search needs)
     (λ c. c .same-formed .ensures))

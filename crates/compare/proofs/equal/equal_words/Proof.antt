@@ -10,17 +10,17 @@ use Rattle.compare.proofs.equal.equal_words.Statement.{statement}
 use Rattle.compare.proofs.equal.equal_words.Tie as tie
 
 abbrev Inv-loop : tie.InvT-loop
-Inv-loop w a b count k₀ k = EqualCount w a b count k
+Inv-loop w a b count last k₀ k = EqualCount w a b count k
 
 abbrev μ-loop : tie.MeasureT-loop
-μ-loop w a b count k₀ k = count - k
+μ-loop w a b count last k₀ k = count - k
 
 loop-holds : tie.Need-loop-holds Inv-loop μ-loop
 loop-holds c = record { few = omega arith; equal = equal-none _ _ _ }
 
 same-four-requires : tie.Need-same-four-requires Inv-loop μ-loop
 same-four-requires c κs =
-    let room = c .before .before .before .pre in
+    let room = c .before .before .before .before .pre in
     let left = c .loop-test .taken in
     record { first = omega (arith, room .first, left); second = omega (arith, room .second, left) }
 
@@ -31,7 +31,7 @@ loop-again c =
     let passed = turn .before .loop .inv in
     record {
       few = omega (arith, passed .few, turn .loop-test .taken);
-      equal = equal-more _ _ _ _ _ (passed .equal) (called .same-four .ensures (not-false _ (c .if1 .left)));
+      equal = equal-more _ _ _ _ _ (passed .equal) (called .same-four .ensures (not-false _ (c .if2 .left)));
     }
 
 pub equal-words-spec : {M : Type 1} → statement M
@@ -40,8 +40,9 @@ equal-words-spec =
     (tie.spec
     Inv-loop
     μ-loop
+    (λ c. record { few = omega arith; equal = equal-none _ _ _ })
+    (λ c. search needs)
     loop-holds
-    (λ c. c .loop .inv .few)
     (λ c. search needs)
     (λ c. search needs)
     same-four-requires

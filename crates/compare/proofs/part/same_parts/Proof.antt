@@ -31,12 +31,18 @@ same-parts-spec =
     let p = first .before .before .before .pre in
     parts-last _ _ _ _ (p .0) (p .1) _ _ (first .end-at .ensures) (second .end-at2 .ensures) (lengths .if1 .left) (c .if2 .taken))
     (λ c. search needs)
+    (λ c. search needs)
+    (λ c κs. search needs)
+    (λ c. search needs)
+    (λ c. search needs)
+    (λ c. search needs)
     (λ c κs. search needs)
     (λ c.
-    let last = c .before in
+    let passed = c .before in
+    let last = passed .before in
     let lengths = last .before .before .before in
     let second = lengths .before in
     let first = second .before in
     let p = first .before .before .before .pre in
-    parts-rest _ _ _ _ (p .0) (p .1) _ _ (first .end-at .ensures) (second .end-at2 .ensures) (lengths .if1 .left) _
-    (last .if2 .left) (c .match-range .ensures)))
+    parts-rest _ _ _ _ (p .0) (p .1) _ _ (first .end-at .ensures) (second .end-at2 .ensures) (lengths .if1 .left) _ _
+    (last .if2 .left) (passed .equal-words .ensures) (c .match-rest .ensures)))

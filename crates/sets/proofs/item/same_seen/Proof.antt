@@ -1,6 +1,5 @@
 -- `sets::item::same_seen` meets its contract, by view.
 -- Assumes nothing.
-use mathlib.Core.Path.{_∙_}
 use borrow.Author.Needs.{needs}
 use Rattle.sets.proofs.Members.{member-pass}
 use Rattle.sets.proofs.Items.{item-plain, item-under, item-unless, item-replaced, see}
@@ -14,12 +13,9 @@ same-seen-spec =
     (tie.spec
     (λ c κs. let p = c .before .before .pre in member-pass (p .ends-of) (p .other) .first)
     (λ c. search needs)
-    (λ c κs. search needs)
     (λ c κs.
-    let t = c .before in
-    let ended = t .before .before in
-    see (ended .before .before .before .pre)
-    (c .pair-item .ensures ∙ item-plain _ _ _ _ (ended .end-at .ensures) (t .enum-told .given .1)))
+    let ended = c .before .before in
+    see (ended .before .before .before .pre) (item-plain _ _ _ _ (ended .end-at .ensures) (c .enum-told .given .1)))
     (λ c. search needs)
     (λ c κs.
     let e = c .before in
@@ -33,17 +29,14 @@ same-seen-spec =
     let e = c .before in
     see (e .before .before .before .before .before .pre) (item-replaced _ _ _ _ (e .before .before .end-at .ensures) _ (e .view3 .given .1)))
     (λ c.
-    let item = c .before in
-    let t = item .before in
-    same-as _ _
-    (item .pair-item .ensures ∙ item-plain _ _ _ _ (t .before .before .end-at .ensures) (t .enum-told .given .1)) _
-    (c .same-item .ensures))
+    let t = c .before in
+    same-as _ _ (item-plain _ _ _ _ (t .before .before .end-at .ensures) (t .enum-told .given .1)) _ (c .same-pair .ensures))
     (λ c.
     let e = c .before .before in
-    same-as _ _ (item-under _ _ _ _ (e .before .before .end-at .ensures) _ (e .view .given .1)) _ (c .same-item2 .ensures))
+    same-as _ _ (item-under _ _ _ _ (e .before .before .end-at .ensures) _ (e .view .given .1)) _ (c .same-item .ensures))
     (λ c.
     let e = c .before .before in
-    same-as _ _ (item-unless _ _ _ _ (e .before .before .end-at .ensures) _ (e .view2 .given .1)) _ (c .same-item3 .ensures))
+    same-as _ _ (item-unless _ _ _ _ (e .before .before .end-at .ensures) _ (e .view2 .given .1)) _ (c .same-item2 .ensures))
     (λ c.
     let e = c .before .before in
-    same-as _ _ (item-replaced _ _ _ _ (e .before .before .end-at .ensures) _ (e .view3 .given .1)) _ (c .same-item4 .ensures)))
+    same-as _ _ (item-replaced _ _ _ _ (e .before .before .end-at .ensures) _ (e .view3 .given .1)) _ (c .same-item3 .ensures)))

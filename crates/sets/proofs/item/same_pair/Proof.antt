@@ -1,0 +1,38 @@
+-- `sets::item::same_pair` meets its contract, half by half.
+-- Assumes nothing.
+use mathlib.Core.Path.{refl}
+use borrow.Author.Tests.{not-true, not-false}
+use Rattle.compare.proofs.Forms.{of-written, of-plain, antecedent-written, consequent-written}
+use Rattle.sets.proofs.Members.{antecedent-any, consequent-any, any-known}
+use Rattle.sets.proofs.Items.{item-not, item-so}
+use Rattle.sets.proofs.item.same_pair.Statement.{statement}
+use Rattle.sets.proofs.item.same_pair.Tie as tie
+
+pub same-pair-spec : {M : Type 1} → statement M
+same-pair-spec =
+    tie.close
+    (tie.spec
+    (λ c κs.
+    let p = c .before .before .pre in
+    (any-known (p .ends-of) (antecedent-any (p .member)), of-written (p .item-at .antecedent-at) refl))
+    (λ c.
+    let first = c .before in
+    let p = first .before .before .before .pre in
+    item-not _ _ _ _
+    (antecedent-written _ _ _ (any-known (p .ends-of) (antecedent-any (p .member))) _ _ refl (first .same-parts .ensures))
+    (not-true _ (c .if1 .taken)))
+    (λ c κs.
+    let p = c .before .before .before .before .pre in
+    any-known (p .ends-of) (antecedent-any (p .member)) .listed)
+    (λ c κs.
+    let p = c .before .before .before .before .before .pre in
+    (any-known (p .ends-of) (consequent-any (p .member) (c .end-at .ensures)), of-plain (p .item-at .consequent-at) refl))
+    (λ c.
+    let ended = c .before in
+    let first = ended .before in
+    let p = first .before .before .before .before .pre in
+    item-so _ _ _ _
+    (antecedent-written _ _ _ (any-known (p .ends-of) (antecedent-any (p .member))) _ _ refl (first .before .same-parts .ensures)) _
+    (not-false _ (first .if1 .left)) (ended .end-at .ensures)
+    (consequent-written _ _ _ (any-known (p .ends-of) (consequent-any (p .member) (ended .end-at .ensures))) _ _ refl
+    (c .same-parts2 .ensures))))
