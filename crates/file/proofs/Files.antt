@@ -60,10 +60,10 @@ module _ {Γ : Context} {w table : List ℕ} where
       }
 
   pub refused-tabled : (r : Layout) (x : Refusal) → r ≡ placesOf (readOf (contextOf Γ) w) → r ≡ Layout.Refused x →
-      Tabled w Γ r table
+      Tabled w Γ (Layout.Refused x) table
   refused-tabled r x e h = record {
-    layout = h ∙ sym (ap placesOf (words-refused (contextOf Γ) w x (sym h ∙ e)));
-    ends-of = λ s z. not-found (sym h ∙ z);
+    layout = sym (ap placesOf (words-refused (contextOf Γ) w x (sym h ∙ e)));
+    ends-of = λ s z. not-found z;
   }
 
 -- ---- refusal 1

@@ -47,7 +47,7 @@ fn read_table(w: &[u32], table: &mut [u32], context: Context) -> Layout
     let found = read_words(w, context);
     match found {
         Layout::Found(places) => read_steady(w, table, context, places),
-        Layout::Refused(_) => found,
+        Layout::Refused(refusal) => Layout::Refused(refusal),
     }
 }
 

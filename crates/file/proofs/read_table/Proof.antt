@@ -19,4 +19,4 @@ read-table-spec =
     (λ c. search needs)
     (λ c. search needs)
     (λ c. search needs)
-    (λ c. refused-tabled _ _ (c .before .before .read-words .ensures) (c .enum-told .given .1)))
+    (λ c. refused-tabled _ _ (c .before .before .before .read-words .ensures) (c .before .found2 .given .1)))
