@@ -7,8 +7,9 @@ pub struct Context {
     pub members: usize,
 }
 
-// A refusal's number and place (document 01, "Judging order").
+// A refusal's number and place (document 01, "Judging order"). The place is first: in an answer it then stands where the place
+// that a reader goes on from would.
 pub struct Refusal {
-    pub number: u32,
     pub place: usize,
+    pub number: u32,
 }
