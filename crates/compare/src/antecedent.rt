@@ -74,7 +74,15 @@ fn match_antecedent(w: &[u32], ends: &[u32], m: Match, form: Antecedent) -> Matc
     }
 }
 
-// Whether the written antecedent at `at` is the same as the one that a rule forms. Document 01 compares them by words.
+// Whether the written antecedents at f and g are the same. Document 01 compares them by words.
+pub fn same_antecedents(w: &[u32], ends: &[u32], f: usize, g: usize) -> bool
+    requires { ⌜ PartKnown (now w) (now ends) f × PartKnown (now w) (now ends) g ⌝ }
+    ensures { λ r. ⌜ r ≡ sameNumbers (part (now (w .entry)) (now (ends .entry)) f) (part (now (w .entry)) (now (ends .entry)) g) ⌝ }
+{
+    same_parts(w, ends, f, g)
+}
+
+// Whether the written antecedent at `at` is the same as the one that a rule forms.
 pub fn same_formed(w: &[u32], ends: &[u32], at: usize, form: Antecedent) -> bool
     requires { ⌜ CanAntecedent (now w) (now ends) «at» form ⌝ }
     ensures { λ r. ⌜ r ≡ sameNumbers (part (now (w .entry)) (now (ends .entry)) «at»)
@@ -96,14 +104,14 @@ fn same_true(w: &[u32], ends: &[u32], at: usize) -> bool
     w[at] == TRUE_WORD
 }
 
-// The same, with the most usual forms first: the antecedent that is written at a place, and true.
+// The same as `same_formed`, with the most usual forms first: the antecedent that is written at a place, and true.
 pub fn same_antecedent(w: &[u32], ends: &[u32], at: usize, form: Antecedent) -> bool
     requires { ⌜ CanAntecedent (now w) (now ends) «at» form ⌝ }
     ensures { λ r. ⌜ r ≡ sameNumbers (part (now (w .entry)) (now (ends .entry)) «at»)
         (antecedentNumbers (now (w .entry)) (now (ends .entry)) form) ⌝ }
 {
     if let Antecedent::Written(a) = form {
-        return same_parts(w, ends, at, a);
+        return same_antecedents(w, ends, at, a);
     }
     if let Antecedent::True = form {
         return same_true(w, ends, at);

@@ -5,12 +5,21 @@ use crate::part::came_to_end;
 use crate::part::same_parts;
 ghost use mathlib.Core.Path.{_≡_};
 ghost use Rattle.compare.specs.Matching.{sameNumbers};
+ghost use Rattle.compare.specs.Places.{PartKnown};
 ghost use Rattle.compare.specs.Forms.{part, consequentNumbers, CanConsequent};
 
 // A consequent as the rules form it, by places: the expression at a place; the same with words put for a word.
 pub enum Consequent {
     Written(usize),
     Replaced(usize, Put),
+}
+
+// Whether the written consequents at f and g are the same, by words.
+pub fn same_consequents(w: &[u32], ends: &[u32], f: usize, g: usize) -> bool
+    requires { ⌜ PartKnown (now w) (now ends) f × PartKnown (now w) (now ends) g ⌝ }
+    ensures { λ r. ⌜ r ≡ sameNumbers (part (now (w .entry)) (now (ends .entry)) f) (part (now (w .entry)) (now (ends .entry)) g) ⌝ }
+{
+    same_parts(w, ends, f, g)
 }
 
 // Whether the written consequent at `at` is the same as the one that a rule forms, by words.
@@ -20,7 +29,7 @@ pub fn same_consequent(w: &[u32], ends: &[u32], at: usize, form: Consequent) -> 
         (consequentNumbers (now (w .entry)) (now (ends .entry)) form) ⌝ }
 {
     match form {
-        Consequent::Written(a) => same_parts(w, ends, at, a),
+        Consequent::Written(a) => same_consequents(w, ends, at, a),
         Consequent::Replaced(a, put) => {
             let m = match_expression(w, ends, Match { same: true, at }, a, put);
             came_to_end(ends, m, at)

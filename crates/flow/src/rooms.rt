@@ -18,14 +18,7 @@ fn judge_file(w: &[u32], ends: &[u32], context: Context, places: Places) -> Outc
     ensures { λ r. ⌜ r ≡ outcomeOf (contextOf context) (wordsRead (contextOf context) (now (w .entry))) ⌝ }
 {
     let goal = Goal::Flow(places.pre, 1, places.post);
-    let judged = judge::judge(
-        w,
-        ends,
-        context,
-        goal,
-        places.evidence,
-        context.depth,
-    );
+    let judged = judge::judge(w, ends, context, goal, places.evidence, context.depth);
     match judged {
         Judged::Accepted(count, _) => Outcome::Accepted(count, places),
         Judged::Refused(refusal) => Outcome::Refused(refusal),

@@ -39,20 +39,17 @@ module _ (Γ : Context) (file ends : List ℕ) where
   unfolding spelledTree FitsTree
   placed o d l done at end s = s .stand
   placed o d l (assertion φ & t) at end s =
-      let x = parted-trees Γ file (assertion φ) t d at end s in
-      (
+      let x = parted-trees Γ file (assertion φ) t d at end s in (
         written o φ d at (x .0) l (x .1),
         subst (λ q. Placed d t q end) (expression-past o φ d at (x .0) (x .1)) (placed o d l t (x .0) end (x .2)),
       )
   placed o d l (command c & t) at end s =
-      let x = parted-trees Γ file (command c) t d at end s in
-      (
+      let x = parted-trees Γ file (command c) t d at end s in (
         commanded o c d at (x .0) l (x .1),
         subst (λ q. Placed d t q end) (command-past o c d at (x .0) (x .1)) (placed o d l t (x .0) end (x .2)),
       )
   placed o d l (members p & t) at end s =
-      let x = parted-trees Γ file (members p) t d at end s in
-      (
+      let x = parted-trees Γ file (members p) t d at end s in (
         member-set o Γ p d at (x .0) l (x .1),
         subst (λ q. Placed d t q end) (set-past o Γ p d at (x .0) (x .1)) (placed o d l t (x .0) end (x .2)),
       )

@@ -15,13 +15,7 @@ ghost use Rattle.goals.specs.Children.{childAt};
 ghost use Rattle.judge.specs.Going.{CanChild};
 
 // The result of the rule's conditions.
-pub fn condition_at(
-    w: &[u32],
-    ends: &[u32],
-    context: Context,
-    goal: Goal,
-    at: usize,
-) -> Condition
+pub fn condition_at(w: &[u32], ends: &[u32], context: Context, goal: Goal, at: usize) -> Condition
     requires { ⌜ CanStep (now w) (now ends) (contextOf context) goal «at» ⌝ }
     ensures { λ r. ⌜ StepOf (now (w .entry)) (now (ends .entry)) (contextOf context) goal «at» r ⌝ }
 {

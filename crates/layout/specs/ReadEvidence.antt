@@ -41,7 +41,7 @@ module _ (Γ : Context) (file : List ℕ) (d : ℕ) (child : (j : Judgement) →
 unfoldable pub evidence : Context → List ℕ → ℕ → (j : Judgement) → Reader (Evidence j)
 evidence Γ file zero j at = noLevel file at
 evidence Γ file (suc d) j at = wordDue file (λ i k p. allow k ((
-    evidenceKind j,
-    onOption (ruleOf p (rules j)) λ r.
-        leaf (by (r .rule) i) ⊛ partsReader Γ file d (λ j q. evidence Γ file d j q) (r .after),
-    ) ∷ [])) at
+  evidenceKind j,
+  onOption (ruleOf p (rules j)) λ r.
+      leaf (by (r .rule) i) ⊛ partsReader Γ file d (λ j q. evidence Γ file d j q) (r .after),
+) ∷ [])) at

@@ -1,9 +1,10 @@
 use compare::antecedent::Antecedent;
 use compare::antecedent::same_antecedent;
+use compare::antecedent::same_antecedents;
 use compare::consequent::Consequent;
 use compare::consequent::same_consequent;
+use compare::consequent::same_consequents;
 use compare::cursor::Put;
-use compare::part::same_parts;
 use ends::end_at;
 ghost use mathlib.Core.Path.{_≡_};
 ghost use Prim.Native.Nat.{_<_};
@@ -85,7 +86,7 @@ pub fn same_item(w: &[u32], ends: &[u32], at: usize, item: Item) -> bool
     let consequent = item.consequent;
     // the usual one at once
     if let Consequent::Written(b) = consequent {
-        return same_parts(w, ends, middle, b);
+        return same_consequents(w, ends, middle, b);
     }
     same_consequent(w, ends, middle, consequent)
 }
@@ -96,11 +97,11 @@ pub fn same_pair(w: &[u32], ends: &[u32], at: usize, f: usize, b: usize) -> bool
     ensures { λ r. ⌜ r ≡ sameHalves (writtenHalves (now (w .entry)) (now (ends .entry)) «at»)
         (itemHalves (now (w .entry)) (now (ends .entry)) (pairItem f b)) ⌝ }
 {
-    if !same_parts(w, ends, at, f) {
+    if !same_antecedents(w, ends, at, f) {
         return false;
     }
     let middle = end_at(ends, at);
-    same_parts(w, ends, middle, b)
+    same_consequents(w, ends, middle, b)
 }
 
 // Whether the written member at `at` is the one at a, seen as the view says. Each view has its own call, so that the

@@ -123,9 +123,11 @@ pub +judge+judge-children-spec : {M : Type 1} → statement M
     child-asked (s .pre .1) (turn .loop .inv .0) (turn .loop .inv .1) (c .loop-test .taken))
     (λ c κs.
     let turn = c .before .before in
-    let s = turn .before .before .before .before .before .before in
-    (omega (arith, s .pre .0), child-can (s .pre .1) (turn .loop .inv .0) (turn .loop .inv .1) (c .before .loop-test .taken)
-    (c .child-of .ensures)))
+    let s = turn .before .before .before .before .before .before in (
+      omega (arith, s .pre .0),
+      child-can (s .pre .1) (turn .loop .inv .0) (turn .loop .inv .1) (c .before .loop-test .taken)
+          (c .child-of .ensures),
+    ))
     (λ c. search needs)
     (λ c.
     let called = c .before .before .before in
@@ -152,10 +154,12 @@ pub +judge+judge-children-spec : {M : Type 1} → statement M
     (λ c.
     let called = c .before .before .before in
     let turn = called .before .before .before in
-    let s = turn .before .before .before .before .before .before in
-    (turn .loop .inv .0, going-step (s .pre .1) (turn .loop .inv .0) (turn .loop .inv .1)
-    (called .before .before .loop-test .taken) (called .before .child-of .ensures) (called .judge .ensures)
-    (c .before .judged .given .1)))
+    let s = turn .before .before .before .before .before .before in (
+      turn .loop .inv .0,
+      going-step (s .pre .1) (turn .loop .inv .0) (turn .loop .inv .1)
+          (called .before .before .loop-test .taken) (called .before .child-of .ensures) (called .judge .ensures)
+          (c .before .judged .given .1),
+    ))
     (λ c.
     let turn = c .before in
     let s = turn .before .before .before .before .before .before in

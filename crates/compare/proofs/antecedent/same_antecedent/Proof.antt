@@ -17,7 +17,7 @@ same-antecedent-spec =
     (λ c.
     let e = c .before .before in
     let p = e .before .before .before .before .pre in
-    antecedent-written _ _ _ (p .whole) _ _ (e .form .given .1) (c .same-parts .ensures))
+    antecedent-written _ _ _ (p .whole) _ _ (e .form .given .1) (c .same-antecedents .ensures))
     (λ c. search needs)
     (λ c κs. search needs)
     (λ c.

@@ -23,7 +23,7 @@ same-consequent-spec =
     (λ c.
     let e = c .before .before in
     let p = e .before .before .before .before .pre in
-    consequent-written _ _ _ (p .whole) _ _ (e .form .given .1) (c .same-parts .ensures))
+    consequent-written _ _ _ (p .whole) _ _ (e .form .given .1) (c .same-consequents .ensures))
     (λ c.
     let passed = c .before in
     let e = passed .before .before in

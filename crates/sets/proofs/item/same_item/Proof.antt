@@ -34,7 +34,7 @@ same-item-spec =
     let p = first .before .before .before .before .pre in
     item-so _ _ _ _ (first .before .same-antecedent .ensures) _ (not-false _ (first .if1 .left)) (ended .end-at .ensures)
     (consequent-written _ _ _ (any-known (p .ends-of) (consequent-any (p .member) (ended .end-at .ensures))) _ _
-    (e .consequent .given .1) (c .same-parts .ensures)))
+    (e .consequent .given .1) (c .same-consequents .ensures)))
     (λ c. search needs)
     (λ c κs.
     let ended = c .before .before in

@@ -19,7 +19,7 @@ same-pair-spec =
     let first = c .before in
     let p = first .before .before .before .pre in
     item-not _ _ _ _
-    (antecedent-written _ _ _ (any-known (p .ends-of) (antecedent-any (p .member))) _ _ refl (first .same-parts .ensures))
+    (antecedent-written _ _ _ (any-known (p .ends-of) (antecedent-any (p .member))) _ _ refl (first .same-antecedents .ensures))
     (not-true _ (c .if1 .taken)))
     (λ c κs.
     let p = c .before .before .before .before .pre in
@@ -32,7 +32,7 @@ same-pair-spec =
     let first = ended .before in
     let p = first .before .before .before .before .pre in
     item-so _ _ _ _
-    (antecedent-written _ _ _ (any-known (p .ends-of) (antecedent-any (p .member))) _ _ refl (first .before .same-parts .ensures)) _
+    (antecedent-written _ _ _ (any-known (p .ends-of) (antecedent-any (p .member))) _ _ refl (first .before .same-antecedents .ensures)) _
     (not-false _ (first .if1 .left)) (ended .end-at .ensures)
     (consequent-written _ _ _ (any-known (p .ends-of) (consequent-any (p .member) (ended .end-at .ensures))) _ _ refl
-    (c .same-parts2 .ensures))))
+    (c .same-consequents .ensures))))
