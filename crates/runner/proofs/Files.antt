@@ -8,14 +8,15 @@ use mathlib.Core.List.{List}
 use Prim.Native.Nat.{ℕ, _/_}
 use native.Mathlib.Omega.{arith}
 use lib.ListN.{length, take}
-use Rattle.rules.specs.Context as context
+use Rattle.rules.specs.Context as rules
 use Rattle.layout.specs.Reading.{Reading, read, fault}
 use Rattle.layout.specs.File.{File, wordsRead, fileOf}
 use Rattle.execution.specs.Lent.{Lent}
 use Rattle.execution.specs.Ran.{runOf}
 use Rattle.claims.proofs.Runner.{runner}
-use Rattle.reader.specs.Walk.{limitsOf}
-use Rattle.reader.specs.declared.Limits.{Limits}
+use Rattle.context.specs.Contexts.{contextOf}
+use Rattle.context.specs.declared.Context.{Context}
+use Rattle.context.specs.declared.Refusal.{Refusal}
 use Rattle.reader.specs.declared.Places.{Places}
 use Rattle.reader.specs.declared.Layout.{Layout}
 use Rattle.reader.specs.declared.Layout.the-variants as Layout
@@ -31,51 +32,52 @@ pub never : {A : Type 0} → _≡_ {A = ℕ} 0 1 → A
 never z = absurd (omega arith)
 
 -- ---- refusals 1 to 7
-module _ {limits : Limits} {bytes words table : List ℕ} {r : Layout} (f : FileRead bytes limits r words table) where
-  pub refused-file-by : (budget : ℕ) (m : Lent) {k p : ℕ} {q : Ran} → r ≡ Layout.Refused k p → q ≡ refusedAt k p →
-      RanBy (fileOf (limitsOf limits) bytes) budget m q m
-  refused-file-by budget m {k} {p} e h =
-      let x = refused-file (fileOf (limitsOf limits) bytes) k p (sym e ∙ f .layout) in
-      record { is = ap (λ z. ranAt z m) h ∙ ap (λ z. ranBy z budget m) (sym x) }
+module _ {context : Context} {bytes words table : List ℕ} {r : Layout} (f : FileRead bytes context r words table) where
+  pub refused-file-by : (budget : ℕ) (m : Lent) {x : Refusal} {q : Ran} → r ≡ Layout.Refused x →
+      q ≡ refusedAt (x .number) (x .place) →
+      RanBy (fileOf (contextOf context) bytes) budget m q m
+  refused-file-by budget m {x} e h =
+      let y = refused-file (fileOf (contextOf context) bytes) x (sym e ∙ f .layout) in
+      record { is = ap (λ z. ranAt z m) h ∙ ap (λ z. ranBy z budget m) (sym y) }
 
-  pub can-run-file : {s : Places} → r ≡ Layout.Found s → CanRunFile (take (length bytes / 4) words) table limits
+  pub can-run-file : {s : Places} → r ≡ Layout.Found s → CanRunFile (take (length bytes / 4) words) table context
   can-run-file {s} e =
       let w = file-words f e in
-      let x = found-read (wordsRead (limitsOf limits) (take (length bytes / 4) words)) s (w .was-read) in
+      let x = found-read (wordsRead (contextOf context) (take (length bytes / 4) words)) s (w .was-read) in
       record {
         ends-of = w .ends-of;
         tree = x .file;
         end = x .end;
         was-read = x .was-read;
         program = record {
-          levels = limits .depth;
-          stands = read-stands (limitsOf limits) _ (x .file) (x .end) (x .was-read) .program-stands;
+          levels = context .depth;
+          stands = read-stands (contextOf context) _ (x .file) (x .end) (x .was-read) .program;
         };
       }
 
   pub ran-file : {s : Places} {budget : ℕ} {m m′ : Lent} {q : Ran} → r ≡ Layout.Found s →
-      RanBy (wordsRead (limitsOf limits) (take (length bytes / 4) words)) budget m q m′ →
-      RanBy (fileOf (limitsOf limits) bytes) budget m q m′
+      RanBy (wordsRead (contextOf context) (take (length bytes / 4) words)) budget m q m′ →
+      RanBy (fileOf (contextOf context) bytes) budget m q m′
   ran-file {budget = budget} {m} e h = record { is = h .is ∙ ap (λ z. ranBy z budget m) (file-words f e .of-file) }
 
 -- ---- the definition's answer
-by-reading : (x : Reading File) (limits : context.Limits) (bytes : List ℕ) → fileOf limits bytes ≡ x →
+by-reading : (x : Reading File) (Γ : rules.Context) (bytes : List ℕ) → fileOf Γ bytes ≡ x →
     (budget : ℕ) (m : Lent) →
-    ranBy x budget m ≡ runOf limits bytes budget m
+    ranBy x budget m ≡ runOf Γ bytes budget m
 unfolding runOf
-by-reading (read f p) limits bytes e budget m = sym (rw (e, runOf) refl)
-by-reading (fault k p) limits bytes e budget m = sym (rw (e, runOf) refl)
+by-reading (read f p) Γ bytes e budget m = sym (rw (e, runOf) refl)
+by-reading (fault k p) Γ bytes e budget m = sym (rw (e, runOf) refl)
 
-pub run-of : {limits : Limits} → limitsOf limits ≡ context.standard →
+pub run-of : {context : Context} → contextOf context ≡ rules.standard →
     {bytes : List ℕ} {budget : ℕ} {m m′ : Lent} {r : Ran} →
-    RanBy (fileOf (limitsOf limits) bytes) budget m r m′ → RunOf bytes budget m r m′
-run-of {limits} l {bytes} {budget} {m} {m′} {r} f =
-    let e : ranAt r m′ ≡ runOf context.standard bytes budget m =
-    f .is ∙ by-reading _ (limitsOf limits) bytes refl budget m ∙ ap (λ z. runOf z bytes budget m) l in
+    RanBy (fileOf (contextOf context) bytes) budget m r m′ → RunOf bytes budget m r m′
+run-of {context} l {bytes} {budget} {m} {m′} {r} f =
+    let e : ranAt r m′ ≡ runOf rules.standard bytes budget m =
+    f .is ∙ by-reading _ (contextOf context) bytes refl budget m ∙ ap (λ z. runOf z bytes budget m) l in
     record {
       answer = ap (λ x. x .answer) e;
       steps = ap (λ x. x .steps) e;
       scalars-left = ap (λ x. x .store .scalars) e;
       values-left = ap (λ x. x .store .values) e;
-      exact = runner context.standard bytes budget m;
+      exact = runner rules.standard bytes budget m;
     }

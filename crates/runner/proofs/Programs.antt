@@ -12,8 +12,8 @@ use Rattle.layout.specs.File.{File, wordsRead}
 use Rattle.execution.specs.Lent.{Lent}
 use Rattle.execution.specs.Run.{run}
 use Rattle.execution.specs.Ran.{notRun, ranOf, wellSized, runFile}
-use Rattle.reader.specs.Walk.{limitsOf}
-use Rattle.reader.specs.declared.Limits.{Limits}
+use Rattle.context.specs.Contexts.{contextOf}
+use Rattle.context.specs.declared.Context.{Context}
 use Rattle.run.specs.Steps.{endAt}
 use Rattle.run.specs.Places.{CanRun, RunsAs}
 use Rattle.run.specs.declared.End.{End}
@@ -55,21 +55,21 @@ bounded-report : (e : End) (m : Lent) (n : ℕ) → Bounded n (endAt e m) → Ca
 bounded-report (Ended l) m n b = b
 bounded-report (Stopped k p l) m n b = b
 
-module _ {w ends : List ℕ} {limits : Limits} (c : CanRunFile w ends limits) (budget : ℕ) (m : Lent) where
+module _ {w ends : List ℕ} {x : Context} (c : CanRunFile w ends x) (budget : ℕ) (m : Lent) where
   by-file : {r : Ran} {m′ : Lent} → ranAt r m′ ≡ runFile (c .tree) budget m →
-      RanBy (wordsRead (limitsOf limits) w) budget m r m′
+      RanBy (wordsRead (contextOf x) w) budget m r m′
   by-file h = record { is = h ∙ ap (λ x. ranBy x budget m) (sym (c .was-read)) }
 
   pub over-budget : {r : Ran} → 1000000 < budget → r ≡ refusedAt 10 0 →
-      RanBy (wordsRead (limitsOf limits) w) budget m r m
+      RanBy (wordsRead (contextOf x) w) budget m r m
   over-budget l e = by-file (ap (λ r. ranAt r m) e ∙ sym (over-is (c .tree) budget m l))
 
   pub ill-scalars : {r : Ran} → budget ≤ 1000000 → (length (m .scalars) ≡ 32 → ⊥) → r ≡ refusedAt 11 0 →
-      RanBy (wordsRead (limitsOf limits) w) budget m r m
+      RanBy (wordsRead (contextOf x) w) budget m r m
   ill-scalars l h e = by-file (ap (λ r. ranAt r m) e ∙ sym (ill-is (c .tree) budget m l (no-scalars m h)))
 
   pub ill-values : {r : Ran} → budget ≤ 1000000 → length (m .scalars) ≡ 32 → (length (m .values) ≡ 2048 → ⊥) →
-      r ≡ refusedAt 11 0 → RanBy (wordsRead (limitsOf limits) w) budget m r m
+      r ≡ refusedAt 11 0 → RanBy (wordsRead (contextOf x) w) budget m r m
   ill-values l k h e = by-file (ap (λ r. ranAt r m) e ∙ sym (ill-is (c .tree) budget m l (no-values m k h)))
 
   pub can-run : length (m .scalars) ≡ 32 → length (m .values) ≡ 2048 → CanRun w ends m 1
@@ -90,6 +90,6 @@ module _ {w ends : List ℕ} {limits : Limits} (c : CanRunFile w ends limits) (b
 
     pub reported : {r : Ran} → budget ≤ 1000000 → length (m .scalars) ≡ 32 → length (m .values) ≡ 2048 →
         Reports e budget r →
-        RanBy (wordsRead (limitsOf limits) w) budget m r m′
+        RanBy (wordsRead (contextOf x) w) budget m r m′
     reported l k h g =
         by-file (g .is m′ ∙ ap (ranOf budget) came ∙ sym (run-is (c .tree) budget m l (both-sized m k h)))

@@ -14,10 +14,10 @@ use Rattle.language.specs.Syntax.{Expr, Assignment, toScalar, toArray, scalar, 
 use Rattle.language.specs.Syntax.{skip, sequence, assert, assign, ifElse, while, for}
 use Rattle.language.specs.Runs.{start, increment}
 use Rattle.rules.specs.Words.{words, commandWords}
-use Rattle.rules.specs.Context.{Limits, standard}
+use Rattle.rules.specs.Context.{Context, standard}
 use Rattle.layout.specs.Bytes.{wordsOf}
 use Rattle.layout.specs.Reading.{read}
-use Rattle.layout.specs.EvidenceWords.{joined, setPart, flowPart}
+use Rattle.layout.specs.EvidenceWords.{joined, setPart, treePart}
 use Rattle.layout.specs.File.{File, badLength, fileOf}
 use Rattle.layout.proofs.WholeFile.{file-spelled}
 use Rattle.execution.specs.Lent.{Lent, storeOf}
@@ -26,6 +26,7 @@ use Rattle.execution.specs.Run.{End, ended, stopped, onEnded, step, given, assi
 use Rattle.execution.specs.Ran as definition
 use Rattle.execution.specs.Ran.{ranOf, runOf}
 use Rattle.execution.proofs.Order.{Judged, not-read, over-budget, ill-sized, is-run, judged}
+use Rattle.context.specs.declared.Refusal.{Refusal}
 use Rattle.runner.specs.Ran.{answerOf, RunOf}
 use Rattle.runner.specs.Packed.{codeOf, packedRan, PackedRun}
 use Rattle.runner.specs.Running.{ranAt, SmallAnswer, SmallRan, CanPack}
@@ -113,20 +114,20 @@ run-placed (for q r c) b at n m h =
     (run-placed c b (at + 1) k m″ (omega arith))
     (λ i j. assigns-placed b (increment q) at i j (omega arith))) l m′)
 
-module _ (limits : Limits) (bytes : List ℕ) where
+module _ (Γ : Context) (bytes : List ℕ) where
   -- the command of a file that was read stands within 8,192 words
-  program-small : (f : File) (p : ℕ) → fileOf limits bytes ≡ read f p → 1 + length (commandWords (f .program)) ≤ 8192
+  program-small : (f : File) (p : ℕ) → fileOf Γ bytes ≡ read f p → 1 + length (commandWords (f .program)) ≤ 8192
   unfolding joined
   program-small f p e = go (badLength bytes) refl
     where
       go : (t : Bool) → badLength bytes ≡ t → 1 + length (commandWords (f .program)) ≤ 8192
-      go true t = let h = sym (bad-file limits bytes t) ∙ e in never (cc)
+      go true t = let h = sym (bad-file Γ bytes t) ∙ e in never (cc)
       go false t =
-          let h = sym (good-file limits bytes t) ∙ e in
-          let x = file-spelled limits (wordsOf bytes) f p h .spelled .whole in
+          let h = sym (good-file Γ bytes t) ∙ e in
+          let x = file-spelled Γ (wordsOf bytes) f p h .spelled .whole in
           let l = few-words bytes t in
           let a = length-append (commandWords (f .program))
-          (joined (setPart limits (f .pre) ∷ setPart limits (f .post) ∷ flowPart limits (f .evidence) ∷ [])) in
+          (joined (setPart Γ (f .pre) ∷ setPart Γ (f .post) ∷ treePart Γ (f .evidence) ∷ [])) in
           omega arith
 
 -- ---- the answer
@@ -134,15 +135,15 @@ ran-small : (budget : ℕ) (e : End) → budget ≤ 1000000 → Placed 8193 e �
 ran-small budget (ended n m) l h = record { few = omega arith; near = tt }
 ran-small budget (stopped k p n m) l h = record { few = omega arith; near = omega arith }
 
-pub small-ran : (limits : Limits) (bytes : List ℕ) (budget : ℕ) (m : Lent) → SmallRan (runOf limits bytes budget m)
-small-ran limits bytes budget m = go (judged limits bytes budget m)
+pub small-ran : (Γ : Context) (bytes : List ℕ) (budget : ℕ) (m : Lent) → SmallRan (runOf Γ bytes budget m)
+small-ran Γ bytes budget m = go (judged Γ bytes budget m)
   where
-    go : {r : definition.Ran} → Judged limits bytes budget m r → SmallRan r
-    go (not-read e) = record { few = omega arith; near = subst (FaultBy 8192) e (file-fault limits bytes) .1 }
+    go : {r : definition.Ran} → Judged Γ bytes budget m r → SmallRan r
+    go (not-read e) = record { few = omega arith; near = subst (FaultBy 8192) e (file-fault Γ bytes) .1 }
     go (over-budget e l) = record { few = omega arith; near = omega arith }
     go (ill-sized e l h) = record { few = omega arith; near = omega arith }
     go (is-run {f} {p} e l h) =
-        let k = program-small limits bytes f p e in
+        let k = program-small Γ bytes f p e in
         ran-small budget (run (f .program) 1 budget m) l (run-placed (f .program) 8193 1 budget m (omega arith))
 
 module _ {bytes : List ℕ} {budget : ℕ} {m m′ : Lent} {r : Ran} (f : RunOf bytes budget m r m′) where
@@ -171,9 +172,9 @@ packs-done s e = more (s * 4294967296) ∙ packs s e
     more : (n : ℕ) → n ≡ n + 0
     more n = omega arith
 
-pub packs-refused : (s : ℕ) {a : Answer} {k p : ℕ} → a ≡ Refused k p →
-    s * 4294967296 + (k * 65536 + p) ≡ s * 4294967296 + codeOf (answerOf a)
+pub packs-refused : (s : ℕ) {a : Answer} {x : Refusal} → a ≡ Refused x →
+    s * 4294967296 + (x .number * 65536 + x .place) ≡ s * 4294967296 + codeOf (answerOf a)
 packs-refused s e = packs s e
 
-pub refused-near : {a : Answer} {k p : ℕ} → SmallAnswer (answerOf a) → a ≡ Refused k p → p ≤ 8192
+pub refused-near : {a : Answer} {x : Refusal} → SmallAnswer (answerOf a) → a ≡ Refused x → x .place ≤ 8192
 refused-near h e = subst (λ a. SmallAnswer (answerOf a)) e h

@@ -17,7 +17,7 @@ use Rattle.runner.specs.declared.Ran.{Ran}
 
 abbrev pub answerOf : Answer → definition.Answer
 answerOf Done = done
-answerOf (Refused k p) = refused k p
+answerOf (Refused x) = refused (x .number) (x .place)
 
 pub record RunOf (bytes : List ℕ) (budget : ℕ) (m : Lent) (r : Ran) (m′ : Lent) : Type 0 where
   pub answer : answerOf (r .answer) ≡ (runOf standard bytes budget m) .answer

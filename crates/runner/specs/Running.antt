@@ -16,8 +16,8 @@ use Rattle.execution.specs.Lent.{Lent}
 use Rattle.execution.specs.Ran as definition
 use Rattle.execution.specs.Ran.{notRun, ranOf, runFile}
 use Rattle.ends.specs.Ends.{EndsOf}
-use Rattle.reader.specs.Walk.{limitsOf}
-use Rattle.reader.specs.declared.Limits.{Limits}
+use Rattle.context.specs.Contexts.{contextOf, refusal}
+use Rattle.context.specs.declared.Context.{Context}
 use Rattle.reader.specs.declared.Layout.the-variants as Layout
 use Rattle.heads.specs.Stands.{PartAt}
 use Rattle.run.specs.Steps.{endAt}
@@ -31,7 +31,7 @@ abbrev pub ranAt : Ran → Lent → definition.Ran
 ranAt r m = record { answer = answerOf (r .answer); steps = r .steps; store = m }
 
 abbrev pub refusedAt : ℕ → ℕ → Ran
-refusedAt k p = record { answer = Refused k p; steps = 0 }
+refusedAt k p = record { answer = Refused (refusal k p); steps = 0 }
 
 abbrev pub ranBy : Reading File → ℕ → Lent → definition.Ran
 ranBy (read f p) budget m = runFile f budget m
@@ -48,11 +48,11 @@ CanReport (Stopped k p n) budget = n ≤ budget
 pub record Reports (e : End) (budget : ℕ) (r : Ran) : Type 0 where
   pub is : (m : Lent) → ranAt r m ≡ ranOf budget (endAt e m)
 
-pub record CanRunFile (file ends : List ℕ) (limits : Limits) : Type 0 where
+pub record CanRunFile (file ends : List ℕ) (x : Context) : Type 0 where
   pub ends-of : EndsOf file ends
   pub tree : File
   pub end : ℕ
-  pub was-read : wordsRead (limitsOf limits) file ≡ read tree end
+  pub was-read : wordsRead (contextOf x) file ≡ read tree end
   pub program : PartAt file (commandPart (tree .program)) 1 (tree .preAt)
 
 -- the steps and the place of an answer are small, so that it can be packed

@@ -2,7 +2,8 @@
 // without judging the evidence.
 mod program; // program.rt: refusals 1 to 7 and 10 to 15 in order
 
-use file::standard_limits;
+use context::Refusal;
+use file::standard_context;
 use program::run_bytes;
 ghost use mathlib.Core.Path.{_≡_};
 ghost use Rattle.execution.specs.Lent.{Lent, lent};
@@ -10,10 +11,10 @@ ghost use Rattle.runner.specs.Packed.{packedRan, PackedRun};
 ghost use Rattle.runner.specs.Ran.{RunOf};
 ghost use Rattle.runner.specs.Running.{ranAt, CanPack};
 
-// The run ended, or a refusal's number and place.
+// The run ended, or the refusal.
 pub enum Answer {
     Done,
-    Refused(u32, usize),
+    Refused(Refusal),
 }
 
 // The answer, with the steps finished before it.
@@ -27,7 +28,7 @@ pub fn run(file: &[u8], scalars: &mut [i64], values: &mut [i64], budget: usize) 
     ensures { λ r. ⌜ RunOf (now (file .entry)) budget (lent (now (scalars .entry)) (now (values .entry))) r
         (lent (now (scalars .exit)) (now (values .exit))) ⌝ }
 {
-    run_bytes(file, standard_limits(), scalars, values, budget)
+    run_bytes(file, standard_context(), scalars, values, budget)
 }
 
 // The answer as one number.
@@ -39,7 +40,7 @@ fn pack(ran: Ran) -> u64
     let answer = ran.answer;
     match answer {
         Answer::Done => steps,
-        Answer::Refused(number, place) => steps + (number as u64 * 65536 + place as u64),
+        Answer::Refused(refusal) => steps + (refusal.number as u64 * 65536 + refusal.place as u64),
     }
 }
 

@@ -1,14 +1,15 @@
 // Refusals 1 to 7 and 10 to 15 (document 01, "Judging order"), in order.
 use super::Answer;
 use super::Ran;
+use context::Context;
+use context::Refusal;
 use file::read_file;
 use reader::Layout;
-use reader::Limits;
 use run::End;
 use run::command::run_command;
 ghost use mathlib.Core.Path.{_≡_};
 ghost use Rattle.layout.specs.File.{fileOf, wordsRead};
-ghost use Rattle.reader.specs.Walk.{limitsOf};
+ghost use Rattle.context.specs.Contexts.{contextOf};
 ghost use Rattle.execution.specs.Lent.{lent};
 ghost use Rattle.runner.specs.Running.{refusedAt, CanReport, Reports, RanBy, CanRunFile};
 
@@ -17,7 +18,7 @@ fn refused(number: u32, place: usize) -> Ran
     ensures { λ r. ⌜ r ≡ refusedAt number place ⌝ }
 {
     Ran {
-        answer: Answer::Refused(number, place),
+        answer: Answer::Refused(Refusal { number, place }),
         steps: 0,
     }
 }
@@ -33,7 +34,7 @@ fn report(end: End, budget: usize) -> Ran
             steps: budget - left,
         },
         End::Stopped(number, place, left) => Ran {
-            answer: Answer::Refused(number, place),
+            answer: Answer::Refused(Refusal { number, place }),
             steps: budget - left,
         },
     }
@@ -43,13 +44,13 @@ fn report(end: End, budget: usize) -> Ran
 fn run_program(
     w: &[u32],
     ends: &[u32],
-    limits: Limits,
+    context: Context,
     scalars: &mut [i64],
     values: &mut [i64],
     budget: usize,
 ) -> Ran
-    requires { ⌜ CanRunFile (now w) (now ends) limits ⌝ }
-    ensures { λ r. ⌜ RanBy (wordsRead (limitsOf limits) (now (w .entry))) budget
+    requires { ⌜ CanRunFile (now w) (now ends) context ⌝ }
+    ensures { λ r. ⌜ RanBy (wordsRead (contextOf context) (now (w .entry))) budget
         (lent (now (scalars .entry)) (now (values .entry))) r (lent (now (scalars .exit)) (now (values .exit))) ⌝ }
 {
     if 1000000 < budget {
@@ -68,22 +69,22 @@ fn run_program(
 // Refusals 1 to 7, then the rest.
 pub(crate) fn run_bytes(
     file: &[u8],
-    limits: Limits,
+    context: Context,
     scalars: &mut [i64],
     values: &mut [i64],
     budget: usize,
 ) -> Ran
-    ensures { λ r. ⌜ RanBy (fileOf (limitsOf limits) (now (file .entry))) budget
+    ensures { λ r. ⌜ RanBy (fileOf (contextOf context) (now (file .entry))) budget
         (lent (now (scalars .entry)) (now (values .entry))) r (lent (now (scalars .exit)) (now (values .exit))) ⌝ }
 {
     let mut words = [0u32; 8192];
     let mut table = [0u32; 8704];
-    let layout = read_file(file, &mut words, &mut table, limits);
+    let layout = read_file(file, &mut words, &mut table, context);
     match layout {
         Layout::Found(_) => {
             let n = file.len() / 4;
-            run_program(&words[..n], &table, limits, scalars, values, budget)
+            run_program(&words[..n], &table, context, scalars, values, budget)
         }
-        Layout::Refused(number, place) => refused(number, place),
+        Layout::Refused(refusal) => refused(refusal.number, refusal.place),
     }
 }

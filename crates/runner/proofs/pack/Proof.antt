@@ -14,9 +14,19 @@ pack-spec =
     (λ c. search needs)
     (λ c. search needs)
     (λ c. search needs)
-    (λ c. let s = (c .before .before .before) in let h = refused-near (s .pre .near) (c .before .answer .given .1) in
-    let f = s .pre .few in omega arith)
-    (λ c. let s = (c .before .before .before) in let h = refused-near (s .pre .near) (c .before .answer .given .1) in
-    let f = s .pre .few in omega arith)
+    (λ c.
+    let answer = c .before .before in
+    let s = answer .before .before in
+    let h = refused-near (s .pre .near) (answer .answer .given .1) in
+    let f = s .pre .few in
+    omega arith)
+    (λ c.
+    let answer = c .before .before in
+    let s = answer .before .before in
+    let h = refused-near (s .pre .near) (answer .answer .given .1) in
+    let f = s .pre .few in
+    omega arith)
     (λ c. λ m. packs-done ((c .before .before) .args .ran .steps) (c .enum-told .given .1))
-    (λ c. λ m. packs-refused ((c .before .before .before) .args .ran .steps) (c .before .answer .given .1)))
+    (λ c. λ m.
+    let answer = c .before .before in
+    packs-refused (answer .before .before .args .ran .steps) (answer .answer .given .1)))

@@ -12,4 +12,4 @@ run-spec =
     (λ c κs. search needs)
     (λ c. search needs)
     (λ c. search needs)
-    (λ c. run-of (c .before .before .before .before .before .standard-limits .ensures) (c .before .before .run-bytes .ensures)))
+    (λ c. run-of (c .before .before .before .before .before .standard-context .ensures) (c .before .before .run-bytes .ensures)))
