@@ -18,6 +18,7 @@ use lib.Dec.{ltb, leb}
 use lib.ListN.{length, take, length-append}
 use lib.Seq.{paste, take-paste, take-all, length-take-le}
 use Rattle.io.specs.Digits.{glyph, digits, Fewest}
+use Rattle.context.specs.declared.Refusal.{Refusal}
 use Rattle.flow.specs.declared.Verdict.{Verdict}
 use Rattle.flow.specs.declared.Verdict.the-variants.{Accepted, Refused}
 use Rattle.flowcheck.specs.Line.{decimalBy, decimal, acceptedText, refusedText, lineOf, Written}
@@ -144,13 +145,14 @@ accepted-line v {o₂ = o₂} {r = r} n e h p q =
       content = more q (more p refl) ∙ ap lineOf (sym e);
     }
 
-pub refused-line : (v : Verdict) {o₀ o₁ o₂ o₃ : List ℕ} {a b r : ℕ} (k i : ℕ) → v ≡ Refused k i → 64 ≤ length o₀ →
-    Put o₀ 0 refusedText o₁ a → Put o₁ a (decimal k ++ (32 ∷ [])) o₂ b → Put o₂ b (decimal i ++ (10 ∷ [])) o₃ r →
+pub refused-line : (v : Verdict) {o₀ o₁ o₂ o₃ : List ℕ} {a b r : ℕ} (x : Refusal) → v ≡ Refused x → 64 ≤ length o₀ →
+    Put o₀ 0 refusedText o₁ a → Put o₁ a (decimal (x .number) ++ (32 ∷ [])) o₂ b →
+    Put o₂ b (decimal (x .place) ++ (10 ∷ [])) o₃ r →
     Written v o₃ r
 unfolding lineOf
-refused-line v {o₃ = o₃} {r = r} k i e h p q s =
-    let l = number-short k 32 in
-    let m = number-short i 10 in
+refused-line v {o₃ = o₃} {r = r} x e h p q s =
+    let l = number-short (x .number) 32 in
+    let m = number-short (x .place) 10 in
     let inside : r ≤ length o₃ = omega (arith, p .end, p .size, q .end, q .size, s .end, s .size) in
     record {
       inside = inside;

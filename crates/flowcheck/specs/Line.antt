@@ -36,7 +36,7 @@ refusedText = 114 ∷ 101 ∷ 102 ∷ 117 ∷ 115 ∷ 101 ∷ 100 ∷ 32 ∷ []
 -- 32 is a space, and 10 ends a line
 unfoldable pub lineOf : Verdict → List ℕ
 lineOf (Accepted n) = acceptedText ++ (decimal n ++ (10 ∷ []))
-lineOf (Refused k i) = refusedText ++ (decimal k ++ (32 ∷ [])) ++ (decimal i ++ (10 ∷ []))
+lineOf (Refused x) = refusedText ++ (decimal (x .number) ++ (32 ∷ [])) ++ (decimal (x .place) ++ (10 ∷ []))
 
 pub record Written (v : Verdict) (after : List ℕ) (r : ℕ) : Type 0 where
   pub inside : r ≤ length after

@@ -51,10 +51,10 @@ fn write_line(verdict: Verdict, out: &mut [u8]) -> usize
             let next = put(out, 0, b"accepted ");
             put_number(out, next, count as u64, b"\n")
         }
-        Verdict::Refused(number, place) => {
+        Verdict::Refused(refusal) => {
             let next = put(out, 0, b"refused ");
-            let last = put_number(out, next, number as u64, b" ");
-            put_number(out, last, place as u64, b"\n")
+            let last = put_number(out, next, refusal.number as u64, b" ");
+            put_number(out, last, refusal.place as u64, b"\n")
         }
     }
 }

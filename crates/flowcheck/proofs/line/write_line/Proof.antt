@@ -10,12 +10,12 @@ use Rattle.flowcheck.proofs.line.write_line.Tie as tie
 room-for-place : tie.Need-put-number-requires-3
 room-for-place c κs =
     let number = c .before .before .before .before in
-    let word = number .before .before .before .before .before in
+    let word = number .before .before .before .before .before .before in
     let verdict = word .before .before .before .before in
     let start = verdict .before .before .before in
     let n = number .put-number2 .ensures in
     let w = word .put2 .ensures in
-    let l = number-short (verdict .verdict2 .given .0 .0) 32 in
+    let l = number-short (verdict .verdict2 .given .0 .0 .number) 32 in
     record { room = omega (arith, start .pre .room, w .end, w .size, n .end, n .size) }
 
 accepted : tie.Need-returns
@@ -30,10 +30,10 @@ refused : tie.Need-returns-2
 refused c =
     let place = c .before .before in
     let number = place .before .before .before .before .before in
-    let word = number .before .before .before .before .before in
+    let word = number .before .before .before .before .before .before in
     let verdict = word .before .before .before .before in
     let start = verdict .before .before .before in
-    refused-line _ _ _ (verdict .verdict2 .given .1) (start .pre .room) (word .put2 .ensures)
+    refused-line _ _ (verdict .verdict2 .given .1) (start .pre .room) (word .put2 .ensures)
     (number .put-number2 .ensures) (place .put-number3 .ensures)
 
 pub write-line-spec : {M : Type 1} → statement M
