@@ -1,6 +1,6 @@
 -- The goals of a rule's children, by the places of its goal and of its evidence word (document 01, "Rules").
--- Working: the laws of the rule crates (`rule-…` of their proofs) say that the children of the trees that stand there
--- have these goals; the judge judges each child's evidence against them. Assumes nothing.
+-- Working: `flow-rule`, `set-rule` and `pre-rule` of proofs/Comes tie them to the contract of a rule, by which the children
+-- of the trees that stand there have these goals. Assumes nothing.
 --     flowChildren, setChildren, preChildren    by rule
 --     childrenAt, childAt                       of a goal by its rule's number; one of them
 --     judgementOf                               the judgement of a goal

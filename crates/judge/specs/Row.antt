@@ -1,5 +1,5 @@
 -- What is carried, of a row of the table of rules.
--- Working: `past-start`, `past-step` and `past-end` of proofs/Row say that the code's loop comes to it. Assumes nothing.
+-- Working: `past-start`, `past-step` and `past-end` of proofs/Carried say that the code's loop comes to it. Assumes nothing.
 --     isCarried      the first item of a row is carried
 --     PastCarried    past what is carried: the place and the items from there on
 use mathlib.Core.Path.{_≡_}
