@@ -9,13 +9,12 @@ use Rattle.rules.specs.Context.{standard}
 use Rattle.rules.specs.Judge as judge
 use Rattle.layout.specs.Verdict.{verdictOf}
 use Rattle.claims.specs.Check.{Demand2, Demand3}
-use Rattle.context.specs.Contexts.{refusal}
 use Rattle.flow.specs.declared.Verdict.{Verdict}
 use Rattle.flow.specs.declared.Verdict.the-variants.{Accepted, Refused}
 
 abbrev pub answerOf : judge.Verdict → Verdict
 answerOf (judge.accepted n) = Accepted n
-answerOf (judge.refused k i) = Refused (refusal k i)
+answerOf (judge.refused k i) = Refused (record { number = k; place = i })
 
 pub record Checked (bytes : List ℕ) (r : Verdict) : Type 0 where
   pub answer : r ≡ answerOf (verdictOf standard bytes)
