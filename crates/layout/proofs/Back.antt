@@ -1,7 +1,10 @@
 -- What stands in the file by its words and fits is read (document 01, "Layout"): expressions, commands and sets.
 -- Assumes nothing.
---     Back, begun, _⊲_, word-back                one law for each combinator of specs/Reading
+--     Back, begun, _⊲_                                   what is read at a place; leaf and _⊛_
+--     Allowed, some-back, up-to-back, option-back        a word that may stand there: some, upTo, onOption
+--     word-back                                          wordDue, of what stands
 --     expression-stands, command-stands, set-stands      from what stands to what is read
+--     stands-from                                        from what is spelled to what stands
 --     expression-back, command-back, set-back            the same of what is spelled
 use mathlib.Core.Path.{_≡_, refl, sym, _∙_, ap, ap₂, subst}
 use mathlib.Core.Bool.{Bool, true, false}

@@ -1,7 +1,7 @@
 -- Where readings end (document 01, "Judging order" 3 to 5): what was read ends past its start and inside the file, and
 -- a refusal is 3, 4 or 5 at a place from the start on, inside the file or at its end.
 -- Assumes nothing.
---     Bounds                                                       the law, by cases on a reading
+--     BoundsBy, Bounds                                             the law, by cases on a reading
 --     expression-bounds, command-bounds, set-bounds                of these readers
 --     evidence-bounds                                              of evidence
 --     bounds-read, bounds-fault                                    of what was read; of a refusal

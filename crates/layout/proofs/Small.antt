@@ -1,7 +1,8 @@
 -- What stands in a file has payloads of 26 bits, so that each of its words has the kind and the payload spelled.
 -- Assumes nothing.
 --     Small, AllSmall                                 the payload of a word, of each of some words
---     expression-small, command-small, set-small      of what fits
+--     expression-small, command-small                 of what fits
+--     members-small, set-small                        of sets that fit
 --     tree-small                                      of evidence that fits
 --     parts-small                                     of the parts of a file
 --     kindOf, contentOf, kind-at, content-at          the kind and the payload of a word, and of what stands there

@@ -2,7 +2,8 @@
 -- Assumes nothing.
 --     ExpressionAt, CommandAt, SetAt                      it stands from a place up to another and fits
 --     expression-past, command-past, set-past             by cases on the reading, refusals too
---     expression-spelled, command-spelled, set-spelled    of what was read
+--     past-read, spelled                                  of what was read, by any reader
+--     expression-spelled, command-spelled, set-spelled    by these
 use mathlib.Core.Path.{_≡_, refl, sym, subst}
 use mathlib.Core.List.{List, [], _∷_}
 use Prim.Native.Nat.{ℕ, zero, suc, _+_, _/_, _%_, _<_, _≤_}

@@ -12,14 +12,14 @@ use lib.ListN.{length}
 use Rattle.language.specs.Syntax.{Boolean}
 use Rattle.rules.specs.Context.{Context}
 use Rattle.rules.specs.Evidence.{Judgement, Item, assertionItem, commandItem, membersItem, childItem, Row, rules}
-use Rattle.rules.specs.Evidence.{Standing, item, items, Tree, by, done, _&_, Evidence, Parts}
+use Rattle.rules.specs.Evidence.{Standing, item, Tree, by, _&_, Evidence, Parts}
 use Rattle.layout.specs.Bytes.{wordCount}
 use Rattle.layout.specs.Reading.{read, Reader}
 use Rattle.layout.specs.ReadEvidence.{evidenceKind, ruleOf, itemReader, partsReader, evidence}
 use Rattle.layout.specs.Spelling.{SpelledAt}
 use Rattle.layout.specs.EvidenceWords.{Part, spelledTree, FitsTree, treePart}
 use Rattle.layout.specs.Standing.{PartStands}
-use Rattle.layout.proofs.Words.{Found, word-found}
+use Rattle.layout.proofs.Words.{word-found}
 use Rattle.layout.proofs.Stands.{both, parted, stands-end}
 use Rattle.layout.proofs.Yields.{Optional, nothing, something, entry, on-option}
 use Rattle.layout.proofs.Yields.{Yields, Past, past-yields, start, _▹_, level-past, due-past}

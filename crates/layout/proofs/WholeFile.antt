@@ -1,8 +1,11 @@
 -- A whole file is read exactly when its words are those of its parts (document 01, "Judging order" 2 to 7).
 -- Assumes nothing.
---     parts-yields, parts-fault      the parts after the first word: what is read; a refusal
+--     PartsTo                        the parts after the first word stand and fit
+--     parts-yields, parts-stood      what is read of them
+--     parts-fault                    a refusal
 --     parts-stand                    and back
 --     FileRead                       what refusals 2 to 7 leave
+--     parts-inside                   the parts end inside the file
 --     file-spelled, file-back        a file that is read, and back
 use mathlib.Core.Path.{_≡_, refl, sym, _∙_, ap, subst, subst₂}
 use mathlib.Core.Bool.{Bool, true, false}

@@ -1,11 +1,14 @@
 -- What readers yield: one law for each combinator of specs/Reading, for what was read and for refusals 3 to 5 together.
 -- Assumes nothing.
+--     IfThere, Optional, nothing, something     an entry of a table, where there is one
+--     entry, up-to, on-option                   the tables: allow, upTo, onOption
 --     FaultAt              a refusal 3, 4 or 5 at a place from `at` on, inside the file or at its end
---     Yields, Past         what was read is as said and ends at `at` or later; ends later and inside the file
+--     Reach                a place from `at` on, inside the file if `at` is
+--     YieldsBy, Yields     what was read is as said and ends at `at` or later
+--     PastBy, Past         .. ends later and inside the file
 --     past-yields, yields-map      the weaker; of a weaker statement
 --     start, _▹_, several-yields, level-past, due-past     leaf, _⊛_, several, noLevel, wordDue
 --     yields-here                                          the place at hand
---     Optional, entry, up-to, on-option                    the tables: allow, upTo, onOption
 use mathlib.Core.Path.{_≡_, refl, ap}
 use mathlib.Core.Bool.{Bool, true, false, cond}
 use mathlib.Core.List.{List, [], _∷_}

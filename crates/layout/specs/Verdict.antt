@@ -3,6 +3,7 @@
 --     judged, verdictOf                      refusals 8 and 9 of a file that was read; 1 to 9 of bytes
 --     bytesBetween, partOf                   the bytes of the words between two places; a part of an accepted file
 --     precondition, postcondition            that part of the caller's bytes; empty if the file is refused
+--     packedPlaces                           two places as one number
 --     programPlaces, preconditionPlaces, postconditionPlaces
 --                                            the places of a part, as one number
 --     packed                                 the number that the C call answers

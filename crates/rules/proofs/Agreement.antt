@@ -1,11 +1,15 @@
 -- Agreement as sets demand.
 -- Assumes nothing.
+--     antecedent-value, consequent-value      sides that are the same have one value
+--     one-value, across                       equal values agree; values that agree, by equal ones
 --     same-holds, standing, agree-within      members that are the same; that stand in a set; sets within one another
+--     agree-same, agree-back                  sets that are the same
 --     agree-left, agree-right, agree-both     of two sets together
 --     agree-under, under-agree                of a set under a test
 --     agree-without                           of a set without another
 --     agree-operands                          rule 19 of sets
---     agree-replaced, agree-kept              after an assignment; where nothing is modified
+--     agree-replaced                          after an assignment
+--     kept-value, consequent-kept, agree-kept where nothing is modified: a value, a consequent, a set
 use mathlib.Core.Path.{_≡_, refl, sym, _∙_, ap, ap₂, subst, subst₂}
 use mathlib.Core.Bool.{Bool, true, false, not, _&&_, _||_, cond}
 use mathlib.Core.List.{List, [], _∷_, _++_}

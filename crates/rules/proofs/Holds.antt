@@ -3,8 +3,8 @@
 --     tally, Everywhere                  the count of evidence words; a statement about the place of each
 --     Holding                            what is asked of a statement about verdicts with a number
 --     pre-holds, set-holds, flow-holds   it holds of the verdict of evidence, with its count
-use mathlib.Core.Path.{_≡_, refl, subst, sym}
-use mathlib.Core.List.{List, [], _∷_}
+use mathlib.Core.Path.{_≡_, subst, sym}
+use mathlib.Core.List.{[], _∷_}
 use mathlib.Core.Option.{Option, none, some}
 use Prim.Native.Nat.{ℕ, suc, _+_}
 use native.Mathlib.Omega.{arith}

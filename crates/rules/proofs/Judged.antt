@@ -1,6 +1,7 @@
 -- The judge accepts exactly the derivations: evidence is accepted for a goal when, and only when, it derives the goal.
 -- Assumes nothing.
 --     Accepts                                          a verdict that is an acceptance
+--     Exact                                            accepted exactly when a statement holds
 --     necessary-judged, follows-judged, flow-judged    accepted exactly when derived
 use mathlib.Core.Path.{_≡_, refl, sym, subst}
 use mathlib.Core.List.{[], _∷_}
@@ -207,8 +208,12 @@ module _ (Γ : Context) where
       assert-is (Word i) _ (misfits i) (λ c. Flow Γ (by flow5 i done) p c q) c _ h λ b h.
       word-is i _ _ h λ g u. rule-5 (test-passes (same-decides p _) .sound g)
   flow-sound (by flow6 i (members s & members t & assertion φ₀ & child k & child l & child n & done)) p c q h =
-      if-is (Word i) _ (misfits i) (λ d. c ≡ d → Flow Γ (by flow6 i (members s & members t & assertion φ₀ & child k & child l & child n & done)) p d q) c _ h (λ b c₁ c₂ h e.
-      one-is (Word i) _ (misfits i) (λ r. q ≡ r → Flow Γ (by flow6 i (members s & members t & assertion φ₀ & child k & child l & child n & done)) p (ifElse b c₁ c₂) r) q _ h (λ m h e′.
+      if-is (Word i) _ (misfits i)
+      (λ d. c ≡ d → Flow Γ (by flow6 i (members s & members t & assertion φ₀ & child k & child l & child n & done)) p d q)
+      c _ h (λ b c₁ c₂ h e.
+      one-is (Word i) _ (misfits i)
+      (λ r. q ≡ r → Flow Γ (by flow6 i (members s & members t & assertion φ₀ & child k & child l & child n & done)) p (ifElse b c₁ c₂) r)
+      q _ h (λ m h e′.
       word-is i _ _ h λ g h. also-is _ _ h λ u h. also-is _ _ h λ v w.
       rule-6 (test-passes (same-decides p _) .sound g)
       (subst (Flow Γ k s c₁) e′ (flow-sound k s c₁ q u)) (subst (Flow Γ l t c₂) e′ (flow-sound l t c₂ q v))
@@ -231,7 +236,8 @@ module _ (Γ : Context) where
       let both = then-passes (test-passes (sameConsequent-decides (m .consequent) (m′ .consequent)))
       (test-passes (unmodified-decides (identifiers (m .consequent)) c)) .sound g in
       rule-11 (both .0) (both .1) (necessary-sound n _ c _ u)
-  flow-sound (by flow12 i (members s & members s′ & assertion φ & assertion φ′ & child k & child n & done)) p c q h = word-is i _ _ h λ g h. also-is _ _ h λ u v.
+  flow-sound (by flow12 i (members s & members s′ & assertion φ & assertion φ′ & child k & child n & done)) p c q h =
+      word-is i _ _ h λ g h. also-is _ _ h λ u v.
       let both = then-passes (test-passes (same-decides p _)) (test-passes (same-decides q _)) .sound g in
       rule-12 (both .0) (both .1) (flow-sound k s c s′ u) (necessary-sound n φ c φ′ v)
   flow-sound (by flow13 i (child k & done)) p c q h =

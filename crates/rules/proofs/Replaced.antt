@@ -4,6 +4,7 @@
 --     seen                 the store that a replacement stands for
 --     replaced             an expression
 --     seen-replacement     the right side for the identifier stands for the assignment
+--     replaced-assigned    an expression after an assignment
 use mathlib.Core.Path.{_≡_, refl, _∙_, ap, ap₂}
 use mathlib.Core.Bool.{Bool, true, false, not, _&&_, _||_, cond}
 use lib.Dec.{eqb}

@@ -1,8 +1,9 @@
 -- Words taken from the last to the first, on a stack of trees, give back the trees that they spell.
 -- Assumes nothing.
 --     operatorOf, comparisonOf, truthOf    payloads back
---     Tree, tree, commandTree              a tree of any sort
---     kinds, push, treesOf                 words by their kinds; a word on a stack; the trees that words spell
+--     Tree, fields, tree, commandTree      a tree of any sort
+--     treeAt                               a tree of a stack
+--     kinds, replace, push, treesOf        words by their kinds; a word on a stack; the trees that words spell
 --     Spells, spells-before                words put a tree on any stack; before any other words
 --     words-spell, command-spells          the words of an expression, of a command do so with it
 use mathlib.Core.Path.{_≡_, refl, _∙_, ap}

@@ -1,6 +1,7 @@
 -- One tree has a given spelling (document 01 compares trees by their words).
 -- Assumes nothing.
 --     expressionOf, expressionOf-words        the expression that words spell
+--     AnyExpr                                 an expression with its sort
 --     words-unique, same-tree                 two expressions with one spelling are one, of one sort
 --     expression-unique, expression-prefix    the same within a sort; before any other words
 --     command-unique, command-prefix          two commands with one spelling are one; before any other words

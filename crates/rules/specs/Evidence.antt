@@ -2,7 +2,8 @@
 -- the rule carries and its children stand after it.
 -- Trusted. Assumes nothing.
 --     Judgement, Item      the three kinds of evidence; what may stand after an evidence word
---     Rule, Row, rules     the table of rules; a row of it; every rule of a judgement
+--     Rule                 the table of rules
+--     Row, row, rules      a row of it, of a rule; every rule of a judgement
 --     Standing, Tree       evidence, a part or parts, as trees
 --     Evidence, Parts      evidence of a judgement; parts by their items
 --     FlowEvidence, SetEvidence, PreEvidence    evidence of kinds 33, 34 and 35

@@ -1,6 +1,7 @@
 -- "Implies" of document 01's rules: over the distinct comparisons of both sides, by words, no more than the limit.
 -- Trusted. Assumes nothing.
 --     truthUnder          a boolean's value where each comparison, by its words, is given true or false
+--     amongWords          words that are listed
 --     comparisons         the comparisons of a boolean that are not yet listed, with the list
 --     distinct            the distinct comparisons of two booleans
 --     Implies             the sentence

@@ -4,8 +4,10 @@
 --     Verdict                         accepted, with a count of evidence words; or refused, with number and place
 --     _also_                          children in order
 --     Step, misfit, leaf              what a rule comes to: its conditions' result, and its children's verdict
---     judgeWord                       an evidence word by what its rule comes to: the one place of 8 and 9
---     Judge, GivenItems, Given        how evidence is judged against a goal; what a rule is given of its parts
+--     oneMore, judgeWord              an evidence word by what its rule comes to: the one place of 8 and 9
+--     Judge, GivenItem, GivenItems    how evidence is judged against a goal; what a rule is given of its parts
+--     Takes, applied                  a rule as what takes these one after the other
+--     Given                           what any tree gives to the rule above it
 --     preRule, setRule, flowRule      the rules
 --     judge                           evidence against a goal
 --     judgePre, judgeSet, judgeFlow   the same by kind

@@ -6,7 +6,7 @@
 --     Sets          sets compared and made
 --     Implies       the implication over distinct comparisons
 --     Tests         the statements of Sets and Implies as tests; laws tie them
---     Evidence      evidence as trees
+--     Evidence      the table of rules, and evidence as trees
 --     Derivation    the rules, a constructor each
 --     Condition     conditions as tests, with three results
 --     Judge         the judging of evidence in file order

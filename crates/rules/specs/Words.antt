@@ -1,8 +1,11 @@
 -- The words of expressions and commands in prefix order, and sameness by words (document 01, "Layout").
 -- Trusted. Assumes nothing.
 --     Word                     a word by its kind and payload
---     operatorPayload ..       the payloads of kinds 3, 8 and 9; the words of an assignment
---     words, commandWords      the words of an expression, of a command
+--     operatorPayload, comparisonPayload, truthPayload
+--                              the payloads of kinds 3, 8 and 9
+--     words                    the words of an expression
+--     assignmentWords, commandWords
+--                              of an assignment, of a command
 --     sameWord, sameWords      equality of words, as tests
 use mathlib.Core.Bool.{Bool, true, false, _&&_}
 use mathlib.Core.List.{List, [], _∷_, _++_}
