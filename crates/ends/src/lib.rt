@@ -36,11 +36,11 @@ pub fn end_at(ends: &[u32], at: usize) -> usize
 }
 
 // The same of any place: 0 past the list.
-pub fn end_or_zero(ends: &[u32], at: usize) -> usize
-    ensures { λ r. ⌜ r ≡ getD (now (ends .entry)) «at» 0 ⌝ }
+pub fn end_or_zero(ends: &[u32], place: usize) -> usize
+    ensures { λ r. ⌜ r ≡ getD (now (ends .entry)) place 0 ⌝ }
 {
-    if at < ends.len() {
-        let e = ends[at];
+    if place < ends.len() {
+        let e = ends[place];
         e as usize
     } else {
         0

@@ -3,13 +3,13 @@
 --     carriedOff                   the items of a row past what is carried
 --     flow-count, set-count, pre-count    a rule has as many goals for children as its row has items past what is carried
 --     RowIs, row-is                the row of the rule at the evidence word of a goal that stands
-use mathlib.Core.Path.{_≡_, refl, sym, ap, _∙_}
-use mathlib.Core.List.{List, [], _∷_}
-use Prim.Native.Nat.{ℕ, suc}
+use mathlib.Core.Path.{_≡_, refl, ap, _∙_}
+use mathlib.Core.List.{List}
+use Prim.Native.Nat.{ℕ}
 use lib.ListN.{length}
 use Rattle.rules.specs.Context.{Context}
 use Rattle.rules.specs.Evidence as tree
-use Rattle.rules.specs.Evidence.{Judgement, Item, assertionItem, commandItem, membersItem, childItem, Rule, by, flow1}
+use Rattle.rules.specs.Evidence.{Item, Rule, by, flow1}
 use Rattle.rules.specs.Evidence.{flow2, flow3, flow4, flow5, flow6, flow7, flow8, flow9, flow10, flow11, flow12}
 use Rattle.rules.specs.Evidence.{flow13, flow14, set13, set14, set15, set16, set17, set18, set19, pre20, pre21, pre22}
 use Rattle.rules.specs.Evidence.{pre23, pre24, pre25, pre26, pre27, pre28, pre29, pre30}

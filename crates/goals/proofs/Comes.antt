@@ -3,7 +3,7 @@
 --     tested-result                             the condition of a test
 --     no-children, one-child, two-children, three-children    the goals of the children, from their verdict
 --     fails-comes, misfit-comes                 conditions that fail; a form that does not fit
---     comes, leaf-comes, test-comes             conditions by their result; with no children; by a test
+--     comes, test-comes                         conditions by their result; by a test
 --     then-passes, then-fails                   a test, and then further conditions
 --     flow-rule, set-rule, pre-rule             a rule's contract, from what it comes to for the trees of its goal
 use mathlib.Core.Path.{_≡_, refl, sym, ap, subst, _∙_}
@@ -18,14 +18,14 @@ use Rattle.rules.specs.Context.{Context}
 use Rattle.rules.specs.Evidence as tree
 use Rattle.rules.specs.Evidence.{Row, rules, Parts}
 use Rattle.rules.specs.Condition.{Result, fails, test, _then_}
-use Rattle.rules.specs.Judge.{Verdict, accepted, refused, _also_, Step, step, misfit, leaf, applied}
+use Rattle.rules.specs.Judge.{Verdict, accepted, refused, _also_, Step, step, misfit, applied}
 use Rattle.rules.specs.Judge.{flowRule, setRule, preRule, judge}
 use Rattle.layout.specs.Bytes.{payloadAt}
 use Rattle.layout.specs.ReadEvidence.{ruleOf}
 use Rattle.ends.specs.Ends.{EndsOf}
 use Rattle.implication.specs.Sides.{resultOf}
 use Rattle.implication.specs.declared.Condition.{Condition}
-use Rattle.implication.specs.declared.Condition.the-variants.{Passes, Fails, TooLarge}
+use Rattle.implication.specs.declared.Condition.the-variants.{Passes, Fails}
 use Rattle.goals.specs.declared.Goal.{Goal}
 use Rattle.goals.specs.declared.Goal.the-variants.{Flow, Set, Pre}
 use Rattle.goals.specs.Places.{WrittenAt, CommandAt, SetAt}
@@ -33,7 +33,7 @@ use Rattle.goals.specs.Children.{childrenAt, pastCarried}
 use Rattle.goals.specs.Conditions.{conditionOf}
 use Rattle.goals.specs.Goals.{TreeGoal, verdict, GoalStands, flow-stands, set-stands, pre-stands, ChildrenOf, ComesTo}
 use Rattle.goals.specs.Goals.{flow, set, pre, treeStep, treeItems, StepOf}
-use Rattle.goals.proofs.Evidence.{Placed, placed, OfRow, evidence-of}
+use Rattle.goals.proofs.Evidence.{Placed, placed, evidence-of}
 
 pub tested-result : (b : Bool) → resultOf (conditionOf b) ≡ test b
 unfolding test

@@ -4,7 +4,7 @@
 --     goal-inside           evidence ends inside the file
 --     goal-place, goal-low  its word, and the places of its goal, are in the file
 --     goal-level            evidence takes a level
-use mathlib.Core.Path.{_≡_, sym, _∙_}
+use mathlib.Core.Path.{_≡_}
 use mathlib.Core.List.{List}
 use Prim.Native.Nat.{ℕ, zero, suc, _+_, _<_, _≤_}
 use native.Mathlib.Omega.{arith}
@@ -20,7 +20,6 @@ use Rattle.layout.proofs.Counted.{count-length, Counts, tree-tally, flow-counts
 use Rattle.goals.specs.declared.Goal.{Goal}
 use Rattle.goals.specs.Goals.{TreeGoal, verdict, GoalStands, flow-stands, set-stands, pre-stands}
 use Rattle.goals.proofs.Places.{written-inside, command-inside, set-inside}
-use Rattle.compare.specs.Places.{endAt}
 use Rattle.compare.proofs.Operands.{Inside}
 use Rattle.judge.specs.Going.{Low}
 

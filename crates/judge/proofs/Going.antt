@@ -13,17 +13,15 @@
 use mathlib.Core.Path.{_≡_, refl, sym, ap, subst, _∙_}
 use mathlib.Core.Bool.{Bool, true, false, cond}
 use mathlib.Core.List.{List, [], _∷_}
-use Prim.Native.Nat.{ℕ, zero, suc, _+_, _*_, _-_, _/_, _<_, _≤_}
+use Prim.Native.Nat.{ℕ, zero, suc, _+_, _-_, _/_, _<_, _≤_}
 use native.Mathlib.Omega.{arith}
-use native.Mathlib.Numerals.{add-one}
 use lib.Dec.{eqb}
 use lib.ListN.{length, getD, drop}
 use Rattle.rules.specs.Context.{Context}
-use Rattle.rules.specs.Condition.{passes, fails, tooLarge}
 use Rattle.rules.specs.Evidence.{Item, by}
-use Rattle.rules.specs.Judge.{Verdict, accepted, refused, oneMore, _also_, Step, step, judgeWord, judge}
+use Rattle.rules.specs.Judge.{Verdict, accepted, refused, oneMore, _also_, step, judgeWord, judge}
 use Rattle.layout.specs.Bytes.{payloadAt}
-use Rattle.layout.specs.EvidenceWords.{FitsTree, spelledTree}
+use Rattle.layout.specs.EvidenceWords.{FitsTree}
 use Rattle.words.specs.Rows.{packed, rowOf}
 use Rattle.words.proofs.RowItems.{no-item, digit-rest}
 use Rattle.implication.specs.Sides.{resultOf}
@@ -34,8 +32,8 @@ use Rattle.goals.specs.declared.Goal.{Goal}
 use Rattle.goals.specs.declared.Goal.the-variants.{Flow, Set, Pre}
 use Rattle.goals.specs.declared.Judged.{Judged}
 use Rattle.goals.specs.declared.Judged.the-variants.{Accepted, Refused}
-use Rattle.goals.specs.Children.{ofRule, flowChildren, setChildren, preChildren, childrenAt, childAt, judgementOf, carriedOff, pastCarried}
-use Rattle.goals.specs.Goals.{TreeGoal, verdict, verdicts, treeStep, treeItems, GoalStands, GoalsStand, ChildrenOf}
+use Rattle.goals.specs.Children.{ofRule, flowChildren, setChildren, preChildren, childrenAt, childAt, judgementOf, carriedOff}
+use Rattle.goals.specs.Goals.{TreeGoal, verdict, verdicts, treeStep, treeItems, GoalStands, GoalsStand}
 use Rattle.goals.specs.Goals.{flow, set, pre, flow-stands, set-stands, pre-stands, CanStep, StepOf, judgedOf, CanJudge, JudgedOf}
 use Rattle.goals.proofs.Children.{row-is}
 use Rattle.flow_rules.specs.Children as flows

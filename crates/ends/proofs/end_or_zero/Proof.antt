@@ -18,6 +18,6 @@ end-or-zero-spec =
     (tie.spec
     (λ c. search needs)
     (λ c. search needs)
-    (λ c. omega (arith, c .shared-slice-known .given (c .before .before .args .at)))
+    (λ c. omega (arith, c .shared-slice-known .given (c .before .before .args .place)))
     (λ c. search needs)
     (λ c. past (c .before .args .ends .now) _ (c .if1 .left)))
