@@ -14,7 +14,7 @@ use Rattle.language.specs.Syntax.{Arithmetic, Expr}
 use Rattle.language.specs.Store.{sameInteger, value}
 use Rattle.rules.specs.Context.{standard}
 use Rattle.rules.specs.Judge.{Verdict, accepted, refused}
-use Rattle.layout.specs.Bytes.{wordsOf}
+use Rattle.layout.specs.Bytes.{wordsOf, payloads}
 use Rattle.layout.specs.Reading.{Reading, read, fault}
 use Rattle.layout.specs.Read.{expression}
 use Rattle.layout.specs.Verdict.{verdictOf}
@@ -25,7 +25,7 @@ use Rattle.execution.specs.Ran.{Answer, done, refused as stops, Ran, runOf}
 abbrev pub bytesOf : List (ℕ × ℕ) → List ℕ
 bytesOf [] = []
 bytesOf (w ∷ l) =
-    let n = w .0 * 67108864 + w .1 in
+    let n = w .0 * payloads + w .1 in
     n % 256 ∷ (n / 256 % 256 ∷ (n / 65536 % 256 ∷ (n / 16777216 ∷ bytesOf l)))
 
 -- `forSkip m budget a n q` runs a `for` over scalar 0 up to scalar 1, which holds m, and is answered a after n steps,

@@ -12,6 +12,7 @@ use mathlib.Core.List.{List, [], _∷_, _++_}
 use Prim.Native.Nat.{ℕ}
 use native.Mathlib.Omega.{arith}
 use Rattle.language.specs.Syntax.{Boolean}
+use Rattle.layout.specs.Bytes.{wordOf}
 use Rattle.compare.specs.Matching.{between, matchedWord, matched, came, sameNumbers, exchanged}
 use Rattle.compare.specs.Places.{endAt, PartKnown, CanMatch, CanMatchAny, Matched}
 use Rattle.compare.specs.Forms.{part, andNumbers, andNotNumbers, splitNumbers, antecedentNumbers, consequentNumbers}
@@ -47,19 +48,19 @@ module _ (file ends : List ℕ) (m : Match) where
       r ≡ matched file m (part file ends a)
   part-matched r a e h = rw (← e) h
 
-  pub and-matched : (a b : ℕ) (head first r : Match) → head ≡ matchedWord file m 671088640 →
+  pub and-matched : (a b : ℕ) (head first r : Match) → head ≡ matchedWord file m (wordOf 10 0) →
       first ≡ matched file head (part file ends a) → r ≡ matched file first (part file ends b) →
       r ≡ matched file m (andNumbers file ends a b)
   unfolding andNumbers
   and-matched a b head first r h i j = then (word h) (then (step i) (step j)) .is
 
-  pub and-not-matched : (a b : ℕ) (head first negation r : Match) → head ≡ matchedWord file m 671088640 →
-      first ≡ matched file head (part file ends a) → negation ≡ matchedWord file first 805306368 →
+  pub and-not-matched : (a b : ℕ) (head first negation r : Match) → head ≡ matchedWord file m (wordOf 10 0) →
+      first ≡ matched file head (part file ends a) → negation ≡ matchedWord file first (wordOf 12 0) →
       r ≡ matched file negation (part file ends b) → r ≡ matched file m (andNotNumbers file ends a b)
   unfolding andNotNumbers
   and-not-matched a b head first negation r h i n j = then (word h) (then (step i) (then (word n) (step j))) .is
 
-  pub split-matched : (p q b : ℕ) (head left r : Match) → head ≡ matchedWord file m 738197504 →
+  pub split-matched : (p q b : ℕ) (head left r : Match) → head ≡ matchedWord file m (wordOf 11 0) →
       left ≡ matched file head (andNumbers file ends p b) → r ≡ matched file left (andNotNumbers file ends q b) →
       r ≡ matched file m (splitNumbers file ends p q b)
   unfolding splitNumbers
@@ -123,7 +124,7 @@ module _ (file ends : List ℕ) (m r : Match) (form : Antecedent) where
   unfolding antecedentNumbers
   as-replaced a put e h = rw e (h .is)
 
-  pub as-true : form ≡ True → r ≡ matchedWord file m 603979777 → AfterForm
+  pub as-true : form ≡ True → r ≡ matchedWord file m (wordOf 9 1) → AfterForm
   unfolding antecedentNumbers matched
   as-true e h = rw e h
 

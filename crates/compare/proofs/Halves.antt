@@ -19,6 +19,7 @@ use Rattle.rules.specs.Tests.{sameAntecedent, sameConsequent}
 use Rattle.layout.specs.Spelling.{FitsExpression}
 use Rattle.layout.specs.EvidenceWords.{expressionPart}
 use Rattle.layout.specs.Standing.{PartStands}
+use Rattle.layout.specs.Bytes.{wordOf}
 use Rattle.compare.specs.Matching.{numbers, exchanged, sameNumbers}
 use Rattle.compare.specs.Places.{endAt}
 use Rattle.compare.specs.Forms.{part, andNumbers, andNotNumbers, splitNumbers, antecedentNumbers, consequentNumbers}
@@ -65,7 +66,7 @@ module _ {file ends : List ℕ} where
   module _ {φ β : Expr Boolean} {a b : ℕ} (x : PartHas file ends φ a) (y : PartHas file ends β b) where
     and-numbers : andNumbers file ends a b ≡ numbers (words (and φ β))
     unfolding andNumbers words numbers
-    and-numbers = ap (λ l. 671088640 ∷ l) (ap₂ _++_ (x .same) (y .same) ∙ sym (numbers-append (words φ) (words β)))
+    and-numbers = ap (λ l. (wordOf 10 0) ∷ l) (ap₂ _++_ (x .same) (y .same) ∙ sym (numbers-append (words φ) (words β)))
 
     and-fits : FitsWords (words (and φ β))
     unfolding words
@@ -74,8 +75,8 @@ module _ {file ends : List ℕ} where
     and-not-numbers : andNotNumbers file ends a b ≡ numbers (words (and φ (neg β)))
     unfolding andNotNumbers words numbers
     and-not-numbers =
-        ap (λ l. 671088640 ∷ l)
-        (ap₂ _++_ (x .same) (ap (λ l. 805306368 ∷ l) (y .same))
+        ap (λ l. (wordOf 10 0) ∷ l)
+        (ap₂ _++_ (x .same) (ap (λ l. (wordOf 12 0) ∷ l) (y .same))
         ∙ sym (numbers-append (words φ) (word 12 (pos 0) ∷ words β)))
 
     and-not-fits : FitsWords (words (and φ (neg β)))
@@ -98,7 +99,7 @@ module _ {file ends : List ℕ} where
       let k = words (and φ₁ β) in
       let l = words (and φ₂ (neg β)) in
       record {
-        numbers-are = ap (λ n. 738197504 ∷ n) (ap₂ _++_ (and-numbers x z) (and-not-numbers y z) ∙ sym (numbers-append k l));
+        numbers-are = ap (λ n. (wordOf 11 0) ∷ n) (ap₂ _++_ (and-numbers x z) (and-not-numbers y z) ∙ sym (numbers-append k l));
         fits = (omega arith, fits-append k l (and-fits x z) (and-not-fits y z));
       }
 

@@ -16,7 +16,7 @@ use Rattle.language.specs.Syntax.{Expr, constant, scalar, operation, select, co
 use mathlib.Core.Bool.{Bool, true, false}
 use mathlib.Core.Logic.{_⊎_, inl, inr}
 use Rattle.rules.specs.Words.{Word, word, words, operatorPayload, comparisonPayload, truthPayload}
-use Rattle.layout.specs.Bytes.{kindAt}
+use Rattle.layout.specs.Bytes.{kindAt, payloads}
 use Rattle.layout.specs.Spelling.{payloadOf, FitsExpression}
 use Rattle.layout.specs.EvidenceWords.{expressionPart}
 use Rattle.layout.specs.Standing.{StandsTo, PartStands}
@@ -25,17 +25,17 @@ use Rattle.layout.proofs.Words.{kind-of-word, payload-small}
 use Rattle.ends.specs.Ends.{EndsOf}
 use Rattle.compare.specs.Places.{endAt, ExpressionTo, ExpressionAt, AnyAt, Chained}
 
-pub operator-small : (o : Operator) → payloadOf (operatorPayload o) < 67108864
+pub operator-small : (o : Operator) → payloadOf (operatorPayload o) < payloads
 operator-small plus = omega arith
 operator-small minus = omega arith
 operator-small times = omega arith
 
-pub comparison-small : (r : Comparison) → payloadOf (comparisonPayload r) < 67108864
+pub comparison-small : (r : Comparison) → payloadOf (comparisonPayload r) < payloads
 comparison-small equal = omega arith
 comparison-small less = omega arith
 comparison-small atMost = omega arith
 
-pub truth-small : (t : Bool) → payloadOf (truthPayload t) < 67108864
+pub truth-small : (t : Bool) → payloadOf (truthPayload t) < payloads
 truth-small false = omega arith
 truth-small true = omega arith
 

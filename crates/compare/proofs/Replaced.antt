@@ -18,6 +18,7 @@ use Rattle.rules.specs.Words.{Word, word, words, operatorPayload, comparisonPay
 use Rattle.rules.specs.Replace.{Replacement, replacement, replace}
 use Rattle.layout.specs.Spelling.{encode, FitsConstant, FitsExpression}
 use Rattle.layout.proofs.Words.{payload-small}
+use Rattle.layout.specs.Bytes.{payloads}
 use Rattle.compare.specs.Matching.{between, numbers, putFor, exchanged}
 use Rattle.compare.specs.declared.cursor.Put.{Put}
 use Rattle.compare.proofs.Exchange.{exchanged-append}
@@ -100,7 +101,7 @@ identifier-fits w ident n x a f g = go (eqb n x)
     go true = f
     go false = g
 
-kinds : (j k n : ℕ) (z : ℤ) → (k ≡ j → ⊥) → n ≤ 31 → FitsConstant z → encode (word k z) ≡ j * 67108864 + n → ⊥
+kinds : (j k n : ℕ) (z : ℤ) → (k ≡ j → ⊥) → n ≤ 31 → FitsConstant z → encode (word k z) ≡ j * payloads + n → ⊥
 kinds j k n z h l f e = let p = payload-small z f in h (omega arith)
 
 -- the word of an identifier, and the right side that stands between two places
@@ -110,18 +111,18 @@ module _ (file : List ℕ) (put : Put) where
   unfolding putFor
   other v h = simp (ne-eqb v (put .word) h)
 
-  identifier : {A : Type 0} (w : A → List Word) (ident : ℕ → A) (k n x : ℕ) (a : A) → put .word ≡ k * 67108864 + n →
-      between file (put .from) (put .to) ≡ numbers (w a) → numbers (w (ident x)) ≡ (k * 67108864 + x) ∷ [] →
-      numbers (w (cond (eqb n x) a (ident x))) ≡ putFor file put (k * 67108864 + x)
+  identifier : {A : Type 0} (w : A → List Word) (ident : ℕ → A) (k n x : ℕ) (a : A) → put .word ≡ k * payloads + n →
+      between file (put .from) (put .to) ≡ numbers (w a) → numbers (w (ident x)) ≡ (k * payloads + x) ∷ [] →
+      numbers (w (cond (eqb n x) a (ident x))) ≡ putFor file put (k * payloads + x)
   unfolding putFor
   identifier w ident k n x a e s i = go (eqb n x) refl
     where
-      go : (b : Bool) → eqb n x ≡ b → numbers (w (cond b a (ident x))) ≡ putFor file put (k * 67108864 + x)
-      go true h = let same = eqb-true n x h in simp (eq-eqb (k * 67108864 + x) (put .word) (omega arith)) (sym s)
-      go false h = let differ = eqb-false n x h in i ∙ sym (other (k * 67108864 + x) λ q. differ (omega arith))
+      go : (b : Bool) → eqb n x ≡ b → numbers (w (cond b a (ident x))) ≡ putFor file put (k * payloads + x)
+      go true h = let same = eqb-true n x h in simp (eq-eqb (k * payloads + x) (put .word) (omega arith)) (sym s)
+      go false h = let differ = eqb-false n x h in i ∙ sym (other (k * payloads + x) λ q. differ (omega arith))
 
   -- rule 3: the word 2:x
-  pub scalar-replaces : (x : ℕ) (a : Expr Arithmetic) → x ≤ 31 → put .word ≡ 2 * 67108864 + x →
+  pub scalar-replaces : (x : ℕ) (a : Expr Arithmetic) → x ≤ 31 → put .word ≡ 2 * payloads + x →
       between file (put .from) (put .to) ≡ numbers (words a) → FitsWords (words a) →
       Replaces file put (replacement (toScalar x a))
   unfolding words numbers
@@ -134,7 +135,7 @@ module _ (file : List ℕ) (put : Put) where
   }
 
   -- rule 4: the word 16:a
-  pub array-replaces : (x : ℕ) (a : Expr Array) → x ≤ 31 → put .word ≡ 16 * 67108864 + x →
+  pub array-replaces : (x : ℕ) (a : Expr Array) → x ≤ 31 → put .word ≡ 16 * payloads + x →
       between file (put .from) (put .to) ≡ numbers (words a) → FitsWords (words a) →
       Replaces file put (replacement (toArray x a))
   unfolding words numbers

@@ -9,6 +9,7 @@
 use mathlib.Core.List.{List, [], _∷_, _++_}
 use Prim.Native.Nat.{ℕ}
 use Rattle.language.specs.Syntax.{Boolean}
+use Rattle.layout.specs.Bytes.{wordOf}
 use Rattle.compare.specs.Matching.{between, exchanged}
 use Rattle.compare.specs.Places.{endAt, PartKnown, CanMatch, CanMatchAny}
 use Rattle.compare.specs.declared.antecedent.Antecedent.{Antecedent}
@@ -22,13 +23,13 @@ module _ (file ends : List ℕ) where
 
   -- the words 10:0, 11:0, 12:0 and 9:1 are those of ∧, ∨, ¬ and true
   unfoldable pub andNumbers : ℕ → ℕ → List ℕ
-  andNumbers a b = 671088640 ∷ (part a ++ part b)
+  andNumbers a b = (wordOf 10 0) ∷ (part a ++ part b)
 
   unfoldable pub andNotNumbers : ℕ → ℕ → List ℕ
-  andNotNumbers a b = 671088640 ∷ (part a ++ (805306368 ∷ part b))
+  andNotNumbers a b = (wordOf 10 0) ∷ (part a ++ ((wordOf 12 0) ∷ part b))
 
   unfoldable pub splitNumbers : ℕ → ℕ → ℕ → List ℕ
-  splitNumbers p q b = 738197504 ∷ (andNumbers p b ++ andNotNumbers q b)
+  splitNumbers p q b = (wordOf 11 0) ∷ (andNumbers p b ++ andNotNumbers q b)
 
   unfoldable pub antecedentNumbers : Antecedent → List ℕ
   antecedentNumbers (Written a) = part a
@@ -36,7 +37,7 @@ module _ (file ends : List ℕ) where
   antecedentNumbers (AndNot a b) = andNotNumbers a b
   antecedentNumbers (Split p q b) = splitNumbers p q b
   antecedentNumbers (Replaced a put) = exchanged file put (part a)
-  antecedentNumbers True = 603979777 ∷ []
+  antecedentNumbers True = (wordOf 9 1) ∷ []
 
   unfoldable pub consequentNumbers : Consequent → List ℕ
   consequentNumbers (Plain a) = part a

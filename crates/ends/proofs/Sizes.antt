@@ -14,7 +14,7 @@ use native.Mathlib.Decide.{decLt}
 use borrow.Author.Tests.{ne-eqb, lt-ltb, le-ltb}
 use lib.ListN.{length, getD, drop, length-drop, drop-of-length-le}
 use lib.Seq.{drop-cons, drop-drop}
-use Rattle.layout.specs.Bytes.{kindAt, payloadAt}
+use Rattle.layout.specs.Bytes.{kindAt, payloadAt, payloads}
 use Rattle.ends.specs.Sizes.{countAt, counts, countOf, past, sizes, placed, follow}
 
 pub lt-or-le : (m n : ℕ) → (m < n) ⊎ (n ≤ m)
@@ -72,7 +72,7 @@ unfolding sizes
 sizes-within [] = tt
 sizes-within (x ∷ l) =
     let h = sizes-within l in
-    let r = past-inside (countOf (x / 67108864) (x % 67108864)) (sizes l) h in
+    let r = past-inside (countOf (x / payloads) (x % payloads)) (sizes l) h in
     (omega arith, h)
 
 inside-at : (m : List ℕ) (at : ℕ) → Inside m → at < length m → at + getD m at 0 ≤ length m

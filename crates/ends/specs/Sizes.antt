@@ -14,6 +14,7 @@ use mathlib.Core.List.{List, [], _∷_, _++_}
 use Prim.Native.Nat.{ℕ, zero, suc, _+_, _*_, _/_, _%_, _<_, _≤_}
 use lib.Dec.{eqb, ltb}
 use lib.ListN.{length, getD, drop}
+use Rattle.layout.specs.Bytes.{payloads}
 
 -- the count beside a kind, or 0
 abbrev pub countAt : ℕ → List (ℕ × ℕ) → ℕ
@@ -37,7 +38,7 @@ past (suc n) (s ∷ m) = s + past n (drop s (s ∷ m))
 
 unfoldable pub sizes : List ℕ → List ℕ
 sizes [] = []
-sizes (x ∷ l) = suc (past (countOf (x / 67108864) (x % 67108864)) (sizes l)) ∷ sizes l
+sizes (x ∷ l) = suc (past (countOf (x / payloads) (x % payloads)) (sizes l)) ∷ sizes l
 
 -- sizes as places, of which the first is `at`
 unfoldable pub placed : ℕ → List ℕ → List ℕ

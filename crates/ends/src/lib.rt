@@ -23,6 +23,7 @@ use words::kinds::WHILE;
 ghost use mathlib.Core.Path.{_≡_};
 ghost use Prim.Native.Nat.{_/_, _%_, _<_, _≤_};
 ghost use lib.ListN.{length, getD};
+ghost use Rattle.layout.specs.Bytes.{payloads};
 ghost use Rattle.ends.specs.Ends.{EndsOf};
 ghost use Rattle.ends.specs.Sizes.{countOf, follow, CanFill, Filled, CanTable};
 
@@ -49,7 +50,7 @@ pub fn end_or_zero(ends: &[u32], place: usize) -> usize
 
 // How many expressions and commands follow a word (document 01, "Layout").
 fn parts(x: u32) -> usize
-    ensures { λ r. ⌜ r ≡ countOf (x / 67108864) (x % 67108864) ⌝ }
+    ensures { λ r. ⌜ r ≡ countOf (x / payloads) (x % payloads) ⌝ }
 {
     let kind = x / KIND;
     match kind {

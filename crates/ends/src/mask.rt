@@ -6,6 +6,7 @@ use words::kinds::TO_SCALAR;
 ghost use mathlib.Core.Path.{_≡_};
 ghost use Prim.Native.Nat.{_/_, _%_, _^_, _<_};
 ghost use lib.Bits.{bitOr};
+ghost use Rattle.layout.specs.Bytes.{payloads};
 ghost use Rattle.ends.specs.Mask.{bit};
 ghost use Rattle.ends.specs.Blocks.{written, withMark};
 
@@ -27,7 +28,7 @@ pub fn with_bit(mask: u64, i: u32) -> u64
 
 // The mask with the identifier that a word assigns, if it does: kinds 27, 28 and 31.
 pub fn mark(mask: u64, x: u32) -> u64
-    ensures { λ r. ⌜ r ≡ withMark mask (written (x / 67108864) (x % 67108864)) ⌝ }
+    ensures { λ r. ⌜ r ≡ withMark mask (written (x / payloads) (x % payloads)) ⌝ }
 {
     let kind = x / KIND;
     // most words assign nothing

@@ -16,7 +16,7 @@ use Rattle.language.specs.Syntax.{Sort, Expr, constant, scalar, operation, sele
 use Rattle.language.specs.Syntax.{array, zeros, update, toScalar, toArray}
 use Rattle.language.specs.Syntax.{Command, skip, sequence, assert, assign, ifElse, while, for}
 use Rattle.rules.specs.Context.{Context}
-use Rattle.layout.specs.Bytes.{wordsOf, wordCount, numberAt}
+use Rattle.layout.specs.Bytes.{wordsOf, wordCount, numberAt, payloads}
 use Rattle.layout.specs.Reading.{Reading, read, fault, onRead}
 use Rattle.layout.specs.For.{firstUnsteady}
 use Rattle.layout.specs.Spelling.{FitsExpression, FitsCommand}
@@ -95,10 +95,10 @@ module _ (Γ : Context) (file : List ℕ) where
       go false = steady-numbered f p
 
   -- a file whose first word counts its words has one
-  counted : numberAt file 0 ≡ 63 * 67108864 + wordCount file → 1 ≤ wordCount file
+  counted : numberAt file 0 ≡ 63 * payloads + wordCount file → 1 ≤ wordCount file
   counted e = go file e
     where
-      go : (l : List ℕ) → numberAt l 0 ≡ 63 * 67108864 + wordCount l → 1 ≤ wordCount l
+      go : (l : List ℕ) → numberAt l 0 ≡ 63 * payloads + wordCount l → 1 ≤ wordCount l
       go [] e = omega (arith, e)
       go (x ∷ l) e = omega arith
 
@@ -113,9 +113,9 @@ module _ (Γ : Context) (file : List ℕ) where
 
   words-numbered : Numbered (wordsRead Γ file)
   unfolding wordsRead
-  words-numbered = go (eqb (numberAt file 0) (63 * 67108864 + wordCount file)) refl
+  words-numbered = go (eqb (numberAt file 0) (63 * payloads + wordCount file)) refl
     where
-      go : (t : Bool) → eqb (numberAt file 0) (63 * 67108864 + wordCount file) ≡ t →
+      go : (t : Bool) → eqb (numberAt file 0) (63 * payloads + wordCount file) ≡ t →
           Numbered (elim t [ true ↦ onRead (parts Γ file) (finish Γ file) | false ↦ fault 2 0 ])
       go true e = parts-numbered (parts Γ file) refl (counted (eqb-true _ _ e))
       go false e = (omega arith, omega arith)

@@ -12,7 +12,7 @@ use native.Mathlib.Omega.{arith}
 use borrow.Author.Tests.{eqb-true, ltb-true}
 use lib.Dec.{eqb, ltb}
 use Rattle.rules.specs.Context.{Context}
-use Rattle.layout.specs.Bytes.{wordsOf, wordCount, numberAt}
+use Rattle.layout.specs.Bytes.{wordsOf, wordCount, numberAt, payloads}
 use Rattle.layout.specs.Reading.{Reading, read, fault, onRead}
 use Rattle.layout.specs.For.{unsteadyAt, firstUnsteady}
 use Rattle.layout.specs.File.{File, parts, steadyFile, finish, wordsRead, badLength, fileOf}
@@ -56,20 +56,20 @@ module _ (Γ : Context) (w : List ℕ) where
       go false t = steady-fault f p
 
   -- 63:n is a word
-  some-word : (l : List ℕ) → numberAt l 0 ≡ 63 * 67108864 + wordCount l → 1 ≤ wordCount l
+  some-word : (l : List ℕ) → numberAt l 0 ≡ 63 * payloads + wordCount l → 1 ≤ wordCount l
   some-word [] e = absurd (omega arith)
   some-word (x ∷ l) e = omega arith
 
   pub words-fault : FaultBy (wordCount w) (wordsRead Γ w)
   unfolding wordsRead
-  words-fault = go (eqb (numberAt w 0) (63 * 67108864 + wordCount w)) refl
+  words-fault = go (eqb (numberAt w 0) (63 * payloads + wordCount w)) refl
     where
       all : (x : Reading File) → parts Γ w ≡ x → 1 ≤ wordCount w →
           FaultBy (wordCount w) (onRead x (finish Γ w))
       all (read f p) e h = finish-fault f p
       all (fault n p) e h = let x = parts-fault Γ w n p e h in (omega (arith, x .most), x .inside)
 
-      go : (t : Bool) → eqb (numberAt w 0) (63 * 67108864 + wordCount w) ≡ t →
+      go : (t : Bool) → eqb (numberAt w 0) (63 * payloads + wordCount w) ≡ t →
           FaultBy (wordCount w) (elim t [ true ↦ onRead (parts Γ w) (finish Γ w) | false ↦ fault 2 0 ])
       go true t = all (parts Γ w) refl (some-word w (eqb-true _ _ t))
       go false t = (omega arith, omega arith)

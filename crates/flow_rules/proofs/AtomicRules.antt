@@ -14,7 +14,7 @@ use Rattle.rules.specs.Context.{Context}
 use Rattle.rules.specs.Condition.{byForm}
 use Rattle.rules.specs.Evidence.{flow1, flow3, flow4, flow5}
 use Rattle.rules.specs.Judge.{misfit, flowRule}
-use Rattle.layout.specs.Bytes.{kindAt, payloadAt}
+use Rattle.layout.specs.Bytes.{kindAt, payloadAt, payloads}
 use Rattle.compare.specs.Places.{endAt}
 use Rattle.compare.specs.declared.cursor.Put.{Put}
 use Rattle.implication.specs.declared.Condition.the-variants.{Fails}
@@ -31,13 +31,13 @@ use Rattle.flow_rules.proofs.Goal.{tried, by-test, no-parts, trees, exp
 
 -- the right side of the assignment at c, for the word n:x
 abbrev pub putting : List ℕ → List ℕ → ℕ → ℕ → Put
-putting file ends c n = record { word = n * 67108864 + payloadAt file c; from = c + 1; to = endAt ends (c + 1) }
+putting file ends c n = record { word = n * payloads + payloadAt file c; from = c + 1; to = endAt ends (c + 1) }
 
 right-side : {file ends : List ℕ} {c : ℕ} {e : Command} {k : Sort} {make : ℕ → Expr k → Assignment} (n : ℕ)
     (x : AssignAt file ends c e k make) → RightSide file (putting file ends c n) n (x .name) (x .right)
 right-side n x = record {
   small = x .parts .small;
-  word-is = ap (λ i. n * 67108864 + i) (x .parts .payload);
+  word-is = ap (λ i. n * payloads + i) (x .parts .payload);
   levels = x .parts .right-at .levels;
   stands = x .parts .right-at .stands;
 }

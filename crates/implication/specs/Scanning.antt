@@ -11,6 +11,7 @@ use mathlib.Core.List.{List}
 use Prim.Native.Nat.{ℕ, _+_, _-_, _/_, _%_, _<_, _≤_}
 use lib.Dec.{eqb, ltb}
 use lib.ListN.{length, getD}
+use Rattle.layout.specs.Bytes.{payloads}
 
 -- by kind and payload: 16 and 17 a truth, 18 and, 19 or, 20 not, 21 a word of no boolean, 22 a comparison
 unfoldable pub byteBy : ℕ → ℕ → ℕ
@@ -19,7 +20,7 @@ byteBy k p =
     (cond (ltb 12 k) 21 (cond (eqb k 8) 22 (cond (eqb k 9) (cond (eqb p 0) 16 17) (k + 8))))
 
 abbrev pub byteOf : ℕ → ℕ
-byteOf x = byteBy (x / 67108864) (x % 67108864)
+byteOf x = byteBy (x / payloads) (x % payloads)
 
 abbrev pub byteAt : List ℕ → ℕ → ℕ
 byteAt w k = byteOf (getD w k 0)

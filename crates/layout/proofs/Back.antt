@@ -23,7 +23,7 @@ use Rattle.rules.specs.Words.{Word, word, forWord, words, commandWords}
 use Rattle.rules.specs.Words.{operatorPayload, comparisonPayload, truthPayload}
 use Rattle.rules.specs.Assertion.{Member, Members, member}
 use Rattle.rules.specs.Context.{Context}
-use Rattle.layout.specs.Bytes.{wordCount, numberAt, kindAt, payloadAt}
+use Rattle.layout.specs.Bytes.{wordCount, numberAt, kindAt, payloadAt, payloads}
 use Rattle.layout.specs.Reading.{read, Reader, leaf, _⊛_, several, allowed, wordDue, upTo, onOption}
 use Rattle.layout.specs.Read.{operatorOf, comparisonOf, truthOf}
 use Rattle.layout.specs.Read.{expression, command, sortOf, consequentAt, memberAt, set}
@@ -94,7 +94,7 @@ module _ {file : List ℕ} where
 
   pub word-back :
       {A : Type 0} {k : ℕ} {z : ℤ} {l : List Word} {F : Type 0} {at p : ℕ} {a : A}
-      (step : ℕ → ℕ → ℕ → Option (Reader A)) → Stands file (word k z ∷ l) F at p → payloadOf z < 67108864 →
+      (step : ℕ → ℕ → ℕ → Option (Reader A)) → Stands file (word k z ∷ l) F at p → payloadOf z < payloads →
       Allowed (step at k (payloadOf z)) at a p → Back (wordDue file step) at a p
   word-back {k} {z} {at} step s h y =
       due-back file at k (payloadOf z) step (s .stand .0) (kind-of-word file at k z (s .stand .1) h)
@@ -107,7 +107,7 @@ module _ {file : List ℕ} where
       Back (wordDue file step) at a p
   for-back {q} {m} {at} step s h y =
       let n : ℕ = q + 32 * m in
-      let small : n < 67108864 = omega (arith, h .0, h .1) in
+      let small : n < payloads = omega (arith, h .0, h .1) in
       due-back file at 31 n step (s .stand .0) (quotient 31 n (numberAt file at) (s .stand .1) small)
       (remainder 31 n (numberAt file at) (s .stand .1) small) y
 
@@ -117,20 +117,20 @@ for-first q m h = omega arith
 for-second : (q m : ℕ) → q ≤ 31 → (q + 32 * m) / 32 ≡ m
 for-second q m h = omega arith
 
-small : (n k : ℕ) → k ≤ n → n < 67108864 → k < 67108864
+small : (n k : ℕ) → k ≤ n → n < payloads → k < payloads
 small n k h l = omega arith
 
-operator-small : (o : Operator) → payloadOf (operatorPayload o) < 67108864
+operator-small : (o : Operator) → payloadOf (operatorPayload o) < payloads
 operator-small plus = omega arith
 operator-small minus = omega arith
 operator-small times = omega arith
 
-comparison-small : (r : Comparison) → payloadOf (comparisonPayload r) < 67108864
+comparison-small : (r : Comparison) → payloadOf (comparisonPayload r) < payloads
 comparison-small equal = omega arith
 comparison-small less = omega arith
 comparison-small atMost = omega arith
 
-truth-small : (t : Bool) → payloadOf (truthPayload t) < 67108864
+truth-small : (t : Bool) → payloadOf (truthPayload t) < payloads
 truth-small false = omega arith
 truth-small true = omega arith
 
@@ -205,7 +205,7 @@ module _ (file : List ℕ) where
 
   -- the first word's kind tells the sort
   sort-by : {k : ℕ} {z : ℤ} {l : List Word} {F : Type 0} {at p : ℕ} → Stands file (word k z ∷ l) F at p →
-      payloadOf z < 67108864 → sortOf (kindAt file at) ≡ sortOf k
+      payloadOf z < payloads → sortOf (kindAt file at) ≡ sortOf k
   sort-by {k} {z} {at} s h = ap sortOf (kind-of-word file at k z (s .stand .1) h)
 
   sort-stands : (d : ℕ) {j : Sort} (e : Expr j) (at p : ℕ) → Stands file (words e) (FitsExpression e d) at p →

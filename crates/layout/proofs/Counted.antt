@@ -30,7 +30,7 @@ use Rattle.layout.specs.Spelling.{membersWords, setWords}
 use Rattle.layout.specs.EvidenceWords.{Part, joined, spelledTree}
 use Rattle.layout.specs.File.{File}
 use Rattle.layout.specs.FileWords.{fileParts}
-use Rattle.layout.specs.Bytes.{wordCount, numberAt}
+use Rattle.layout.specs.Bytes.{wordCount, numberAt, payloads}
 use Rattle.layout.specs.Spelling.{SpelledAt}
 use Rattle.layout.specs.FileWords.{FileSpelled}
 use Rattle.layout.specs.Counted.{isEvidence, countEvidence}
@@ -200,7 +200,7 @@ file-counts Γ f =
     record { counted = λ n k. let u = h .counted n k in omega (arith, x, y, z, e, u, t) }
 
 -- ---- the same by the words of the file
-same-kind : (n : ℕ) (w : Word) → n / 67108864 ≡ kindOf w → isEvidence n ≡ isEvidenceWord w
+same-kind : (n : ℕ) (w : Word) → n / payloads ≡ kindOf w → isEvidence n ≡ isEvidenceWord w
 same-kind n (word k z) e = ap (λ j. leb 33 j && leb j 35) e
 same-kind n (forWord q m) e = ap (λ j. leb 33 j && leb j 35) e
 
@@ -218,11 +218,11 @@ count-spelled file at (w ∷ l) s h e =
     ∙ count-spelled file (at + 1) l (s .2) (h .1) (omega arith))
 
 -- word 0 is no evidence, whatever the count in it
-first-none : (n : ℕ) → isEvidence (63 * 67108864 + n) ≡ false
+first-none : (n : ℕ) → isEvidence (63 * payloads + n) ≡ false
 first-none n =
-    let k : 35 < (63 * 67108864 + n) / 67108864 = omega arith in
-    rw (lt-leb ((63 * 67108864 + n) / 67108864) 35 k)
-    (rw (le-leb 33 ((63 * 67108864 + n) / 67108864) (omega arith)) refl)
+    let k : 35 < (63 * payloads + n) / payloads = omega arith in
+    rw (lt-leb ((63 * payloads + n) / payloads) 35 k)
+    (rw (le-leb 33 ((63 * payloads + n) / payloads) (omega arith)) refl)
 
 pub file-counted : (Γ : Context) (file : List ℕ) (f : File) → FileSpelled Γ file f →
     countEvidence file ≡ evidenceIn (joined (fileParts Γ f))

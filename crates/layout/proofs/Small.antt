@@ -21,7 +21,7 @@ use Rattle.rules.specs.Words.{operatorPayload, comparisonPayload, truthPayload}
 use Rattle.rules.specs.Assertion.{Members}
 use Rattle.rules.specs.Context.{Context}
 use Rattle.rules.specs.Evidence.{Standing, Tree, by, assertion, command, members, child, done, _&_}
-use Rattle.layout.specs.Bytes.{numberAt, kindAt, payloadAt}
+use Rattle.layout.specs.Bytes.{numberAt, kindAt, payloadAt, payloads}
 use Rattle.layout.specs.Spelling.{payloadOf, encode, FitsExpression, FitsCommand}
 use Rattle.layout.specs.Spelling.{membersWords, setWords, FitsMembers, FitsSet}
 use Rattle.layout.specs.EvidenceWords.{joined, EachFits, spelledTree, FitsTree}
@@ -31,7 +31,7 @@ use Rattle.layout.proofs.Words.{quotient, remainder, payload-small}
 use Rattle.layout.proofs.BackEvidence.{rule-row}
 
 abbrev pub Small : Word → Type 0
-Small (word k z) = payloadOf z < 67108864
+Small (word k z) = payloadOf z < payloads
 Small (forWord q m) = (q ≤ 31) × (m ≤ 31)
 
 abbrev pub AllSmall : List Word → Type 0
@@ -42,21 +42,21 @@ small-append : (l m : List Word) → AllSmall l → AllSmall m → AllSmall (l +
 small-append [] m h k = k
 small-append (w ∷ l) m h k = (h .0, small-append l m (h .1) k)
 
-operator-small : (o : Operator) → payloadOf (operatorPayload o) < 67108864
+operator-small : (o : Operator) → payloadOf (operatorPayload o) < payloads
 operator-small plus = omega arith
 operator-small minus = omega arith
 operator-small times = omega arith
 
-comparison-small : (r : Comparison) → payloadOf (comparisonPayload r) < 67108864
+comparison-small : (r : Comparison) → payloadOf (comparisonPayload r) < payloads
 comparison-small equal = omega arith
 comparison-small less = omega arith
 comparison-small atMost = omega arith
 
-truth-small : (t : Bool) → payloadOf (truthPayload t) < 67108864
+truth-small : (t : Bool) → payloadOf (truthPayload t) < payloads
 truth-small false = omega arith
 truth-small true = omega arith
 
-number-small : (x : ℕ) → x ≤ 31 → x < 67108864
+number-small : (x : ℕ) → x ≤ 31 → x < payloads
 number-small x h = omega arith
 
 pub expression-small : (d : ℕ) {j : Sort} (e : Expr j) → FitsExpression e d → AllSmall (words e)
@@ -152,11 +152,11 @@ abbrev pub contentOf : Word → ℕ
 contentOf (word k z) = payloadOf z
 contentOf (forWord q m) = q + 32 * m
 
-content-small : (w : Word) → Small w → contentOf w < 67108864
+content-small : (w : Word) → Small w → contentOf w < payloads
 content-small (word k z) h = h
 content-small (forWord q m) h = omega arith
 
-encoded : (w : Word) → encode w ≡ kindOf w * 67108864 + contentOf w
+encoded : (w : Word) → encode w ≡ kindOf w * payloads + contentOf w
 encoded (word k z) = refl
 encoded (forWord q m) = refl
 

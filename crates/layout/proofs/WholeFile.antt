@@ -18,7 +18,7 @@ use lib.Dec.{eqb, ltb}
 use lib.ListN.{length}
 use Rattle.rules.specs.Context.{Context}
 use Rattle.rules.specs.Evidence.{flow}
-use Rattle.layout.specs.Bytes.{wordCount, numberAt}
+use Rattle.layout.specs.Bytes.{wordCount, numberAt, payloads}
 use Rattle.layout.specs.Reading.{Reading, read, fault, Reader, onRead, leaf, _⊛_}
 use Rattle.layout.specs.Read.{command, set}
 use Rattle.layout.specs.ReadEvidence as reading
@@ -98,7 +98,7 @@ module _ (Γ : Context) (file : List ℕ) where
       stands-inside file (f .evidenceAt) (treePart Γ (f .evidence) .spelling) p s
       (omega (arith, head-inside Γ file (f .evidence) (Γ .limits .depth) (f .evidenceAt) p (h .evidence)))
 
-  parts-spelled : (f : File) (p : ℕ) → PartsTo f p → numberAt file 0 ≡ 63 * 67108864 + wordCount file →
+  parts-spelled : (f : File) (p : ℕ) → PartsTo f p → numberAt file 0 ≡ 63 * payloads + wordCount file →
       p ≡ wordCount file → FileSpelled Γ file f
   parts-spelled f p h e k =
       let l = fileParts Γ f in
@@ -132,7 +132,7 @@ module _ (Γ : Context) (file : List ℕ) where
       go (some at) e = tt
 
   -- 6
-  finish-read : (f : File) (p : ℕ) → numberAt file 0 ≡ 63 * 67108864 + wordCount file →
+  finish-read : (f : File) (p : ℕ) → numberAt file 0 ≡ 63 * payloads + wordCount file →
       PartsTo f p → IfRead FileRead (finish Γ file f p)
   unfolding finish
   finish-read f p e h = go (ltb p (wordCount file)) refl
@@ -147,7 +147,7 @@ module _ (Γ : Context) (file : List ℕ) where
           steady-read f p λ u. record { spelled = parts-spelled f p h e end; steady = u; end = end }
 
   -- 3 to 7
-  parts-read : (x : Reading File) → numberAt file 0 ≡ 63 * 67108864 + wordCount file →
+  parts-read : (x : Reading File) → numberAt file 0 ≡ 63 * payloads + wordCount file →
       YieldsBy file 1 PartsTo x → IfRead FileRead (onRead x (finish Γ file))
   parts-read (read f p) e h = finish-read f p e (h .1)
   parts-read (fault n p) e h = tt
@@ -155,9 +155,9 @@ module _ (Γ : Context) (file : List ℕ) where
   -- 2 to 7
   words-read : IfRead FileRead (wordsRead Γ file)
   unfolding wordsRead
-  words-read = go (eqb (numberAt file 0) (63 * 67108864 + wordCount file)) refl
+  words-read = go (eqb (numberAt file 0) (63 * payloads + wordCount file)) refl
     where
-      go : (t : Bool) → eqb (numberAt file 0) (63 * 67108864 + wordCount file) ≡ t →
+      go : (t : Bool) → eqb (numberAt file 0) (63 * payloads + wordCount file) ≡ t →
           IfRead FileRead (elim t [ true ↦ onRead (parts Γ file) (finish Γ file) | false ↦ fault 2 0 ])
       go true e = parts-read (parts Γ file) (eqb-true _ _ e) parts-yields
       go false e = tt

@@ -16,72 +16,72 @@ use borrow.Author.Tests.{ltb-true, ltb-false, lt-ltb, le-ltb}
 use lib.Dec.{ltb}
 use lib.IntN.{ℤ, pos, negsuc, _-ℤ_}
 use Rattle.rules.specs.Words.{word, forWord}
-use Rattle.layout.specs.Bytes.{wordCount, numberAt, kindAt, payloadAt, signed}
+use Rattle.layout.specs.Bytes.{wordCount, numberAt, kindAt, payloadAt, signed, payloads}
 use Rattle.layout.specs.Spelling.{payloadOf, encode, FitsConstant}
 
 -- a word stands at the place, with this kind and this payload
 pub record Found (file : List ℕ) (at k p : ℕ) : Type 0 where
   pub inside : at < wordCount file
-  pub number : numberAt file at ≡ k * 67108864 + p
-  pub small : p < 67108864
+  pub number : numberAt file at ≡ k * payloads + p
+  pub small : p < payloads
 
-halves : (n : ℕ) → n ≡ n / 67108864 * 67108864 + n % 67108864
+halves : (n : ℕ) → n ≡ n / payloads * payloads + n % payloads
 halves n = omega arith
 
-below : (n : ℕ) → n % 67108864 < 67108864
+below : (n : ℕ) → n % payloads < payloads
 below n = omega arith
 
 pub found-at : (file : List ℕ) (at : ℕ) → at < wordCount file → Found file at (kindAt file at) (payloadAt file at)
 found-at file at h = record { inside = h; number = halves (numberAt file at); small = below (numberAt file at) }
 
-pub quotient : (k p n : ℕ) → n ≡ k * 67108864 + p → p < 67108864 → n / 67108864 ≡ k
+pub quotient : (k p n : ℕ) → n ≡ k * payloads + p → p < payloads → n / payloads ≡ k
 quotient k p n e h = omega arith
 
-pub remainder : (k p n : ℕ) → n ≡ k * 67108864 + p → p < 67108864 → n % 67108864 ≡ p
+pub remainder : (k p n : ℕ) → n ≡ k * payloads + p → p < payloads → n % payloads ≡ p
 remainder k p n e h = omega arith
 
-pub kind-of-word : (file : List ℕ) (at k : ℕ) (z : ℤ) → numberAt file at ≡ encode (word k z) → payloadOf z < 67108864 →
+pub kind-of-word : (file : List ℕ) (at k : ℕ) (z : ℤ) → numberAt file at ≡ encode (word k z) → payloadOf z < payloads →
     kindAt file at ≡ k
 kind-of-word file at k z e h = quotient k (payloadOf z) (numberAt file at) e h
 
 pub payload-of-word :
-    (file : List ℕ) (at k : ℕ) (z : ℤ) → numberAt file at ≡ encode (word k z) → payloadOf z < 67108864 →
+    (file : List ℕ) (at k : ℕ) (z : ℤ) → numberAt file at ≡ encode (word k z) → payloadOf z < payloads →
     payloadAt file at ≡ payloadOf z
 payload-of-word file at k z e h = remainder k (payloadOf z) (numberAt file at) e h
 
 -- a word is known by its kind and its payload
 pub word-found : {file : List ℕ} {at k p : ℕ} (n : ℕ) (z : ℤ) → Found file at k p → k ≡ n → payloadOf z ≡ p →
     numberAt file at ≡ encode (word n z)
-word-found {file} {at} {k} {p} n z f e x = f .number ∙ ap (λ i. i * 67108864 + p) e ∙ ap (λ i. n * 67108864 + i) (sym x)
+word-found {file} {at} {k} {p} n z f e x = f .number ∙ ap (λ i. i * payloads + p) e ∙ ap (λ i. n * payloads + i) (sym x)
 
 pub for-found : {file : List ℕ} {at k p : ℕ} → Found file at k p → k ≡ 31 →
     numberAt file at ≡ encode (forWord (p % 32) (p / 32))
-for-found {file} {at} {k} {p} f e = f .number ∙ ap (λ i. i * 67108864 + p) e ∙ ap (λ i. 31 * 67108864 + i) (parts p)
+for-found {file} {at} {k} {p} f e = f .number ∙ ap (λ i. i * payloads + p) e ∙ ap (λ i. 31 * payloads + i) (parts p)
   where
     parts : (n : ℕ) → n ≡ n % 32 + 32 * (n / 32)
     parts n = omega arith
 
-pub payload-signed : (p : ℕ) → p < 67108864 → payloadOf (signed p) ≡ p
+pub payload-signed : (p : ℕ) → p < payloads → payloadOf (signed p) ≡ p
 payload-signed p h = go (ltb p 33554432)
   where
-    go : (b : Bool) → payloadOf (cond b (pos p) (pos p -ℤ pos 67108864)) ≡ p
+    go : (b : Bool) → payloadOf (cond b (pos p) (pos p -ℤ pos payloads)) ≡ p
     go true = refl
-    go false = simp (lt-ltb p 67108864 h) (omega arith)
+    go false = simp (lt-ltb p payloads h) (omega arith)
 
-pub signed-fits : (p : ℕ) → p < 67108864 → FitsConstant (signed p)
+pub signed-fits : (p : ℕ) → p < payloads → FitsConstant (signed p)
 signed-fits p h = go (ltb p 33554432) refl
   where
-    go : (b : Bool) → ltb p 33554432 ≡ b → FitsConstant (cond b (pos p) (pos p -ℤ pos 67108864))
+    go : (b : Bool) → ltb p 33554432 ≡ b → FitsConstant (cond b (pos p) (pos p -ℤ pos payloads))
     go true e = let l = ltb-true p 33554432 e in omega arith
-    go false e = let l = ltb-false p 33554432 e in simp (lt-ltb p 67108864 h) (omega arith)
+    go false e = let l = ltb-false p 33554432 e in simp (lt-ltb p payloads h) (omega arith)
 
-pub payload-small : (z : ℤ) → FitsConstant z → payloadOf z < 67108864
+pub payload-small : (z : ℤ) → FitsConstant z → payloadOf z < payloads
 payload-small (pos n) h = omega arith
 payload-small (negsuc n) h = omega arith
 
-high : (p : ℕ) → 33554432 ≤ p → p < 67108864 → signed p ≡ negsuc (67108864 - suc p)
-high p h k = simp (le-ltb p 33554432 h, lt-ltb p 67108864 k)
+high : (p : ℕ) → 33554432 ≤ p → p < payloads → signed p ≡ negsuc (payloads - suc p)
+high p h k = simp (le-ltb p 33554432 h, lt-ltb p payloads k)
 
 pub signed-payload : (z : ℤ) → FitsConstant z → signed (payloadOf z) ≡ z
 signed-payload (pos n) h = simp (lt-ltb n 33554432 (omega arith))
-signed-payload (negsuc n) h = high (67108864 - suc n) (omega arith) (omega arith) ∙ ap negsuc (omega arith)
+signed-payload (negsuc n) h = high (payloads - suc n) (omega arith) (omega arith) ∙ ap negsuc (omega arith)

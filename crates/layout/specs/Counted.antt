@@ -5,9 +5,10 @@ use mathlib.Core.Bool.{Bool, _&&_, cond}
 use mathlib.Core.List.{List, [], _∷_}
 use Prim.Native.Nat.{ℕ, suc, _/_}
 use lib.Dec.{leb}
+use Rattle.layout.specs.Bytes.{payloads}
 
 abbrev pub isEvidence : ℕ → Bool
-isEvidence w = leb 33 (w / 67108864) && leb (w / 67108864) 35
+isEvidence w = leb 33 (w / payloads) && leb (w / payloads) 35
 
 unfoldable pub countEvidence : List ℕ → ℕ
 countEvidence [] = 0

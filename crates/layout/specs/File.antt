@@ -17,7 +17,7 @@ use Rattle.language.specs.Syntax.{Command}
 use Rattle.rules.specs.Assertion.{Members}
 use Rattle.rules.specs.Context.{Context}
 use Rattle.rules.specs.Evidence.{flow, FlowEvidence}
-use Rattle.layout.specs.Bytes.{wordsOf, wordCount, numberAt}
+use Rattle.layout.specs.Bytes.{wordsOf, wordCount, numberAt, payloads}
 use Rattle.layout.specs.Reading.{Reading, read, fault, Reader, onRead, leaf, _⊛_}
 use Rattle.layout.specs.Read.{command, set}
 use Rattle.layout.specs.ReadEvidence.{evidence}
@@ -59,7 +59,7 @@ finish Γ file f p = elim (ltb p (wordCount file)) [ true ↦ fault 6 p | false 
 -- refusal 2: word 0 is not 63:n; then 3 to 7
 unfoldable pub wordsRead : Context → List ℕ → Reading File
 wordsRead Γ file =
-    elim (eqb (numberAt file 0) (63 * 67108864 + wordCount file)) [
+    elim (eqb (numberAt file 0) (63 * payloads + wordCount file)) [
       | true ↦ onRead (parts Γ file) (finish Γ file)
       | false ↦ fault 2 0
     ]

@@ -17,16 +17,16 @@ use Rattle.language.specs.Syntax.{Command, skip, sequence, assert, assign, ifEl
 use Rattle.rules.specs.Words.{Word, word, forWord, words}
 use Rattle.rules.specs.Assertion.{Member, Members}
 use Rattle.rules.specs.Context.{Context}
-use Rattle.layout.specs.Bytes.{wordCount, numberAt}
+use Rattle.layout.specs.Bytes.{wordCount, numberAt, payloads}
 
 -- two's complement in 26 bits
 abbrev pub payloadOf : ℤ → ℕ
 payloadOf (pos n) = n
-payloadOf (negsuc n) = 67108864 - suc n
+payloadOf (negsuc n) = payloads - suc n
 
 abbrev pub encode : Word → ℕ
-encode (word k z) = k * 67108864 + payloadOf z
-encode (forWord q m) = 31 * 67108864 + (q + 32 * m)
+encode (word k z) = k * payloads + payloadOf z
+encode (forWord q m) = 31 * payloads + (q + 32 * m)
 
 abbrev pub SpelledAt : List ℕ → ℕ → List Word → Type 0
 SpelledAt file at [] = Unit {0}
@@ -80,4 +80,4 @@ FitsMembers (m ∷ p) d = (FitsExpression (m .antecedent) d × FitsExpression (m
 -- the count of members is within the limit and is a payload
 unfoldable pub FitsSet : Context → Members → ℕ → Type 0
 FitsSet Γ p zero = ⊥
-FitsSet Γ p (suc d) = ((length p ≤ Γ .limits .members) × (length p < 67108864)) × FitsMembers p d
+FitsSet Γ p (suc d) = ((length p ≤ Γ .limits .members) × (length p < payloads)) × FitsMembers p d

@@ -13,7 +13,7 @@ use Rattle.rules.specs.Context.{Context}
 use Rattle.rules.specs.Condition.{byForm}
 use Rattle.rules.specs.Evidence.{pre22, pre24, pre25, pre26}
 use Rattle.rules.specs.Judge.{misfit, leaf, preRule}
-use Rattle.layout.specs.Bytes.{kindAt, payloadAt}
+use Rattle.layout.specs.Bytes.{kindAt, payloadAt, wordOf}
 use Rattle.implication.specs.declared.Condition.{Condition}
 use Rattle.implication.specs.declared.Condition.the-variants.{Fails}
 use Rattle.goals.specs.Conditions.{conditionOf}
@@ -64,7 +64,7 @@ module _ {file ends : List ℕ} {Γ : Context} {f c g at : ℕ} where
           replaceable can (written-known o (is-scalar o (here can .command-at) h .parts .right-at))
 
       -- the word 2:x
-      pub scalar-rule : {b : Bool} → ReplacedAt file ends f g (134217728 + payloadAt file c) (c + 1) b →
+      pub scalar-rule : {b : Bool} → ReplacedAt file ends f g (wordOf 2 (payloadAt file c)) (c + 1) b →
           {r : Condition} → r ≡ conditionOf b → StepOf file ends Γ (Pre f c g) at r
       unfolding preRule byForm
       scalar-rule replaced i = leaf-rule can pre24 refl λ φ φ′ e x y z.
@@ -86,7 +86,7 @@ module _ {file ends : List ℕ} {Γ : Context} {f c g at : ℕ} where
           replaceable can (written-known o (is-array o (here can .command-at) h .parts .right-at))
 
       -- the word 16:a
-      pub array-rule : {b : Bool} → ReplacedAt file ends f g (1073741824 + payloadAt file c) (c + 1) b →
+      pub array-rule : {b : Bool} → ReplacedAt file ends f g (wordOf 16 (payloadAt file c)) (c + 1) b →
           {r : Condition} → r ≡ conditionOf b → StepOf file ends Γ (Pre f c g) at r
       unfolding preRule byForm
       array-rule replaced i = leaf-rule can pre25 refl λ φ φ′ e x y z.

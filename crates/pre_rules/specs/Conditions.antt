@@ -16,6 +16,7 @@ use Rattle.rules.specs.Context.{Context}
 use Rattle.rules.specs.Condition.{implication, _then_}
 use Rattle.rules.specs.Replace.{replacement, replace}
 use Rattle.rules.specs.Tests.{sameAntecedent}
+use Rattle.layout.specs.Bytes.{payloads}
 use Rattle.ends.specs.Ends.{EndsOf}
 use Rattle.compare.specs.Places.{ExpressionAt}
 use Rattle.implication.specs.Sides.{resultOf}
@@ -54,10 +55,10 @@ module _ (file ends : List ℕ) where
 
   pub record ReplacedAt (f g word a : ℕ) (r : Bool) : Type 0 where
     pub scalars : (φ φ′ : Expr Boolean) (x : ℕ) (e : Expr Arithmetic) → WrittenAt file ends φ f →
-        WrittenAt file ends φ′ g → WrittenAt file ends e a → x ≤ 31 → word ≡ 2 * 67108864 + x →
+        WrittenAt file ends φ′ g → WrittenAt file ends e a → x ≤ 31 → word ≡ 2 * payloads + x →
         r ≡ sameAntecedent φ (replace φ′ (replacement (toScalar x e)))
     pub arrays : (φ φ′ : Expr Boolean) (x : ℕ) (e : Expr Array) → WrittenAt file ends φ f → WrittenAt file ends φ′ g →
-        WrittenAt file ends e a → x ≤ 31 → word ≡ 16 * 67108864 + x →
+        WrittenAt file ends e a → x ≤ 31 → word ≡ 16 * payloads + x →
         r ≡ sameAntecedent φ (replace φ′ (replacement (toArray x e)))
 
   pub record TrueAt (f : ℕ) (r : Bool) : Type 0 where

@@ -16,7 +16,7 @@ use Rattle.language.specs.Syntax.{Command}
 use Rattle.rules.specs.Assertion.{Members}
 use Rattle.rules.specs.Context.{Context}
 use Rattle.rules.specs.Evidence.{flow, FlowEvidence}
-use Rattle.layout.specs.Bytes.{wordCount, numberAt}
+use Rattle.layout.specs.Bytes.{wordCount, numberAt, payloads}
 use Rattle.layout.specs.Reading.{Reading, read, fault, Reader, onRead, _⊛_}
 use Rattle.layout.specs.Read.{command, set}
 use Rattle.layout.specs.ReadEvidence.{evidence}
@@ -92,7 +92,7 @@ by-refused f e g = ap (λ (z : Walk). byWalk z f) (sym g ∙ e)
 pub empty-head : (w : List ℕ) → length w ≡ 0 → false ≡ headed w
 empty-head w h =
     let e : numberAt w 0 ≡ 0 = List·getD-eq-default w 0 (omega arith) in
-    sym (ne-eqb (numberAt w 0) (63 * 67108864 + wordCount w) λ k. omega arith)
+    sym (ne-eqb (numberAt w 0) (63 * payloads + wordCount w) λ k. omega arith)
 
 module _ (Γ : Context) (w : List ℕ) where
   pub not-headed : headed w ≡ false → Refused (refusal 2 0) ≡ placesOf (readOf Γ w)

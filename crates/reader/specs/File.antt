@@ -10,7 +10,7 @@ use Prim.Native.Nat.{ℕ, _+_, _*_}
 use lib.Dec.{eqb, ltb}
 use Rattle.rules.specs.Context.{Context}
 use Rattle.rules.specs.Evidence.{flow}
-use Rattle.layout.specs.Bytes.{wordCount, numberAt}
+use Rattle.layout.specs.Bytes.{wordCount, numberAt, payloads}
 use Rattle.layout.specs.Reading.{Reading, read, fault, onRead}
 use Rattle.layout.specs.Read.{set}
 use Rattle.layout.specs.ReadEvidence.{evidence}
@@ -53,7 +53,7 @@ endOf w (Refused x) = Refused x
 
 -- word 0 is 63:n
 abbrev pub headed : List ℕ → Bool
-headed w = eqb (numberAt w 0) (63 * 67108864 + wordCount w)
+headed w = eqb (numberAt w 0) (63 * payloads + wordCount w)
 
 unfoldable pub readOf : Context → List ℕ → Reading file.File
 readOf Γ w =

@@ -11,7 +11,7 @@ use lib.IntN.{pos}
 use Rattle.language.specs.Syntax.{Command}
 use Rattle.language.specs.Runs.{meaning}
 use Rattle.rules.specs.Words.{Word, word, words, commandWords}
-use Rattle.layout.specs.Bytes.{payloadAt}
+use Rattle.layout.specs.Bytes.{payloadAt, wordOf}
 use Rattle.ends.specs.Ends.{EndsOf}
 use Rattle.compare.specs.Matching.{numbers, matchedWord, matched, came}
 use Rattle.compare.specs.Places.{endAt}
@@ -24,17 +24,17 @@ use Rattle.rule_laws.proofs.Passing.{Passes, then, passes-command, InRa
 use Rattle.rule_laws.proofs.Passing.{command-range, same-command}
 
 module _ (file : List ℕ) (m : Match) where
-  pub start-matched : (q n : ℕ) (m₁ m₂ m₃ m₄ m₅ m₆ m₇ r : Match) → m₁ ≡ matchedWord file m 1677721600 →
-      m₂ ≡ matchedWord file m₁ (1811939328 + q) → m₃ ≡ matchedWord file m₂ 67108865 →
-      m₄ ≡ matchedWord file m₃ 2013265920 → m₅ ≡ matchedWord file m₄ 536870914 →
-      m₆ ≡ matchedWord file m₅ (134217728 + q) → m₇ ≡ matchedWord file m₆ (134217728 + n) →
-      r ≡ matchedWord file m₇ 1677721600 → r ≡ matched file m (startNumbers q n)
+  pub start-matched : (q n : ℕ) (m₁ m₂ m₃ m₄ m₅ m₆ m₇ r : Match) → m₁ ≡ matchedWord file m (wordOf 25 0) →
+      m₂ ≡ matchedWord file m₁ (wordOf 27 q) → m₃ ≡ matchedWord file m₂ (wordOf 1 1) →
+      m₄ ≡ matchedWord file m₃ (wordOf 30 0) → m₅ ≡ matchedWord file m₄ (wordOf 8 2) →
+      m₆ ≡ matchedWord file m₅ (wordOf 2 q) → m₇ ≡ matchedWord file m₆ (wordOf 2 n) →
+      r ≡ matchedWord file m₇ (wordOf 25 0) → r ≡ matched file m (startNumbers q n)
   unfolding matched startNumbers
   start-matched q n m₁ m₂ m₃ m₄ m₅ m₆ m₇ r e₁ e₂ e₃ e₄ e₅ e₆ e₇ e = cc
 
-  pub next-matched : (q : ℕ) (m₁ m₂ m₃ r : Match) → m₁ ≡ matchedWord file m (1811939328 + q) →
-      m₂ ≡ matchedWord file m₁ 201326592 → m₃ ≡ matchedWord file m₂ (134217728 + q) →
-      r ≡ matchedWord file m₃ 67108865 → r ≡ matched file m (nextNumbers q)
+  pub next-matched : (q : ℕ) (m₁ m₂ m₃ r : Match) → m₁ ≡ matchedWord file m (wordOf 27 q) →
+      m₂ ≡ matchedWord file m₁ (wordOf 3 0) → m₃ ≡ matchedWord file m₂ (wordOf 2 q) →
+      r ≡ matchedWord file m₃ (wordOf 1 1) → r ≡ matched file m (nextNumbers q)
   unfolding matched nextNumbers
   next-matched q m₁ m₂ m₃ r e₁ e₂ e₃ e = cc
 

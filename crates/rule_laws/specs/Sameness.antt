@@ -20,18 +20,19 @@ use Rattle.rules.specs.Context.{Context}
 use Rattle.rules.specs.Sets.{setIdentifiers}
 use Rattle.rules.specs.Tests.{sameAntecedent, sameConsequent, unmodified}
 use Rattle.rules.specs.Words.{commandWords, sameWords}
+use Rattle.layout.specs.Bytes.{wordOf}
 use Rattle.ends.specs.Ends.{EndsOf}
 use Rattle.goals.specs.Places.{WrittenAt, CommandAt, SetAt, PartKnown}
 
 -- 25:0 27:q 1:1 30:0 8:2 2:q 2:m 25:0
 unfoldable pub startNumbers : ℕ → ℕ → List ℕ
 startNumbers q m =
-    1677721600 ∷ (1811939328 + q) ∷ 67108865 ∷ 2013265920 ∷ 536870914 ∷ (134217728 + q) ∷ (134217728 + m)
-    ∷ 1677721600 ∷ []
+    (wordOf 25 0) ∷ (wordOf 27 q) ∷ (wordOf 1 1) ∷ (wordOf 30 0) ∷ (wordOf 8 2) ∷ (wordOf 2 q) ∷ (wordOf 2 m)
+    ∷ (wordOf 25 0) ∷ []
 
 -- 27:q 3:0 2:q 1:1
 unfoldable pub nextNumbers : ℕ → List ℕ
-nextNumbers q = (1811939328 + q) ∷ 201326592 ∷ (134217728 + q) ∷ 67108865 ∷ []
+nextNumbers q = (wordOf 27 q) ∷ (wordOf 3 0) ∷ (wordOf 2 q) ∷ (wordOf 1 1) ∷ []
 
 module _ (file ends : List ℕ) where
   pub record CanSame (f g : ℕ) : Type 0 where

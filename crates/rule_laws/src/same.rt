@@ -8,6 +8,7 @@ use compare::part::came_to_end;
 use compare::part::match_part;
 use words::kinds::AT_MOST_WORD;
 use words::kinds::KIND;
+use words::kinds::ONE_WORD;
 use words::kinds::PLUS_WORD;
 use words::kinds::SCALAR_WORD;
 use words::kinds::SEQUENCE_WORD;
@@ -41,7 +42,7 @@ fn match_start(w: &[u32], m: Match, q: u32, bound: u32) -> Match
 {
     let sequence = match_word(w, m, SEQUENCE_WORD);
     let start = match_word(w, sequence, TO_SCALAR_WORD + q);
-    let one = match_word(w, start, 67108865);
+    let one = match_word(w, start, ONE_WORD);
     let repeat = match_word(w, one, WHILE_WORD);
     let test = match_word(w, repeat, AT_MOST_WORD);
     let left = match_word(w, test, SCALAR_WORD + q);
@@ -57,7 +58,7 @@ fn match_next(w: &[u32], m: Match, q: u32) -> Match
     let next = match_word(w, m, TO_SCALAR_WORD + q);
     let sum = match_word(w, next, PLUS_WORD);
     let counter = match_word(w, sum, SCALAR_WORD + q);
-    match_word(w, counter, 67108865)
+    match_word(w, counter, ONE_WORD)
 }
 
 // Whether the command at d is what the `for` at c means: q := 1; while q ≤ m do (C; q := q + 1).

@@ -19,7 +19,7 @@ use Rattle.rules.specs.Assertion.{Members}
 use Rattle.rules.specs.Context.{Context}
 use Rattle.rules.specs.Evidence.{Judgement, flow, implication, precondition, Standing, Tree, by, assertion, command}
 use Rattle.rules.specs.Evidence.{members, child, done, _&_}
-use Rattle.layout.specs.Bytes.{wordCount, numberAt, kindAt}
+use Rattle.layout.specs.Bytes.{wordCount, numberAt, kindAt, payloads}
 use Rattle.layout.specs.Spelling.{FitsCommand, memberWords, membersWords, setWords}
 use Rattle.layout.specs.ReadEvidence.{evidenceKind}
 use Rattle.layout.specs.EvidenceWords.{expressionPart, commandPart, setPart, spelledTree, FitsTree}
@@ -153,7 +153,7 @@ module _ (Γ : Context) (file : List ℕ) (h : WholeFile Γ file) where
   not-first : kindAt file 0 ≡ 31 → ForAt file (Γ .limits .depth) 0
   not-first e = absurd (go (numberAt file 0) (wordCount file) (h .first) e)
     where
-      go : (x n : ℕ) → x ≡ 63 * 67108864 + n → x / 67108864 ≡ 31 → ⊥
+      go : (x n : ℕ) → x ≡ 63 * payloads + n → x / payloads ≡ 31 → ⊥
       go x n e f = omega arith
 
   pub file-fors : Fors file (Γ .limits .depth) 0 (wordCount file)

@@ -11,7 +11,7 @@ use mathlib.Core.List.{List}
 use mathlib.Core.Option.{Option, none, some}
 use Prim.Native.Nat.{ℕ, _+_, _*_, _<_}
 use Rattle.rules.specs.Context.{Context}
-use Rattle.layout.specs.Bytes.{wordCount, numberAt, kindAt}
+use Rattle.layout.specs.Bytes.{wordCount, numberAt, kindAt, payloads}
 use Rattle.layout.specs.Reading.{read}
 use Rattle.layout.specs.For.{unsteadyAt, firstUnsteady}
 use Rattle.layout.specs.File.{File, parts}
@@ -21,7 +21,7 @@ use Rattle.scan.specs.declared.steady.Steadiness.the-variants.{Steady, A
 
 pub record WholeFile (Γ : Context) (file : List ℕ) : Type 0 where
   pub tree : File
-  pub first : numberAt file 0 ≡ 63 * 67108864 + wordCount file
+  pub first : numberAt file 0 ≡ 63 * payloads + wordCount file
   pub all : parts Γ file ≡ read tree (wordCount file)
 
 abbrev pub steadinessOf : Option ℕ → Steadiness

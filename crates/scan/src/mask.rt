@@ -5,11 +5,12 @@ use words::kinds::KIND;
 use words::kinds::SCALAR;
 ghost use mathlib.Core.Path.{_≡_};
 ghost use Prim.Native.Nat.{_/_, _%_};
+ghost use Rattle.layout.specs.Bytes.{payloads};
 ghost use Rattle.scan.specs.Scan.{marked};
 
 // Whether a word is an identifier that the mask has: kinds 2 and 16.
 pub fn is_marked(mask: u64, x: u32) -> bool
-    ensures { λ r. ⌜ r ≡ marked mask (x / 67108864) (x % 67108864) ⌝ }
+    ensures { λ r. ⌜ r ≡ marked mask (x / payloads) (x % payloads) ⌝ }
 {
     let kind = x / KIND;
     let number = x % KIND % 32;

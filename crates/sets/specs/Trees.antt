@@ -18,6 +18,7 @@ use Rattle.rules.specs.Sets.{under, without}
 use Rattle.rules.specs.Tests.{same}
 use Rattle.layout.specs.EvidenceWords.{expressionPart, setPart}
 use Rattle.layout.specs.Standing.{PartStands}
+use Rattle.layout.specs.Bytes.{payloads}
 use Rattle.ends.specs.Ends.{EndsOf}
 use Rattle.compare.specs.declared.cursor.Put.{Put}
 use Rattle.sets.specs.declared.item.View.the-variants.{Plain, Under, Unless, Replaced}
@@ -40,7 +41,7 @@ module _ (file : List ℕ) where
   -- the word k:x, and a right side between the two places
   pub record RightSide {j : Sort} (put : Put) (k x : ℕ) (e : Expr j) : Type 0 where
     pub small : x ≤ 31
-    pub word-is : put .word ≡ k * 67108864 + x
+    pub word-is : put .word ≡ k * payloads + x
     pub levels : ℕ
     pub stands : PartStands file (expressionPart e) levels (put .from) (put .to)
 

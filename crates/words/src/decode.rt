@@ -29,18 +29,18 @@ use super::kinds::WHILE;
 use super::kinds::ZEROS;
 ghost use mathlib.Core.Path.{_≡_};
 ghost use Prim.Native.Nat.{_/_, _%_};
-ghost use Rattle.layout.specs.Bytes.{signed as signedOf};
+ghost use Rattle.layout.specs.Bytes.{signed as signedOf, payloads};
 ghost use Rattle.words.specs.Decode.{operatorWord, comparisonWord, truthWord, arithmeticOf, booleanOf};
 ghost use Rattle.words.specs.Decode.{arrayOf, commandOf};
 
 pub fn kind(word: u32) -> u32
-    ensures { λ r. ⌜ r ≡ word / 67108864 ⌝ }
+    ensures { λ r. ⌜ r ≡ word / payloads ⌝ }
 {
     word / KIND
 }
 
 pub fn payload(word: u32) -> u32
-    ensures { λ r. ⌜ r ≡ word % 67108864 ⌝ }
+    ensures { λ r. ⌜ r ≡ word % payloads ⌝ }
 {
     word % KIND
 }

@@ -59,6 +59,9 @@ pub const PRECONDITION: u32 = 35;
 pub const FILE: u32 = 63;
 
 // Whole words. To those of a scalar, an array, an assignment or a file a payload is added.
+// The constant 1.
+pub const ONE_WORD: u32 = CONSTANT * KIND + 1;
+
 pub const SCALAR_WORD: u32 = SCALAR * KIND;
 
 pub const PLUS_WORD: u32 = OPERATOR * KIND;

@@ -8,6 +8,7 @@ use lib.ListN.{length}
 use Rattle.reader.proofs.Whole.{empty-head}
 use Rattle.reader.proofs.file.starts.Statement.{statement}
 use Rattle.reader.proofs.file.starts.Tie as tie
+use Rattle.layout.specs.Bytes.{payloads}
 
 pub starts-spec : {M : Type 1} → statement M
 starts-spec =
@@ -18,4 +19,4 @@ starts-spec =
     (λ c κs. search needs)
     (λ c. search needs)
     (λ c. let w = c .before .before .before .before .args .w .now in
-    ap (λ (n : ℕ). eqb n (63 * 67108864 + length w)) (c .wide .ensures)))
+    ap (λ (n : ℕ). eqb n (63 * payloads + length w)) (c .wide .ensures)))

@@ -13,16 +13,17 @@ use mir.Val.{SFits, toZ}
 use mir.Facts.{toZ-pos, toZ-ofZ}
 use Rattle.words.proofs.decode.signed.Statement.{statement}
 use Rattle.words.proofs.decode.signed.Tie as tie
+use Rattle.layout.specs.Bytes.{payloads}
 
 bits : (p : ℕ) → p < 4294967296 → toZ w64 p ≡ pos p
 bits p h = toZ-pos w64 (omega arith)
 
-below : (p : ℕ) → p < 4294967296 → SFits w64 (pos p -ℤ pos 67108864)
-below p h = go (ltb p 67108864) refl
+below : (p : ℕ) → p < 4294967296 → SFits w64 (pos p -ℤ pos payloads)
+below p h = go (ltb p payloads) refl
   where
-    go : (b : Bool) → ltb p 67108864 ≡ b → SFits w64 (pos p -ℤ pos 67108864)
-    go true e = record { sfits = simp e (omega (arith, ltb-true p 67108864 e)) }
-    go false e = record { sfits = simp e (omega (arith, ltb-false p 67108864 e)) }
+    go : (b : Bool) → ltb p payloads ≡ b → SFits w64 (pos p -ℤ pos payloads)
+    go true e = record { sfits = simp e (omega (arith, ltb-true p payloads e)) }
+    go false e = record { sfits = simp e (omega (arith, ltb-false p payloads e)) }
 
 pub signed-spec : {M : Type 1} → statement M
 signed-spec =
