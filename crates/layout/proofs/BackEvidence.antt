@@ -24,7 +24,7 @@ use Rattle.layout.proofs.SpelledEvidence.{TreeAt, parted-trees}
 use Rattle.layout.proofs.Back.{Back, begun, _⊲_, option-back, word-back, stands-from}
 use Rattle.layout.proofs.Back.{expression-stands, command-stands, set-stands}
 
-pub rule-row : {j : Judgement} {n : ℕ} {l : List Item} (r : Rule j n l) → (ruleOf n (rules j) ≡ some (row r)) × (n ≤ 31)
+pub rule-row : {j : Judgement} {n : ℕ} {l : List Item} (r : Rule j n l) → (ruleOf n (rules j) ≡ some (row r)) × (n ≤ 255)
 rule-row flow1 = (refl, omega arith)
 rule-row flow2 = (refl, omega arith)
 rule-row flow3 = (refl, omega arith)

@@ -124,7 +124,8 @@ module _ (Γ : Context) where
   unfolding spelledTree FitsTree
   tree-small (by r i t) zero at h = absurd h
   tree-small (by {n = n} r i t) (suc d) at h =
-      (number-small n (rule-row r .1), tree-small t d (at + 1) (h .1))
+      let low = rule-row r .1 in
+      (omega arith, tree-small t d (at + 1) (h .1))
   tree-small (assertion φ) d at h = expression-small d φ h
   tree-small (command c) d at h = command-small d c h
   tree-small (members p) d at h = set-small Γ d p h
