@@ -106,6 +106,7 @@ pub fn read_operand(sort: Sort, w: &[u32], from: Walk, left: usize) -> Walk
     ensures { λ r. ⌜ r ≡ onward from (λ p. walkOf (expression (now (w .entry)) left (sortMeant sort) p)) ⌝ }
 {
     match from {
+        Walk::Refused(_) => return from,
         Walk::Next(at) => {
             if is_leaf(sort, w, at, left) {
                 return Walk::Next(at + 1);
@@ -116,6 +117,5 @@ pub fn read_operand(sort: Sort, w: &[u32], from: Walk, left: usize) -> Walk
                 Sort::Array => read_array(w, at, left),
             }
         }
-        Walk::Refused(_) => from,
     }
 }

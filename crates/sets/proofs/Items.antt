@@ -5,7 +5,7 @@
 --     seen-at, plain-at, pair-at, certain-at                what an item names stands there
 --     see                                                   a member that is seen can be compared
 use mathlib.Core.Path.{_≡_, sym, ap, subst, _∙_}
-use mathlib.Core.Bool.{Bool, true, false}
+use mathlib.Core.Bool.{Bool, true, false, _&&_, and-true, and-false}
 use mathlib.Core.List.{List}
 use Prim.Native.Nat.{ℕ}
 use Rattle.ends.specs.Ends.{EndsOf}
@@ -43,20 +43,23 @@ module _ (ends : List ℕ) (a : ℕ) (view : View) (middle : ℕ) (m : middle �
   unfolding seenItem
   item-replaced put e = rw (e, m)
 
--- a written member compared with an item
-module _ (file ends : List ℕ) (at : ℕ) (item : Item) {b : Bool}
-    (e : b ≡ sameNumbers (part file ends at) (antecedentNumbers file ends (item .antecedent))) where
-  pub item-not : b ≡ false → false ≡ sameHalves (writtenHalves file ends at) (itemHalves file ends item)
+-- a written member compared with an item, consequents first
+module _ (file ends : List ℕ) (at : ℕ) (item : Item) (middle : ℕ) (m : middle ≡ endAt ends at) {b : Bool}
+    (e : b ≡ sameNumbers (part file ends middle) (consequentNumbers file ends (item .consequent))) where
+  halves-by : (sameNumbers (part file ends at) (antecedentNumbers file ends (item .antecedent)) && b)
+      ≡ sameHalves (writtenHalves file ends at) (itemHalves file ends item)
   unfolding sameHalves itemHalves seenItem antecedentNumbers consequentNumbers
-  item-not h = rw (← e, h)
+  halves-by =
+      ap (λ x. sameNumbers (part file ends at) (antecedentNumbers file ends (item .antecedent)) && x)
+      (e ∙ ap (λ i. sameNumbers (part file ends i) (consequentNumbers file ends (item .consequent))) m)
 
-  pub item-so : (middle : ℕ) {r : Bool} → b ≡ true → middle ≡ endAt ends at →
-      r ≡ sameNumbers (part file ends middle) (consequentNumbers file ends (item .consequent)) →
+  pub item-not : b ≡ false → false ≡ sameHalves (writtenHalves file ends at) (itemHalves file ends item)
+  item-not h =
+      rw (← halves-by, h) (sym (and-false (sameNumbers (part file ends at) (antecedentNumbers file ends (item .antecedent)))))
+
+  pub item-so : {r : Bool} → b ≡ true → r ≡ sameNumbers (part file ends at) (antecedentNumbers file ends (item .antecedent)) →
       r ≡ sameHalves (writtenHalves file ends at) (itemHalves file ends item)
-  unfolding sameHalves itemHalves seenItem antecedentNumbers consequentNumbers
-  item-so middle h m k =
-      rw (← e, h)
-      (k ∙ ap (λ i. sameNumbers (part file ends i) (consequentNumbers file ends (item .consequent))) m)
+  item-so h k = rw (← halves-by, h) (k ∙ sym (and-true _))
 
 -- what an item names stands there
 module _ {file ends : List ℕ} (o : EndsOf file ends) where

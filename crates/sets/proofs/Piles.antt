@@ -7,7 +7,7 @@
 --     any-first, any-second, any-third                an element of three piles
 --     all-first, all-second, all-third                each element of three piles
 use mathlib.Core.Path.{_≡_, refl, sym, ap, subst, _∙_}
-use mathlib.Core.Bool.{Bool, true, false, not, _&&_, _||_, cond}
+use mathlib.Core.Bool.{Bool, true, false, not, _&&_, _||_, cond, and-false}
 use mathlib.Core.List.{List, [], _∷_, _++_}
 use Prim.Native.Nat.{ℕ, _+_}
 use Rattle.compare.specs.Places.{AnyAt}
@@ -48,10 +48,6 @@ unfolding withinAll
 within-append [] l p = refl
 within-append (x ∷ k) l p =
     ap (λ b. standsIn x p && b) (within-append k l p) ∙ sym (and-assoc (standsIn x p) (withinAll k p) (withinAll l p))
-
-and-false : (f : Bool) → (f && false) ≡ false
-and-false true = refl
-and-false false = refl
 
 -- one step of the law below: x stands in the other list as c says, y is x as d says, and stands in the other as e says
 without-step : (c d e f : Bool) → (d ≡ true → e ≡ c) → cond c (f && not e) (d || (f && not e)) ≡ ((d || f) && not e)

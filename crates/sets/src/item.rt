@@ -73,22 +73,19 @@ pub fn pair_item(f: usize, b: usize) -> Item
 }
 
 // Whether the written member at `at` is the item: its antecedent as antecedents are compared, its consequent by words.
+// Consequents first: more members of a set differ in them.
 pub fn same_item(w: &[u32], ends: &[u32], at: usize, item: Item) -> bool
     requires { ⌜ CanCompare (now w) (now ends) «at» item ⌝ }
     ensures { λ r. ⌜ r ≡ sameHalves (writtenHalves (now (w .entry)) (now (ends .entry)) «at»)
         (itemHalves (now (w .entry)) (now (ends .entry)) item) ⌝ }
 {
-    let antecedent = item.antecedent;
-    if !same_antecedent(w, ends, at, antecedent) {
-        return false;
-    }
     let middle = end_at(ends, at);
     let consequent = item.consequent;
-    // the usual one at once
-    if let Consequent::Written(b) = consequent {
-        return same_consequents(w, ends, middle, b);
+    if !same_consequent(w, ends, middle, consequent) {
+        return false;
     }
-    same_consequent(w, ends, middle, consequent)
+    let antecedent = item.antecedent;
+    same_antecedent(w, ends, at, antecedent)
 }
 
 // Whether the written member at `at` is φ ⇒ E, φ at f and E at b: the usual one at once.
@@ -97,11 +94,11 @@ pub fn same_pair(w: &[u32], ends: &[u32], at: usize, f: usize, b: usize) -> bool
     ensures { λ r. ⌜ r ≡ sameHalves (writtenHalves (now (w .entry)) (now (ends .entry)) «at»)
         (itemHalves (now (w .entry)) (now (ends .entry)) (pairItem f b)) ⌝ }
 {
-    if !same_antecedents(w, ends, at, f) {
+    let middle = end_at(ends, at);
+    if !same_consequents(w, ends, middle, b) {
         return false;
     }
-    let middle = end_at(ends, at);
-    same_consequents(w, ends, middle, b)
+    same_antecedents(w, ends, at, f)
 }
 
 // Whether the written member at `at` is the one at a, seen as the view says. Each view has its own call, so that the

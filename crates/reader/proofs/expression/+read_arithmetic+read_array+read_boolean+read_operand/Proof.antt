@@ -281,6 +281,8 @@ pub +read-arithmetic+read-array+read-boolean+read-operand-spec : {M : Type 1} 鈫
     (read-operand-at t)
     read-operand.Post
     (位 c. search needs)
+    (位 c. rw (c .enum-told .given .1))
+    (位 c. search needs)
     (位 c 魏s. search needs)
     (位 c. let leaf = c .before in
     let start = leaf .before .before .before .before in
@@ -301,11 +303,9 @@ pub +read-arithmetic+read-array+read-boolean+read-operand-spec : {M : Type 1} 鈫
     (位 c. search needs)
     (位 c 魏s. let m = c .before .before .before .before .before in
     let e = ap (wordsLeft (m .before .before .before .args .w .now)) (m .from .given .1) in omega arith)
-    (位 c. search needs)
     (位 c. let m = c .before .before .before .before .before .before in
-    rw (m .from .given .1, c .before .enum-told .given .1) (c .read-arithmetic .ensures))
+    rw (m .from .given .1, c .before .enum-told2 .given .1) (c .read-arithmetic .ensures))
     (位 c. let m = c .before .before .before .before .before .before in
-    rw (m .from .given .1, c .before .enum-told2 .given .1) (c .read-boolean .ensures))
+    rw (m .from .given .1, c .before .enum-told3 .given .1) (c .read-boolean .ensures))
     (位 c. let m = c .before .before .before .before .before .before in
-    rw (m .from .given .1, c .before .enum-told3 .given .1) (c .read-array .ensures))
-    (位 c. rw (c .enum-told4 .given .1))
+    rw (m .from .given .1, c .before .enum-told4 .given .1) (c .read-array .ensures))

@@ -12,27 +12,25 @@ pub same-pair-spec : {M : Type 1} → statement M
 same-pair-spec =
     tie.close
     (tie.spec
+    (λ c κs. any-known (c .before .before .pre .ends-of) (antecedent-any (c .before .before .pre .member)) .listed)
     (λ c κs.
-    let p = c .before .before .pre in
-    (any-known (p .ends-of) (antecedent-any (p .member)), of-written (p .item-at .antecedent-at) refl))
-    (λ c.
-    let first = c .before in
-    let p = first .before .before .before .pre in
-    item-not _ _ _ _
-    (antecedent-written _ _ _ (any-known (p .ends-of) (antecedent-any (p .member))) _ _ refl (first .same-antecedents .ensures))
-    (not-true _ (c .if1 .taken)))
-    (λ c κs.
-    let p = c .before .before .before .before .pre in
-    any-known (p .ends-of) (antecedent-any (p .member)) .listed)
-    (λ c κs.
-    let p = c .before .before .before .before .before .pre in
+    let p = c .before .before .before .pre in
     (any-known (p .ends-of) (consequent-any (p .member) (c .end-at .ensures)), of-plain (p .item-at .consequent-at) refl))
     (λ c.
-    let ended = c .before in
-    let first = ended .before in
-    let p = first .before .before .before .before .pre in
-    item-so _ _ _ _
-    (antecedent-written _ _ _ (any-known (p .ends-of) (antecedent-any (p .member))) _ _ refl (first .before .same-antecedents .ensures)) _
-    (not-false _ (first .if1 .left)) (ended .end-at .ensures)
+    let s = c .before in
+    let ended = s .before in
+    let p = ended .before .before .before .pre in
+    item-not _ _ _ _ _ (ended .end-at .ensures)
     (consequent-written _ _ _ (any-known (p .ends-of) (consequent-any (p .member) (ended .end-at .ensures))) _ _ refl
-    (c .same-consequents .ensures))))
+    (s .same-consequents .ensures)) (not-true _ (c .if1 .taken)))
+    (λ c κs.
+    let p = c .before .before .before .before .before .pre in
+    (any-known (p .ends-of) (antecedent-any (p .member)), of-written (p .item-at .antecedent-at) refl))
+    (λ c.
+    let s = c .before .before in
+    let ended = s .before in
+    let p = ended .before .before .before .pre in
+    item-so _ _ _ _ _ (ended .end-at .ensures)
+    (consequent-written _ _ _ (any-known (p .ends-of) (consequent-any (p .member) (ended .end-at .ensures))) _ _ refl
+    (s .same-consequents .ensures)) (not-false _ (c .before .if1 .left))
+    (antecedent-written _ _ _ (any-known (p .ends-of) (antecedent-any (p .member))) _ _ refl (c .same-antecedents .ensures))))
