@@ -3,7 +3,7 @@
 --     tested-result                             the condition of a test
 --     no-children, one-child, two-children, three-children    the goals of the children, from their verdict
 --     fails-comes, misfit-comes                 conditions that fail; a form that does not fit
---     comes, leaf-comes, test-comes             conditions by their result; with no children; by a test
+--     comes, test-comes                         conditions by their result; by a test
 --     then-passes, then-fails                   a test, and then further conditions
 --     FlowComes, SetComes, PreComes             what a rule comes to for the trees of its goal
 --     flow-rule, set-rule, pre-rule             its contract from that
@@ -18,13 +18,13 @@ use Rattle.rules.specs.Context.{Context}
 use Rattle.rules.specs.Evidence as tree
 use Rattle.rules.specs.Evidence.{Item, Rule, row, Parts}
 use Rattle.rules.specs.Condition.{Result, fails, test, _then_}
-use Rattle.rules.specs.Judge.{Verdict, accepted, refused, _also_, Step, step, misfit, leaf, applied}
+use Rattle.rules.specs.Judge.{Verdict, accepted, refused, _also_, Step, step, misfit, applied}
 use Rattle.rules.specs.Judge.{flowRule, setRule, preRule, judge}
 use Rattle.layout.specs.Bytes.{payloadAt}
 use Rattle.layout.proofs.BackEvidence.{rule-row}
 use Rattle.implication.specs.Sides.{resultOf}
 use Rattle.implication.specs.declared.Condition.{Condition}
-use Rattle.implication.specs.declared.Condition.the-variants.{Passes, Fails, TooLarge}
+use Rattle.implication.specs.declared.Condition.the-variants.{Passes, Fails}
 use Rattle.goals.specs.declared.Goal.{Goal}
 use Rattle.goals.specs.declared.Goal.the-variants.{Flow, Set, Pre}
 use Rattle.goals.specs.Places.{WrittenAt, CommandAt, SetAt}

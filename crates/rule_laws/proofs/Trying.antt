@@ -11,34 +11,28 @@
 --     only-rule            the last rule that has children
 use mathlib.Core.Path.{_≡_, refl, ap, subst, _∙_}
 use mathlib.Core.Bool.{Bool, true, false, cond}
-use mathlib.Core.List.{List, [], _∷_}
-use mathlib.Core.Option.{none, some}
+use mathlib.Core.List.{List, []}
 use Prim.Native.Nat.{ℕ, zero, suc, _+_, _<_, _≤_}
 use native.Mathlib.Omega.{arith}
-use borrow.Author.Tests.{eqb-true}
-use lib.Dec.{eqb}
+use borrow.Author.Tests.{eqb-true, leb-true}
+use lib.Dec.{eqb, leb}
 use lib.ListN.{length}
 use Rattle.rules.specs.Context.{Context}
 use Rattle.rules.specs.Condition.{test}
-use Rattle.rules.specs.Evidence.{Judgement, flow, implication, precondition, Item, Rule, Row, row, rules, by, Evidence, Parts}
+use Rattle.rules.specs.Evidence.{Judgement, Item, Rule, Row, row, rules, by, Evidence, Parts}
 use Rattle.layout.specs.Bytes.{payloadAt}
-use Rattle.layout.specs.ReadEvidence.{ruleOf}
 use Rattle.layout.proofs.SpelledEvidence.{TreeAt, head-inside}
 use Rattle.layout.proofs.BackEvidence.{rule-row}
 use Rattle.compare.proofs.Operands.{Inside}
 use Rattle.implication.specs.Sides.{resultOf}
 use Rattle.implication.specs.declared.Condition.{Condition}
+use Rattle.goals.specs.Children.{judgementOf}
 use Rattle.goals.specs.Conditions.{conditionOf}
 use Rattle.goals.specs.Goals.{TreeGoal, GoalStands, flow-stands, set-stands, pre-stands, CanStep, CanTry}
 use Rattle.goals.specs.declared.Goal.{Goal}
-use Rattle.goals.specs.declared.Goal.the-variants.{Flow, Set, Pre}
 use Rattle.goals.proofs.Evidence.{Placed, placed, payload-is, evidence-of}
+use Rattle.goals.proofs.Children.{allRows, by-table}
 use Rattle.goals.proofs.Comes.{tested-result}
-
-abbrev pub judgementOf : Goal → Judgement
-judgementOf (Flow p c q) = flow
-judgementOf (Set p q) = implication
-judgementOf (Pre f c g) = precondition
 
 record EvidenceAt (Γ : Context) (file : List ℕ) (j : Judgement) (d at end : ℕ) : Type 0 where
   evidence : Evidence j
@@ -62,26 +56,16 @@ above : (n a m : ℕ) → a ≤ n → NoneFrom n a m → a + m ≤ n
 above n a zero l h = omega arith
 above n a (suc m) l (h, d) = let k = above n a m l h in omega arith
 
--- rules are numbered from a on
-abbrev numbered : {j : Judgement} → ℕ → List (Row j) → Bool
-numbered a [] = true
-numbered a (ρ ∷ l) = cond (eqb a (ρ .number)) (numbered (suc a) l) false
+-- the number of a row is one from a to b
+abbrev within : {j : Judgement} → ℕ → ℕ → Row j → Bool
+within a b ρ = cond (leb a (ρ .number)) (leb (ρ .number) b) false
 
-both : (b c : Bool) → cond b c false ≡ true → (b ≡ true) × (c ≡ true)
-both true c h = (refl, h)
-both false c h = let z : _≡_ {A = ℕ} 0 1 = cc in absurd (omega (arith, z))
-
-in-range : {j : Judgement} (n a : ℕ) (l : List (Row j)) (σ : Row j) → numbered a l ≡ true → ruleOf n l ≡ some σ →
-    (a ≤ n) × (n < a + length l)
-in-range n a [] σ e h = let z : _≡_ {A = ℕ} 0 1 = cc in absurd (omega (arith, z))
-in-range {j} n a (ρ ∷ l) σ e h =
-    let first = both (eqb a (ρ .number)) (numbered (suc a) l) e in
-    go (eqb n (ρ .number)) refl (eqb-true a (ρ .number) (first .0)) h (λ k. in-range n (suc a) l σ (first .1) k)
+from-to : (a b n : ℕ) → cond (leb a n) (leb n b) false ≡ true → (a ≤ n) × (n ≤ b)
+from-to a b n h = go (leb a n) refl h
   where
-    go : (t : Bool) → eqb n (ρ .number) ≡ t → a ≡ ρ .number → cond t (some ρ) (ruleOf n l) ≡ some σ →
-        (ruleOf n l ≡ some σ → (suc a ≤ n) × (n < suc a + length l)) → (a ≤ n) × (n < a + suc (length l))
-    go true f i h k = let d = eqb-true n (ρ .number) f in (omega arith, omega arith)
-    go false f i h k = let d = k h in (omega (arith, d .0), omega (arith, d .1))
+    go : (t : Bool) → leb a n ≡ t → cond t (leb n b) false ≡ true → (a ≤ n) × (n ≤ b)
+    go true e h = (leb-true a n e, leb-true n b h)
+    go false e h = let z : _≡_ {A = ℕ} 0 1 = cc in absurd (omega (arith, z))
 
 pub record PartsAt (Γ : Context) (file ends : List ℕ) (l : List Item) (at : ℕ) : Type 0 where
   pub parts : Parts l
@@ -101,20 +85,20 @@ module _ {file ends : List ℕ} {Γ : Context} {goal : Goal} {at : ℕ} where
   pub can-try : {n : ℕ} → CanStep file ends Γ goal at → payloadAt file at ≡ n → CanTry file ends Γ n goal at
   can-try can e = record { can = can; rule-is = e }
 
-  -- m rules are numbered from a on before the last
-  pub last-rule : (can : CanStep file ends Γ goal at) (a m : ℕ) → numbered a (rules (judgementOf goal)) ≡ true →
-      length (rules (judgementOf goal)) ≡ suc m → NoneFrom (payloadAt file at) a m → CanTry file ends Γ (a + m) goal at
-  last-rule can a m rows size h =
+  -- the rules are numbered from a on, and m stand before the last
+  pub last-rule : (can : CanStep file ends Γ goal at) (a m : ℕ) → allRows (within a (a + m)) (rules (judgementOf goal)) ≡ true →
+      NoneFrom (payloadAt file at) a m → CanTry file ends Γ (a + m) goal at
+  last-rule can a m rows h =
       let x = evidence-at (can .goal-stands) in
       let r = range (x .evidence) (x .stands) in
       let l = above (payloadAt file at) a m (r .0) h in
       can-try can (omega (arith, r .1))
     where
       range : (e : Evidence (judgementOf goal)) → TreeAt Γ file (suc (can .levels)) at e (can .end) →
-          (a ≤ payloadAt file at) × (payloadAt file at < a + length (rules (judgementOf goal)))
+          (a ≤ payloadAt file at) × (payloadAt file at ≤ a + m)
       range (by {n = n} r i t) s =
           rw (payload-is Γ file ends r i t (suc (can .levels)) at (can .end) s)
-          (in-range n a (rules (judgementOf goal)) (row r) rows (rule-row r .0))
+          (from-to a (a + m) n (by-table (within a (a + m)) rows r))
 
   pub parts-of : {n : ℕ} {l : List Item} → CanTry file ends Γ n goal at → Rule (judgementOf goal) n l →
       PartsAt Γ file ends l (at + 1)

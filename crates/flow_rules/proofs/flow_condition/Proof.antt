@@ -25,7 +25,7 @@ flow-condition-spec =
     (λ c κs. can-try (c .before .before .before .before .pre) (c .match .keys11))
     (λ c κs. can-try (c .before .before .before .before .pre) (c .match .keys12))
     (λ c κs. can-try (c .before .before .before .before .pre) (c .match .keys13))
-    (λ c κs. last-rule (c .before .before .before .before .pre) 1 13 refl refl (c .match .rest))
+    (λ c κs. last-rule (c .before .before .before .before .pre) 1 13 refl (c .match .rest))
     (λ c. c .rule-1 .ensures)
     (λ c. c .rule-2 .ensures)
     (λ c. c .rule-3 .ensures)

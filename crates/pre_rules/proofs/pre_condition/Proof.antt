@@ -22,7 +22,7 @@ pre-condition-spec =
     (λ c κs. can-try (c .before .before .before .before .pre) (c .match .keys8))
     (λ c κs. can-try (c .before .before .before .before .pre) (c .match .keys9))
     (λ c κs. can-try (c .before .before .before .before .pre) (c .match .keys10))
-    (λ c κs. last-rule (c .before .before .before .before .pre) 20 10 refl refl (c .match .rest))
+    (λ c κs. last-rule (c .before .before .before .before .pre) 20 10 refl (c .match .rest))
     (λ c. c .rule-20 .ensures)
     (λ c. c .rule-21 .ensures)
     (λ c. c .rule-22 .ensures)
