@@ -14,11 +14,12 @@ use Rattle.goals.specs.declared.Goal.the-variants.{Flow}
 use Rattle.goals.specs.Conditions.{conditionOf}
 use Rattle.goals.specs.Goals.{flow-stands, pre-stands, CanTry, StepOf}
 use Rattle.goals.proofs.Evidence.{Placed}
-use Rattle.goals.proofs.Comes.{two-children}
+use Rattle.goals.proofs.Comes.{two-children, FlowComes, flow-rule}
+use Rattle.rule_laws.proofs.Trying.{parts-of, up-to}
 use Rattle.sets.specs.Rules.{CanUnder, SameUnder}
 use Rattle.set_laws.proofs.Sets.{set-stands, has-set}
-use Rattle.flow_rules.proofs.Goal.{second, third, fourth, Comes, tried, first-fails, second-test, up-to}
-use Rattle.flow_rules.proofs.Goal.{trees, carried, expression-stands, has-expression}
+use Rattle.flow_rules.proofs.Goal.{second, third, fourth, first-fails, second-test}
+use Rattle.flow_rules.proofs.Goal.{trees, expression-stands, has-expression}
 
 module _ {Γ : Context} {file ends : List ℕ} {p c q at : ℕ} (can : CanTry file ends Γ 12 (Flow p c q) at) where
   asked : (t : Parts (row flow12 .after)) (d end : ℕ) → Placed Γ file ends d t (at + 1) end →
@@ -39,20 +40,20 @@ module _ {Γ : Context} {file ends : List ℕ} {p c q at : ℕ} (can : CanTry fi
   )
 
   pub can-first : CanUnder file ends p (at + 1) (third ends at)
-  can-first = let x = carried flow12 can in asked (x .parts) (x .levels) (x .end) (x .at-places) .0
+  can-first = let x = parts-of can flow12 in asked (x .parts) (x .levels) (x .end) (x .parts-placed) .0
 
   pub can-second : CanUnder file ends q (second ends at) (fourth ends at)
-  can-second = let x = carried flow12 can in asked (x .parts) (x .levels) (x .end) (x .at-places) .1
+  can-second = let x = parts-of can flow12 in asked (x .parts) (x .levels) (x .end) (x .parts-placed) .1
 
   module _ {a : Bool} (u : SameUnder file p (at + 1) (third ends at) a) where
-    fails : a ≡ false → Comes Γ file ends p c q at flow12 Fails
+    fails : a ≡ false → FlowComes Γ file ends p c q at flow12 Fails
     unfolding flowRule judge
     fails h x y e (members s & members s′ & assertion φ & assertion φ′ & l) d end f g z
         (s-at, (s′-at, (φ-at, (φ′-at, _)))) =
         first-fails _ refl (u .does x s φ (set-stands f) (set-stands s-at) (expression-stands φ-at)) h
 
     comes : a ≡ true → {b : Bool} → SameUnder file q (second ends at) (fourth ends at) b →
-        Comes Γ file ends p c q at flow12 (conditionOf b)
+        FlowComes Γ file ends p c q at flow12 (conditionOf b)
     unfolding flowRule judge
     comes h w x y e (members s & members s′ & assertion φ & assertion φ′ & child k & child l & done) d end f g z
         (s-at, (s′-at, (φ-at, (φ′-at, (i, k-at, (j, l-at, last)))))) =
@@ -61,8 +62,8 @@ module _ {Γ : Context} {file ends : List ℕ} {p c q at : ℕ} (can : CanTry fi
         (two-children (flow-stands s-at g s′-at k-at) (up-to (pre-stands φ-at g φ′-at l-at) last))
 
     pub under-fails : a ≡ false → StepOf file ends Γ (Flow p c q) at Fails
-    under-fails h = tried flow12 can (fails h)
+    under-fails h = flow-rule can flow12 (fails h)
 
     pub under-comes : a ≡ true → {b : Bool} → SameUnder file q (second ends at) (fourth ends at) b →
         StepOf file ends Γ (Flow p c q) at (conditionOf b)
-    under-comes h w = tried flow12 can (comes h w)
+    under-comes h w = flow-rule can flow12 (comes h w)

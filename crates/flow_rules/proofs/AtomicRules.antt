@@ -21,13 +21,13 @@ use Rattle.implication.specs.declared.Condition.the-variants.{Fails}
 use Rattle.goals.specs.declared.Goal.the-variants.{Flow}
 use Rattle.goals.specs.Conditions.{conditionOf}
 use Rattle.goals.specs.Goals.{CanStep, CanTry, StepOf}
-use Rattle.goals.proofs.Comes.{misfit-comes, no-children}
+use Rattle.goals.proofs.Comes.{misfit-comes, no-children, flow-rule}
 use Rattle.rule_laws.proofs.Commands.{AssignAt, is-skip, is-scalar, is-array, is-assert, other-kind}
 use Rattle.rule_laws.proofs.Commands.{other-than-skip, other-than-scalar, other-than-array, other-than-assert}
 use Rattle.sets.specs.Trees.{RightSide, PutStands, put-scalar, put-array}
 use Rattle.sets.specs.Rules.{CanReplaced, CanUnder, SameWritten, SameReplaced, SameUnder}
 use Rattle.set_laws.proofs.Sets.{set-stands, has-set}
-use Rattle.flow_rules.proofs.Goal.{tried, by-test, no-parts, trees, expression-stands, has-expression}
+use Rattle.flow_rules.proofs.Goal.{by-test, no-parts, trees, expression-stands, has-expression}
 
 -- the right side of the assignment at c, for the word n:x
 abbrev pub putting : List ℕ → List ℕ → ℕ → ℕ → Put
@@ -73,24 +73,24 @@ module _ {Γ : Context} {file ends : List ℕ} {p c q at : ℕ} where
   module _ (can : CanTry file ends Γ 1 (Flow p c q) at) where
     pub not-skip : (kindAt file c ≡ 24 → ⊥) → StepOf file ends Γ (Flow p c q) at Fails
     unfolding flowRule
-    not-skip h = tried flow1 can λ x y e t d end a k z s. misfit-comes (other-than-skip misfit e _ (other-kind k h))
+    not-skip h = flow-rule can flow1 λ x y e t d end a k z s. misfit-comes (other-than-skip misfit e _ (other-kind k h))
 
     pub skip-comes : kindAt file c ≡ 24 → {b : Bool} → SameWritten file p q b →
         StepOf file ends Γ (Flow p c q) at (conditionOf b)
     unfolding flowRule byForm
-    skip-comes h w = tried flow1 can λ x y e t d end a k z s.
+    skip-comes h w = flow-rule can flow1 λ x y e t d end a k z s.
         rw (is-skip k h) (by-test refl (w .does x y (set-stands a) (set-stands z))
         (no-children (no-parts Γ file ends d t s)))
 
   module _ (can : CanTry file ends Γ 3 (Flow p c q) at) where
     pub not-scalar : (kindAt file c ≡ 27 → ⊥) → StepOf file ends Γ (Flow p c q) at Fails
     unfolding flowRule
-    not-scalar h = tried flow3 can λ x y e t d end a k z s. misfit-comes (other-than-scalar misfit e _ (other-kind k h))
+    not-scalar h = flow-rule can flow3 λ x y e t d end a k z s. misfit-comes (other-than-scalar misfit e _ (other-kind k h))
 
     pub scalar-comes : kindAt file c ≡ 27 → {b : Bool} → SameReplaced file p q (putting file ends c 2) b →
         StepOf file ends Γ (Flow p c q) at (conditionOf b)
     unfolding flowRule byForm
-    scalar-comes h w = tried flow3 can λ x y e t d end a k z s.
+    scalar-comes h w = flow-rule can flow3 λ x y e t d end a k z s.
         let i = is-scalar (can .can .ends-of) k h in
         rw (i .is) (by-test refl (w .does x y _ (set-stands a) (set-stands z) (put-scalar (right-side 2 i)))
         (no-children (no-parts Γ file ends d t s)))
@@ -98,12 +98,12 @@ module _ {Γ : Context} {file ends : List ℕ} {p c q at : ℕ} where
   module _ (can : CanTry file ends Γ 4 (Flow p c q) at) where
     pub not-array : (kindAt file c ≡ 28 → ⊥) → StepOf file ends Γ (Flow p c q) at Fails
     unfolding flowRule
-    not-array h = tried flow4 can λ x y e t d end a k z s. misfit-comes (other-than-array misfit e _ (other-kind k h))
+    not-array h = flow-rule can flow4 λ x y e t d end a k z s. misfit-comes (other-than-array misfit e _ (other-kind k h))
 
     pub array-comes : kindAt file c ≡ 28 → {b : Bool} → SameReplaced file p q (putting file ends c 16) b →
         StepOf file ends Γ (Flow p c q) at (conditionOf b)
     unfolding flowRule byForm
-    array-comes h w = tried flow4 can λ x y e t d end a k z s.
+    array-comes h w = flow-rule can flow4 λ x y e t d end a k z s.
         let i = is-array (can .can .ends-of) k h in
         rw (i .is) (by-test refl (w .does x y _ (set-stands a) (set-stands z) (put-array (right-side 16 i)))
         (no-children (no-parts Γ file ends d t s)))
@@ -111,12 +111,12 @@ module _ {Γ : Context} {file ends : List ℕ} {p c q at : ℕ} where
   module _ (can : CanTry file ends Γ 5 (Flow p c q) at) where
     pub not-assert : (kindAt file c ≡ 26 → ⊥) → StepOf file ends Γ (Flow p c q) at Fails
     unfolding flowRule
-    not-assert h = tried flow5 can λ x y e t d end a k z s. misfit-comes (other-than-assert misfit e _ (other-kind k h))
+    not-assert h = flow-rule can flow5 λ x y e t d end a k z s. misfit-comes (other-than-assert misfit e _ (other-kind k h))
 
     pub assert-comes : kindAt file c ≡ 26 → {b : Bool} → SameUnder file p q (c + 1) b →
         StepOf file ends Γ (Flow p c q) at (conditionOf b)
     unfolding flowRule byForm
-    assert-comes h w = tried flow5 can λ x y e t d end a k z s.
+    assert-comes h w = flow-rule can flow5 λ x y e t d end a k z s.
         let i = is-assert (can .can .ends-of) k h in
         rw (i .is) (by-test refl
         (w .does x y (i .test) (set-stands a) (set-stands z) (expression-stands (i .test-at)))

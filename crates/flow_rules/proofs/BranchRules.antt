@@ -16,23 +16,24 @@ use Rattle.goals.specs.declared.Goal.the-variants.{Flow}
 use Rattle.goals.specs.Conditions.{conditionOf}
 use Rattle.goals.specs.Goals.{flow-stands, pre-stands, CanTry, StepOf}
 use Rattle.goals.proofs.Evidence.{Placed}
-use Rattle.goals.proofs.Comes.{misfit-comes, three-children}
+use Rattle.goals.proofs.Comes.{misfit-comes, three-children, FlowComes, flow-rule}
 use Rattle.rule_laws.proofs.Commands.{is-if, other-kind, other-than-if}
+use Rattle.rule_laws.proofs.Trying.{parts-of, up-to}
 use Rattle.sets.specs.Piles.{countAt}
 use Rattle.sets.specs.Rules.{CanBranches, SameBranches}
 use Rattle.set_laws.proofs.Sets.{set-stands, has-set, is-one, not-one}
-use Rattle.flow_rules.proofs.Goal.{second, third, Comes, tried, by-test, up-to, trees, carried}
+use Rattle.flow_rules.proofs.Goal.{second, third, by-test, trees}
 use Rattle.flow_rules.proofs.Goal.{expression-stands, has-expression}
 
 module _ {Γ : Context} {file ends : List ℕ} {p c q at : ℕ} (can : CanTry file ends Γ 6 (Flow p c q) at) where
   pub not-if : (kindAt file c ≡ 29 → ⊥) → StepOf file ends Γ (Flow p c q) at Fails
   unfolding flowRule
-  not-if h = tried flow6 can λ x y e t d end a k z s. misfit-comes (other-than-if misfit e _ (other-kind k h))
+  not-if h = flow-rule can flow6 λ x y e t d end a k z s. misfit-comes (other-than-if misfit e _ (other-kind k h))
 
   module _ (h : kindAt file c ≡ 29) where
     pub not-one-after : (countAt file q ≡ 1 → ⊥) → StepOf file ends Γ (Flow p c q) at Fails
     unfolding flowRule byForm
-    not-one-after n = tried flow6 can λ x y e t d end a k z s.
+    not-one-after n = flow-rule can flow6 λ x y e t d end a k z s.
         rw (is-if (can .can .ends-of) k h .is) (misfit-comes (not-one z misfit _ n))
 
     branch : (t : Parts (row flow6 .after)) (d end : ℕ) → Placed Γ file ends d t (at + 1) end →
@@ -47,11 +48,11 @@ module _ {Γ : Context} {file ends : List ℕ} {p c q at : ℕ} (can : CanTry fi
     }
 
     pub can-branch : CanBranches file ends p (at + 1) (second ends at) (c + 1) (third ends at)
-    can-branch = let x = carried flow6 can in branch (x .parts) (x .levels) (x .end) (x .at-places)
+    can-branch = let x = parts-of can flow6 in branch (x .parts) (x .levels) (x .end) (x .parts-placed)
 
     comes : countAt file q ≡ 1 → {b : Bool} →
         SameBranches file p (at + 1) (second ends at) (c + 1) (third ends at) b →
-        Comes Γ file ends p c q at flow6 (conditionOf b)
+        FlowComes Γ file ends p c q at flow6 (conditionOf b)
     unfolding flowRule judge byForm onOne
     comes one w x y e (members s & members t & assertion φ & child k & child l & child n & done) d end a b z
         (s-at, (t-at, (φ-at, (i, k-at, (j, l-at, (m, n-at, last)))))) =
@@ -68,4 +69,4 @@ module _ {Γ : Context} {file ends : List ℕ} {p c q at : ℕ} (can : CanTry fi
     pub if-comes : countAt file q ≡ 1 → {b : Bool} →
         SameBranches file p (at + 1) (second ends at) (c + 1) (third ends at) b →
         StepOf file ends Γ (Flow p c q) at (conditionOf b)
-    if-comes one w = tried flow6 can (comes one w)
+    if-comes one w = flow-rule can flow6 (comes one w)

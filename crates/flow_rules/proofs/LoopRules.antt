@@ -18,18 +18,19 @@ use Rattle.goals.specs.Conditions.{conditionOf}
 use Rattle.goals.specs.Goals.{flow-stands, CanTry, StepOf}
 use Rattle.goals.proofs.Places.{command-known}
 use Rattle.goals.proofs.Evidence.{Placed}
-use Rattle.goals.proofs.Comes.{misfit-comes, one-child}
+use Rattle.goals.proofs.Comes.{misfit-comes, one-child, FlowComes, flow-rule}
 use Rattle.rule_laws.specs.Sameness.{CanMean, MeaningAt}
 use Rattle.rule_laws.proofs.Commands.{is-while, is-for, other-kind, other-than-while, other-than-for}
+use Rattle.rule_laws.proofs.Trying.{parts-of, up-to}
 use Rattle.sets.specs.Rules.{CanTest, SameWritten, TestStands}
 use Rattle.set_laws.proofs.Sets.{set-stands, has-set}
-use Rattle.flow_rules.proofs.Goal.{Comes, tried, by-test, first-fails, second-test, up-to, trees, carried}
+use Rattle.flow_rules.proofs.Goal.{by-test, first-fails, second-test, trees}
 use Rattle.flow_rules.proofs.Goal.{command-head, expression-stands, has-expression}
 
 module _ {Γ : Context} {file ends : List ℕ} {p c q at : ℕ} (can : CanTry file ends Γ 13 (Flow p c q) at) where
   pub not-while : (kindAt file c ≡ 30 → ⊥) → StepOf file ends Γ (Flow p c q) at Fails
   unfolding flowRule
-  not-while h = tried flow13 can λ x y e t d end f g z s. misfit-comes (other-than-while misfit e _ (other-kind g h))
+  not-while h = flow-rule can flow13 λ x y e t d end f g z s. misfit-comes (other-than-while misfit e _ (other-kind g h))
 
   module _ (h : kindAt file c ≡ 30) where
     pub can-test : CanTest file ends p (c + 1)
@@ -42,10 +43,10 @@ module _ {Γ : Context} {file ends : List ℕ} {p c q at : ℕ} (can : CanTry fi
     module _ {a : Bool} (u : SameWritten file p q a) where
       pub not-same : a ≡ false → StepOf file ends Γ (Flow p c q) at Fails
       unfolding flowRule byForm
-      not-same n = tried flow13 can λ x y e t d end f g z s.
+      not-same n = flow-rule can flow13 λ x y e t d end f g z s.
           rw (is-while (can .can .ends-of) g h .is) (first-fails _ refl (u .does x y (set-stands f) (set-stands z)) n)
 
-      comes : a ≡ true → {b : Bool} → TestStands file p (c + 1) b → Comes Γ file ends p c q at flow13 (conditionOf b)
+      comes : a ≡ true → {b : Bool} → TestStands file p (c + 1) b → FlowComes Γ file ends p c q at flow13 (conditionOf b)
       unfolding flowRule judge byForm
       comes n w x y e (child k & done) d end f g z (i, k-at, last) =
           let l = is-while (can .can .ends-of) g h in
@@ -55,12 +56,12 @@ module _ {Γ : Context} {file ends : List ℕ} {p c q at : ℕ} (can : CanTry fi
 
       pub while-comes : a ≡ true → {b : Bool} → TestStands file p (c + 1) b →
           StepOf file ends Γ (Flow p c q) at (conditionOf b)
-      while-comes n w = tried flow13 can (comes n w)
+      while-comes n w = flow-rule can flow13 (comes n w)
 
 module _ {Γ : Context} {file ends : List ℕ} {p c q at : ℕ} (can : CanTry file ends Γ 14 (Flow p c q) at) where
   pub not-for : (kindAt file c ≡ 31 → ⊥) → StepOf file ends Γ (Flow p c q) at Fails
   unfolding flowRule
-  not-for h = tried flow14 can λ x y e t d end f g z s. misfit-comes (other-than-for misfit e _ (other-kind g h))
+  not-for h = flow-rule can flow14 λ x y e t d end f g z s. misfit-comes (other-than-for misfit e _ (other-kind g h))
 
   module _ (h : kindAt file c ≡ 31) where
     asked : (t : Parts (row flow14 .after)) (d end : ℕ) → Placed Γ file ends d t (at + 1) end →
@@ -75,9 +76,9 @@ module _ {Γ : Context} {file ends : List ℕ} {p c q at : ℕ} (can : CanTry fi
     }
 
     pub can-mean : CanMean file ends (at + 1) c
-    can-mean = let x = carried flow14 can in asked (x .parts) (x .levels) (x .end) (x .at-places)
+    can-mean = let x = parts-of can flow14 in asked (x .parts) (x .levels) (x .end) (x .parts-placed)
 
-    means : {b : Bool} → MeaningAt file ends (at + 1) c b → Comes Γ file ends p c q at flow14 (conditionOf b)
+    means : {b : Bool} → MeaningAt file ends (at + 1) c b → FlowComes Γ file ends p c q at flow14 (conditionOf b)
     unfolding flowRule judge byForm
     means w x y e (command m & child k & done) d end f g z (m-at, (i, k-at, last)) =
         let l = is-for (can .can .ends-of) g h in
@@ -86,4 +87,4 @@ module _ {Γ : Context} {file ends : List ℕ} {p c q at : ℕ} (can : CanTry fi
         (one-child (up-to (flow-stands f m-at z k-at) last)))
 
     pub for-comes : {b : Bool} → MeaningAt file ends (at + 1) c b → StepOf file ends Γ (Flow p c q) at (conditionOf b)
-    for-comes w = tried flow14 can (means w)
+    for-comes w = flow-rule can flow14 (means w)

@@ -12,17 +12,17 @@ use Rattle.layout.specs.Bytes.{kindAt}
 use Rattle.implication.specs.declared.Condition.the-variants.{Passes, Fails}
 use Rattle.goals.specs.declared.Goal.the-variants.{Flow}
 use Rattle.goals.specs.Goals.{flow-stands, CanTry, StepOf}
-use Rattle.goals.proofs.Comes.{misfit-comes, comes, two-children}
+use Rattle.goals.proofs.Comes.{misfit-comes, comes, two-children, FlowComes, flow-rule}
 use Rattle.rule_laws.proofs.Commands.{is-sequence, other-kind, other-than-sequence}
-use Rattle.flow_rules.proofs.Goal.{Comes, tried, up-to}
+use Rattle.rule_laws.proofs.Trying.{up-to}
 
 module _ {Γ : Context} {file ends : List ℕ} {p c q at : ℕ} (can : CanTry file ends Γ 2 (Flow p c q) at) where
   pub not-sequence : (kindAt file c ≡ 25 → ⊥) → StepOf file ends Γ (Flow p c q) at Fails
   unfolding flowRule
-  not-sequence h = tried flow2 can λ x y e t d end a k z s.
+  not-sequence h = flow-rule can flow2 λ x y e t d end a k z s.
       misfit-comes (other-than-sequence misfit e _ (other-kind k h))
 
-  passes : kindAt file c ≡ 25 → Comes Γ file ends p c q at flow2 Passes
+  passes : kindAt file c ≡ 25 → FlowComes Γ file ends p c q at flow2 Passes
   unfolding flowRule judge byForm
   passes h x y e (members m & child k & child l & done) d end a b z (m-at, (i, k-at, (j, l-at, last))) =
       let f = is-sequence (can .can .ends-of) b h in
@@ -30,4 +30,4 @@ module _ {Γ : Context} {file ends : List ℕ} {p c q at : ℕ} (can : CanTry fi
       (two-children (flow-stands a (f .first-at) m-at k-at) (up-to (flow-stands m-at (f .second-at) z l-at) last)))
 
   pub sequence-comes : kindAt file c ≡ 25 → StepOf file ends Γ (Flow p c q) at Passes
-  sequence-comes h = tried flow2 can (passes h)
+  sequence-comes h = flow-rule can flow2 (passes h)

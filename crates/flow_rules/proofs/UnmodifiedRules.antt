@@ -18,12 +18,13 @@ use Rattle.goals.specs.declared.Goal.the-variants.{Flow}
 use Rattle.goals.specs.Conditions.{conditionOf}
 use Rattle.goals.specs.Goals.{pre-stands, CanTry, StepOf}
 use Rattle.goals.proofs.Places.{known-to, written-known, command-known, set-known}
-use Rattle.goals.proofs.Comes.{misfit-comes, no-children, one-child}
+use Rattle.goals.proofs.Comes.{misfit-comes, no-children, one-child, FlowComes, flow-rule}
 use Rattle.rule_laws.specs.Sameness.{CanSame, SameAt, CanKeep, KeptAt}
+use Rattle.rule_laws.proofs.Trying.{up-to}
 use Rattle.sets.specs.Piles.{countAt}
 use Rattle.sets.specs.Rules.{SameWritten}
 use Rattle.set_laws.proofs.Sets.{set-stands, is-one, not-one}
-use Rattle.flow_rules.proofs.Goal.{Comes, tried, first-fails, second-test, no-parts, up-to, trees}
+use Rattle.flow_rules.proofs.Goal.{first-fails, second-test, no-parts, trees}
 
 module _ {Γ : Context} {file ends : List ℕ} {p c q at : ℕ} (can : CanTry file ends Γ 10 (Flow p c q) at) where
   pub can-keep-set : CanKeep file ends q c
@@ -36,24 +37,24 @@ module _ {Γ : Context} {file ends : List ℕ} {p c q at : ℕ} (can : CanTry fi
   module _ {a : Bool} (u : SameWritten file p q a) where
     pub not-same : a ≡ false → StepOf file ends Γ (Flow p c q) at Fails
     unfolding flowRule
-    not-same h = tried flow10 can λ x y e t d end f g z s.
+    not-same h = flow-rule can flow10 λ x y e t d end f g z s.
         first-fails _ refl (u .does x y (set-stands f) (set-stands z)) h
 
     pub set-kept : a ≡ true → {b : Bool} → KeptAt file ends q c b → StepOf file ends Γ (Flow p c q) at (conditionOf b)
     unfolding flowRule
-    set-kept h w = tried flow10 can λ x y e t d end f g z s.
+    set-kept h w = flow-rule can flow10 λ x y e t d end f g z s.
         second-test refl (sym (u .does x y (set-stands f) (set-stands z)) ∙ h) (w .set Γ y e z g)
         (no-children (no-parts Γ file ends d t s))
 
 module _ {Γ : Context} {file ends : List ℕ} {p c q at : ℕ} (can : CanTry file ends Γ 11 (Flow p c q) at) where
   pub not-one-before : (countAt file p ≡ 1 → ⊥) → StepOf file ends Γ (Flow p c q) at Fails
   unfolding flowRule
-  not-one-before n = tried flow11 can λ x y e t d end f g z s. misfit-comes (not-one f misfit _ n)
+  not-one-before n = flow-rule can flow11 λ x y e t d end f g z s. misfit-comes (not-one f misfit _ n)
 
   module _ (one : countAt file p ≡ 1) where
     pub not-one-after : (countAt file q ≡ 1 → ⊥) → StepOf file ends Γ (Flow p c q) at Fails
     unfolding flowRule onOne
-    not-one-after n = tried flow11 can λ x y e t d end f g z s.
+    not-one-after n = flow-rule can flow11 λ x y e t d end f g z s.
         rw (is-one f (can .can .ends-of) one .is) (misfit-comes (not-one z misfit _ n))
 
     pub can-keep : {i : ℕ} → i ≡ endAt ends (p + 1) → CanKeep file ends i c
@@ -77,13 +78,13 @@ module _ {Γ : Context} {file ends : List ℕ} {p c q at : ℕ} (can : CanTry fi
       module _ {a : Bool} (u : SameAt file ends (endAt ends (p + 1)) (endAt ends (q + 1)) a) where
         pub other-consequent : a ≡ false → StepOf file ends Γ (Flow p c q) at Fails
         unfolding flowRule onOne
-        other-consequent h = tried flow11 can λ x y e t d end f g z s.
+        other-consequent h = flow-rule can flow11 λ x y e t d end f g z s.
             let m = is-one f (can .can .ends-of) one in
             let n = is-one z (can .can .ends-of) alone in
             rw (m .is, n .is) (first-fails _ refl (u .is _ _ (m .only-at .consequent-at) (n .only-at .consequent-at)) h)
 
         kept : a ≡ true → {b : Bool} → KeptAt file ends (endAt ends (p + 1)) c b →
-            Comes Γ file ends p c q at flow11 (conditionOf b)
+            FlowComes Γ file ends p c q at flow11 (conditionOf b)
         unfolding flowRule judge onOne
         kept h w x y e (child k & done) d end f g z (i, k-at, last) =
             let m = is-one f (can .can .ends-of) one in
@@ -95,4 +96,4 @@ module _ {Γ : Context} {file ends : List ℕ} {p c q at : ℕ} (can : CanTry fi
 
         pub consequent-kept : a ≡ true → {b : Bool} → KeptAt file ends (endAt ends (p + 1)) c b →
             StepOf file ends Γ (Flow p c q) at (conditionOf b)
-        consequent-kept h w = tried flow11 can (kept h w)
+        consequent-kept h w = flow-rule can flow11 (kept h w)

@@ -1,19 +1,22 @@
 -- The children of a goal, and the row of its rule.
 -- Assumes nothing.
---     carriedOff                   the items of a row past what is carried
---     flow-count, set-count, pre-count    a rule has as many goals for children as its row has items past what is carried
---     RowIs, row-is                the row of the rule at the evidence word of a goal that stands
-use mathlib.Core.Path.{_≡_, refl, ap, _∙_}
-use mathlib.Core.List.{List}
+--     allRows, by-table    a test that every row of the table passes; a rule's row passes it
+--     goal-count           a rule has as many goals for children as its row has items past what is carried
+--     RowIs, row-is        the row of the rule at the evidence word of a goal that stands
+use mathlib.Core.Path.{_≡_, refl, ap, subst, _∙_}
+use mathlib.Core.Bool.{Bool, true, false, cond}
+use mathlib.Core.List.{List, [], _∷_}
+use mathlib.Core.Option.{none, some}
 use Prim.Native.Nat.{ℕ}
+use native.Mathlib.Omega.{arith}
+use borrow.Author.Tests.{eqb-true}
+use lib.Dec.{eqb}
 use lib.ListN.{length}
 use Rattle.rules.specs.Context.{Context}
-use Rattle.rules.specs.Evidence as tree
-use Rattle.rules.specs.Evidence.{Item, Rule, by, flow1}
-use Rattle.rules.specs.Evidence.{flow2, flow3, flow4, flow5, flow6, flow7, flow8, flow9, flow10, flow11, flow12}
-use Rattle.rules.specs.Evidence.{flow13, flow14, set13, set14, set15, set16, set17, set18, set19, pre20, pre21, pre22}
-use Rattle.rules.specs.Evidence.{pre23, pre24, pre25, pre26, pre27, pre28, pre29, pre30}
+use Rattle.rules.specs.Evidence.{Judgement, Item, Rule, Row, row, rules, by}
 use Rattle.layout.specs.Bytes.{payloadAt}
+use Rattle.layout.specs.ReadEvidence.{ruleOf}
+use Rattle.layout.proofs.BackEvidence.{rule-row}
 use Rattle.words.specs.Rows.{packed, rowOf}
 use Rattle.words.proofs.RowItems.{row-rule}
 use Rattle.goals.specs.declared.Goal.{Goal}
@@ -22,69 +25,55 @@ use Rattle.goals.specs.Children.{childrenAt, carriedOff, judgementOf}
 use Rattle.goals.specs.Goals.{TreeGoal, treeItems, GoalStands, flow-stands, set-stands, pre-stands}
 use Rattle.goals.proofs.Evidence.{payload-is}
 
-module _ (ends : List ℕ) where
-  flow-count : {n : ℕ} {l : List Item} → Rule tree.flow n l → (p c q at : ℕ) →
-      length (childrenAt ends (Flow p c q) n at) ≡ length (carriedOff l)
-  flow-count flow1 p c q at = refl
-  flow-count flow2 p c q at = refl
-  flow-count flow3 p c q at = refl
-  flow-count flow4 p c q at = refl
-  flow-count flow5 p c q at = refl
-  flow-count flow6 p c q at = refl
-  flow-count flow7 p c q at = refl
-  flow-count flow8 p c q at = refl
-  flow-count flow9 p c q at = refl
-  flow-count flow10 p c q at = refl
-  flow-count flow11 p c q at = refl
-  flow-count flow12 p c q at = refl
-  flow-count flow13 p c q at = refl
-  flow-count flow14 p c q at = refl
+both : (b c : Bool) → cond b c false ≡ true → (b ≡ true) × (c ≡ true)
+both true c h = (refl, h)
+both false c h = let z : _≡_ {A = ℕ} 0 1 = cc in absurd (omega (arith, z))
 
-  set-count : {n : ℕ} {l : List Item} → Rule tree.implication n l → (p q at : ℕ) →
-      length (childrenAt ends (Set p q) n at) ≡ length (carriedOff l)
-  set-count set13 p q at = refl
-  set-count set14 p q at = refl
-  set-count set15 p q at = refl
-  set-count set16 p q at = refl
-  set-count set17 p q at = refl
-  set-count set18 p q at = refl
-  set-count set19 p q at = refl
+module _ {j : Judgement} (P : Row j → Bool) where
+  abbrev pub allRows : List (Row j) → Bool
+  allRows [] = true
+  allRows (ρ ∷ l) = cond (P ρ) (allRows l) false
 
-  pre-count : {n : ℕ} {l : List Item} → Rule tree.precondition n l → (f c g at : ℕ) →
-      length (childrenAt ends (Pre f c g) n at) ≡ length (carriedOff l)
-  pre-count pre20 f c g at = refl
-  pre-count pre21 f c g at = refl
-  pre-count pre22 f c g at = refl
-  pre-count pre23 f c g at = refl
-  pre-count pre24 f c g at = refl
-  pre-count pre25 f c g at = refl
-  pre-count pre26 f c g at = refl
-  pre-count pre27 f c g at = refl
-  pre-count pre28 f c g at = refl
-  pre-count pre29 f c g at = refl
-  pre-count pre30 f c g at = refl
+  in-rows : (l : List (Row j)) (n : ℕ) (σ : Row j) → allRows l ≡ true → ruleOf n l ≡ some σ → P σ ≡ true
+  in-rows [] n σ e h = let z : _≡_ {A = ℕ} 0 1 = cc in absurd (omega (arith, z))
+  in-rows (ρ ∷ l) n σ e h =
+      let b = both (P ρ) (allRows l) e in
+      go (eqb n (ρ .number)) h (b .0) (λ k. in-rows l n σ (b .1) k)
+    where
+      go : (t : Bool) → cond t (some ρ) (ruleOf n l) ≡ some σ → P ρ ≡ true → (ruleOf n l ≡ some σ → P σ ≡ true) →
+          P σ ≡ true
+      go true h f k = let is : ρ ≡ σ = cc in subst (λ x. P x ≡ true) is f
+      go false h f k = k h
+
+  pub by-table : allRows (rules j) ≡ true → {n : ℕ} {l : List Item} (r : Rule j n l) → P (row r) ≡ true
+  by-table e {n} r = in-rows (rules j) n (row r) e (rule-row r .0)
+
+module _ (ends : List ℕ) (at : ℕ) where
+  abbrev counts : (goal : Goal) → Row (judgementOf goal) → Bool
+  counts goal ρ = eqb (length (childrenAt ends goal (ρ .number) at)) (length (carriedOff (ρ .after)))
+
+  goal-count : (goal : Goal) {n : ℕ} {l : List Item} → Rule (judgementOf goal) n l →
+      length (childrenAt ends goal n at) ≡ length (carriedOff l)
+  goal-count (Flow p c q) r = eqb-true _ _ (by-table (counts (Flow p c q)) refl r)
+  goal-count (Set p q) r = eqb-true _ _ (by-table (counts (Set p q)) refl r)
+  goal-count (Pre f c g) r = eqb-true _ _ (by-table (counts (Pre f c g)) refl r)
 
 pub record RowIs (file ends : List ℕ) (goal : Goal) (g : TreeGoal) (at : ℕ) : Type 0 where
   pub row : rowOf (judgementOf goal) (payloadAt file at) ≡ packed (treeItems g)
   pub count : length (childrenAt ends goal (payloadAt file at) at) ≡ length (carriedOff (treeItems g))
 
+by-rule : {file ends : List ℕ} {at n : ℕ} (goal : Goal) (g : TreeGoal) → Rule (judgementOf goal) n (treeItems g) →
+    payloadAt file at ≡ n → RowIs file ends goal g at
+by-rule {file} {ends} {at} goal g r e = record {
+  row = ap (rowOf (judgementOf goal)) e ∙ row-rule r;
+  count = ap (λ n. length (childrenAt ends goal n at)) e ∙ goal-count ends at goal r;
+}
+
 pub row-is : {Γ : Context} {file ends : List ℕ} {goal : Goal} {g : TreeGoal} {d at end : ℕ} →
     GoalStands Γ file ends goal g d at end → RowIs file ends goal g at
-row-is {Γ} {file} {ends} {d = d} {at = at} {end = end} (flow-stands {k = by r i t} {i = p} {j = c} {l = q} a b z s) =
-    let e = payload-is Γ file ends r i t d at end s in
-    record {
-      row = ap (rowOf tree.flow) e ∙ row-rule r;
-      count = ap (λ n. length (childrenAt ends (Flow p c q) n at)) e ∙ flow-count ends r p c q at;
-    }
-row-is {Γ} {file} {ends} {d = d} {at = at} {end = end} (set-stands {k = by r i t} {i = p} {j = q} a b s) =
-    let e = payload-is Γ file ends r i t d at end s in
-    record {
-      row = ap (rowOf tree.implication) e ∙ row-rule r;
-      count = ap (λ n. length (childrenAt ends (Set p q) n at)) e ∙ set-count ends r p q at;
-    }
-row-is {Γ} {file} {ends} {d = d} {at = at} {end = end} (pre-stands {k = by r i t} {i = f} {j = c} {l = g} a b z s) =
-    let e = payload-is Γ file ends r i t d at end s in
-    record {
-      row = ap (rowOf tree.precondition) e ∙ row-rule r;
-      count = ap (λ n. length (childrenAt ends (Pre f c g) n at)) e ∙ pre-count ends r f c g at;
-    }
+row-is {Γ} {file} {ends} {goal} {g} {d} {at} {end} (flow-stands {k = by r i t} a b z s) =
+    by-rule goal g r (payload-is Γ file ends r i t d at end s)
+row-is {Γ} {file} {ends} {goal} {g} {d} {at} {end} (set-stands {k = by r i t} a b s) =
+    by-rule goal g r (payload-is Γ file ends r i t d at end s)
+row-is {Γ} {file} {ends} {goal} {g} {d} {at} {end} (pre-stands {k = by r i t} a b z s) =
+    by-rule goal g r (payload-is Γ file ends r i t d at end s)

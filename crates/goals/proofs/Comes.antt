@@ -5,24 +5,23 @@
 --     fails-comes, misfit-comes                 conditions that fail; a form that does not fit
 --     comes, test-comes                         conditions by their result; by a test
 --     then-passes, then-fails                   a test, and then further conditions
---     flow-rule, set-rule, pre-rule             a rule's contract, from what it comes to for the trees of its goal
-use mathlib.Core.Path.{_≡_, refl, sym, ap, subst, _∙_}
+--     FlowComes, SetComes, PreComes             what a rule comes to for the trees of its goal
+--     flow-rule, set-rule, pre-rule             its contract from that
+use mathlib.Core.Path.{_≡_, refl, sym, ap, _∙_}
 use mathlib.Core.Bool.{Bool, true, false}
 use mathlib.Core.List.{List, [], _∷_}
-use mathlib.Core.Option.{some}
 use Prim.Native.Nat.{ℕ, suc, _+_, _≤_}
 use native.Mathlib.Omega.{arith}
 use Rattle.language.specs.Syntax.{Boolean, Expr, Command}
 use Rattle.rules.specs.Assertion.{Members}
 use Rattle.rules.specs.Context.{Context}
 use Rattle.rules.specs.Evidence as tree
-use Rattle.rules.specs.Evidence.{Row, rules, Parts}
+use Rattle.rules.specs.Evidence.{Item, Rule, row, Parts}
 use Rattle.rules.specs.Condition.{Result, fails, test, _then_}
 use Rattle.rules.specs.Judge.{Verdict, accepted, refused, _also_, Step, step, misfit, applied}
 use Rattle.rules.specs.Judge.{flowRule, setRule, preRule, judge}
 use Rattle.layout.specs.Bytes.{payloadAt}
-use Rattle.layout.specs.ReadEvidence.{ruleOf}
-use Rattle.ends.specs.Ends.{EndsOf}
+use Rattle.layout.proofs.BackEvidence.{rule-row}
 use Rattle.implication.specs.Sides.{resultOf}
 use Rattle.implication.specs.declared.Condition.{Condition}
 use Rattle.implication.specs.declared.Condition.the-variants.{Passes, Fails}
@@ -32,7 +31,7 @@ use Rattle.goals.specs.Places.{WrittenAt, CommandAt, SetAt}
 use Rattle.goals.specs.Children.{childrenAt, pastCarried}
 use Rattle.goals.specs.Conditions.{conditionOf}
 use Rattle.goals.specs.Goals.{TreeGoal, verdict, GoalStands, flow-stands, set-stands, pre-stands, ChildrenOf, ComesTo}
-use Rattle.goals.specs.Goals.{flow, set, pre, treeStep, treeItems, StepOf}
+use Rattle.goals.specs.Goals.{treeStep, treeItems, CanTry, StepOf}
 use Rattle.goals.proofs.Evidence.{Placed, placed, evidence-of}
 
 pub tested-result : (b : Bool) → resultOf (conditionOf b) ≡ test b
@@ -102,61 +101,65 @@ pub then-fails : {b : Bool} (x : Result) → b ≡ false → test b then x ≡ f
 unfolding test _then_
 then-fails x h = rw h refl
 
-module _ {Γ : Context} {file ends : List ℕ} (o : EndsOf file ends) {n at : ℕ} (rule-is : payloadAt file at ≡ n)
-    {r : Condition} where
-  pub flow-rule : {p c q : ℕ} (ρ : Row tree.flow) → ruleOf n (rules tree.flow) ≡ some ρ →
-      ((x y : Members) (e : Command) (t : Parts (ρ .after)) (d end : ℕ) → SetAt file ends Γ x p →
-      CommandAt file ends e c → SetAt file ends Γ y q → Placed Γ file ends d t (at + 1) end →
-      ComesTo Γ file ends (applied (ρ .after) (flowRule Γ (ρ .rule)) (judge Γ t) x e y)
-      (childrenAt ends (Flow p c q) n at) d (pastCarried ends (ρ .after) (at + 1)) end r) →
-      StepOf file ends Γ (Flow p c q) at r
-  flow-rule {p} {c} {q} ρ listed f = record { comes = go }
+module _ (Γ : Context) (file ends : List ℕ) where
+  -- for all trees at the places of its goal, and its parts, a rule comes to the conditions' result
+  abbrev pub FlowComes : (p c q at : ℕ) {n : ℕ} {l : List Item} → Rule tree.flow n l → Condition → Type 0
+  FlowComes p c q at {n} {l} r result =
+      (x y : Members) (e : Command) (t : Parts l) (d end : ℕ) → SetAt file ends Γ x p → CommandAt file ends e c →
+      SetAt file ends Γ y q → Placed Γ file ends d t (at + 1) end →
+      ComesTo Γ file ends (applied l (flowRule Γ r) (judge Γ t) x e y) (childrenAt ends (Flow p c q) n at) d
+      (pastCarried ends l (at + 1)) end result
+
+  abbrev pub SetComes : (p q at : ℕ) {n : ℕ} {l : List Item} → Rule tree.implication n l → Condition → Type 0
+  SetComes p q at {n} {l} r result =
+      (x y : Members) (t : Parts l) (d end : ℕ) → SetAt file ends Γ x p → SetAt file ends Γ y q →
+      Placed Γ file ends d t (at + 1) end →
+      ComesTo Γ file ends (applied l (setRule Γ r) (judge Γ t) x y) (childrenAt ends (Set p q) n at) d
+      (pastCarried ends l (at + 1)) end result
+
+  abbrev pub PreComes : (f c g at : ℕ) {n : ℕ} {l : List Item} → Rule tree.precondition n l → Condition → Type 0
+  PreComes f c g at {n} {l} r result =
+      (φ φ′ : Expr Boolean) (e : Command) (t : Parts l) (d end : ℕ) → WrittenAt file ends φ f →
+      CommandAt file ends e c → WrittenAt file ends φ′ g → Placed Γ file ends d t (at + 1) end →
+      ComesTo Γ file ends (applied l (preRule Γ r) (judge Γ t) φ e φ′) (childrenAt ends (Pre f c g) n at) d
+      (pastCarried ends l (at + 1)) end result
+
+  -- what a step promises of a goal as trees
+  abbrev Promised : ℕ → Goal → Condition → TreeGoal → ℕ → ℕ → Type 0
+  Promised at goal r g d end =
+      ComesTo Γ file ends (treeStep Γ g) (childrenAt ends goal (payloadAt file at) at) d
+      (pastCarried ends (treeItems g) (at + 1)) end r
+
+module _ {Γ : Context} {file ends : List ℕ} {n : ℕ} {l : List Item} {at : ℕ} {u : Condition} where
+  pub flow-rule : {p c q : ℕ} → CanTry file ends Γ n (Flow p c q) at → (r : Rule tree.flow n l) →
+      FlowComes Γ file ends p c q at r u → StepOf file ends Γ (Flow p c q) at u
+  flow-rule {p} {c} {q} can r f = record { comes = go }
     where
       go : (g : TreeGoal) (d end : ℕ) → d ≤ 256 → GoalStands Γ file ends (Flow p c q) g (suc d) at end →
-          ComesTo Γ file ends (treeStep Γ g) (childrenAt ends (Flow p c q) (payloadAt file at) at) d
-          (pastCarried ends (treeItems g) (at + 1)) end r
-      go g d end l (flow-stands {k = k} {p = x} {q = y} {c = e} a b z s) =
-          let w = evidence-of Γ file ends ρ listed k d at end s rule-is in
-          let h = f x y e (w .parts) d end a b z (placed Γ file ends o d l (w .parts) (at + 1) end (w .stand)) in
-          subst (λ i. ComesTo Γ file ends (treeStep Γ (flow k x e y)) (childrenAt ends (Flow p c q) i at) d
-          (pastCarried ends (treeItems (flow k x e y)) (at + 1)) end r) (sym rule-is)
-          (subst (λ k. ComesTo Γ file ends (treeStep Γ (flow k x e y)) (childrenAt ends (Flow p c q) n at) d
-          (pastCarried ends (treeItems (flow k x e y)) (at + 1)) end r) (sym (w .is)) h)
+          Promised Γ file ends at (Flow p c q) u g d end
+      go g d end low (flow-stands {k = k} {p = x} {q = y} {c = e} a b z s) =
+          let w = evidence-of Γ file ends (row r) (rule-row r .0) k d at end s (can .rule-is) in
+          rw (can .rule-is, w .is) (f x y e (w .parts) d end a b z
+          (placed Γ file ends (can .can .ends-of) d low (w .parts) (at + 1) end (w .stand)))
 
-  pub set-rule : {p q : ℕ} (ρ : Row tree.implication) → ruleOf n (rules tree.implication) ≡ some ρ →
-      ((x y : Members) (t : Parts (ρ .after)) (d end : ℕ) → SetAt file ends Γ x p → SetAt file ends Γ y q →
-      Placed Γ file ends d t (at + 1) end →
-      ComesTo Γ file ends (applied (ρ .after) (setRule Γ (ρ .rule)) (judge Γ t) x y)
-      (childrenAt ends (Set p q) n at) d (pastCarried ends (ρ .after) (at + 1)) end r) →
-      StepOf file ends Γ (Set p q) at r
-  set-rule {p} {q} ρ listed f = record { comes = go }
+  pub set-rule : {p q : ℕ} → CanTry file ends Γ n (Set p q) at → (r : Rule tree.implication n l) →
+      SetComes Γ file ends p q at r u → StepOf file ends Γ (Set p q) at u
+  set-rule {p} {q} can r f = record { comes = go }
     where
       go : (g : TreeGoal) (d end : ℕ) → d ≤ 256 → GoalStands Γ file ends (Set p q) g (suc d) at end →
-          ComesTo Γ file ends (treeStep Γ g) (childrenAt ends (Set p q) (payloadAt file at) at) d
-          (pastCarried ends (treeItems g) (at + 1)) end r
-      go g d end l (set-stands {k = k} {p = x} {q = y} a b s) =
-          let w = evidence-of Γ file ends ρ listed k d at end s rule-is in
-          let h = f x y (w .parts) d end a b (placed Γ file ends o d l (w .parts) (at + 1) end (w .stand)) in
-          subst (λ i. ComesTo Γ file ends (treeStep Γ (set k x y)) (childrenAt ends (Set p q) i at) d
-          (pastCarried ends (treeItems (set k x y)) (at + 1)) end r) (sym rule-is)
-          (subst (λ k. ComesTo Γ file ends (treeStep Γ (set k x y)) (childrenAt ends (Set p q) n at) d
-          (pastCarried ends (treeItems (set k x y)) (at + 1)) end r) (sym (w .is)) h)
+          Promised Γ file ends at (Set p q) u g d end
+      go g d end low (set-stands {k = k} {p = x} {q = y} a b s) =
+          let w = evidence-of Γ file ends (row r) (rule-row r .0) k d at end s (can .rule-is) in
+          rw (can .rule-is, w .is) (f x y (w .parts) d end a b
+          (placed Γ file ends (can .can .ends-of) d low (w .parts) (at + 1) end (w .stand)))
 
-  pub pre-rule : {f c g : ℕ} (ρ : Row tree.precondition) → ruleOf n (rules tree.precondition) ≡ some ρ →
-      ((φ φ′ : Expr Boolean) (e : Command) (t : Parts (ρ .after)) (d end : ℕ) → WrittenAt file ends φ f →
-      CommandAt file ends e c → WrittenAt file ends φ′ g → Placed Γ file ends d t (at + 1) end →
-      ComesTo Γ file ends (applied (ρ .after) (preRule Γ (ρ .rule)) (judge Γ t) φ e φ′)
-      (childrenAt ends (Pre f c g) n at) d (pastCarried ends (ρ .after) (at + 1)) end r) →
-      StepOf file ends Γ (Pre f c g) at r
-  pre-rule {f} {c} {g} ρ listed h = record { comes = go }
+  pub pre-rule : {f c g : ℕ} → CanTry file ends Γ n (Pre f c g) at → (r : Rule tree.precondition n l) →
+      PreComes Γ file ends f c g at r u → StepOf file ends Γ (Pre f c g) at u
+  pre-rule {f} {c} {g} can r h = record { comes = go }
     where
       go : (t : TreeGoal) (d end : ℕ) → d ≤ 256 → GoalStands Γ file ends (Pre f c g) t (suc d) at end →
-          ComesTo Γ file ends (treeStep Γ t) (childrenAt ends (Pre f c g) (payloadAt file at) at) d
-          (pastCarried ends (treeItems t) (at + 1)) end r
-      go t d end l (pre-stands {k = k} {φ = φ} {φ′ = φ′} {c = e} a b z s) =
-          let w = evidence-of Γ file ends ρ listed k d at end s rule-is in
-          let x = h φ φ′ e (w .parts) d end a b z (placed Γ file ends o d l (w .parts) (at + 1) end (w .stand)) in
-          subst (λ i. ComesTo Γ file ends (treeStep Γ (pre k φ e φ′)) (childrenAt ends (Pre f c g) i at) d
-          (pastCarried ends (treeItems (pre k φ e φ′)) (at + 1)) end r) (sym rule-is)
-          (subst (λ k. ComesTo Γ file ends (treeStep Γ (pre k φ e φ′)) (childrenAt ends (Pre f c g) n at) d
-          (pastCarried ends (treeItems (pre k φ e φ′)) (at + 1)) end r) (sym (w .is)) x)
+          Promised Γ file ends at (Pre f c g) u t d end
+      go t d end low (pre-stands {k = k} {φ = φ} {φ′ = φ′} {c = e} a b z s) =
+          let w = evidence-of Γ file ends (row r) (rule-row r .0) k d at end s (can .rule-is) in
+          rw (can .rule-is, w .is) (h φ φ′ e (w .parts) d end a b z
+          (placed Γ file ends (can .can .ends-of) d low (w .parts) (at + 1) end (w .stand)))

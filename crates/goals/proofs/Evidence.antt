@@ -1,7 +1,6 @@
 -- The evidence of a goal by its rule: what it carries stands at the places that the list of ends gives, and its children
 -- stand after that.
 -- Assumes nothing.
---     payload-is         the number of its rule is the payload of its word
 --     Placed, placed     parts at their places; of parts that stand
 --     payload-is         the payload of an evidence word is its rule's number
 --     evidence-of        evidence whose word has the number of a rule is of that rule

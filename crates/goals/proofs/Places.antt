@@ -2,7 +2,7 @@
 -- Assumes nothing.
 --     expression-past, command-past, set-past    where it ends
 --     written, commanded, member-set             it stands up to its end in the list
---     written-to, command-to, set-to, known-to   at the same place by another name
+--     written-to, set-to, known-to               at the same place by another name
 --     written-inside                             an expression has words, and ends in the file
 --     command-inside, set-inside                 the same of a command and of a set
 --     written-known, command-known, set-known    its place is in the list of ends
@@ -91,9 +91,6 @@ module _ {file ends : List ℕ} where
   -- at the same place by another name
   pub written-to : {k : Sort} {e : Expr k} {i j : ℕ} → j ≡ i → WrittenAt file ends e i → WrittenAt file ends e j
   written-to {e = e} h x = subst (λ n. WrittenAt file ends e n) (sym h) x
-
-  pub command-to : {c : Command} {i j : ℕ} → j ≡ i → CommandAt file ends c i → CommandAt file ends c j
-  command-to {c} h x = subst (λ n. CommandAt file ends c n) (sym h) x
 
   pub set-to : {Γ : Context} {m : Members} {i j : ℕ} → j ≡ i → SetAt file ends Γ m i →
       SetAt file ends Γ m j

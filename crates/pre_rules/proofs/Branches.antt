@@ -2,33 +2,30 @@
 -- Assumes nothing.
 --     if-fails            a command of another form
 --     can-split, if-rule  an `if`: what the code asks for; the rule
-use mathlib.Core.Path.{_≡_, refl, ap, subst}
+use mathlib.Core.Path.{_≡_, ap}
 use mathlib.Core.Bool.{Bool}
 use mathlib.Core.List.{List}
 use Prim.Native.Nat.{ℕ, _+_}
-use Rattle.language.specs.Syntax.{Boolean, Expr, Command}
 use Rattle.rules.specs.Context.{Context}
 use Rattle.rules.specs.Condition.{byForm}
 use Rattle.rules.specs.Evidence.{row, Parts, assertion, child, done, _&_, pre20}
-use Rattle.rules.specs.Judge.{misfit, applied, preRule, judge}
+use Rattle.rules.specs.Judge.{misfit, preRule, judge}
 use Rattle.layout.specs.Bytes.{kindAt}
-use Rattle.layout.proofs.SpelledEvidence.{TreeAt}
 use Rattle.compare.specs.Places.{endAt}
 use Rattle.implication.specs.declared.Condition.{Condition}
 use Rattle.implication.specs.declared.Condition.the-variants.{Fails}
-use Rattle.goals.specs.Children.{childrenAt, pastCarried}
 use Rattle.goals.specs.Conditions.{conditionOf}
-use Rattle.goals.specs.Goals.{CanTry, StepOf, ComesTo, pre-stands}
+use Rattle.goals.specs.Goals.{CanTry, StepOf, pre-stands}
 use Rattle.goals.specs.declared.Goal.the-variants.{Pre}
-use Rattle.goals.specs.Places.{WrittenAt, CommandAt, PartKnown}
+use Rattle.goals.specs.Places.{PartKnown}
 use Rattle.goals.proofs.Places.{written-to, written-known, known-to}
 use Rattle.goals.proofs.Evidence.{Placed}
-use Rattle.goals.proofs.Comes.{comes, two-children, pre-rule}
+use Rattle.goals.proofs.Comes.{comes, two-children, PreComes, pre-rule}
 use Rattle.ends.specs.Ends.{EndsOf}
 use Rattle.rule_laws.proofs.Commands.{is-if, other-kind, other-than-if}
-use Rattle.rule_laws.proofs.Trying.{tested}
+use Rattle.rule_laws.proofs.Trying.{parts-of, up-to, tested}
 use Rattle.pre_rules.specs.Conditions.{CanSplit, SplitAt}
-use Rattle.pre_rules.proofs.Goal.{here, first-known, parts-of, misfit-rule}
+use Rattle.pre_rules.proofs.Goal.{here, first-known, misfit-rule}
 
 -- what is carried is in the list of ends
 carried-known : (Γ : Context) (file ends : List ℕ) (d at end : ℕ) → EndsOf file ends → (t : Parts (row pre20 .after)) →
@@ -57,16 +54,13 @@ module _ {file ends : List ℕ} {Γ : Context} {f c g at : ℕ} (can : CanTry fi
     pub if-rule : {b : Bool} → SplitAt file ends f (c + 1) (at + 1) q b → {r : Condition} → r ≡ conditionOf b →
         StepOf file ends Γ (Pre f c g) at r
     unfolding preRule judge byForm
-    if-rule split {r} n = pre-rule (can .can .ends-of) (can .rule-is) (row pre20) refl go
+    if-rule split {r} n = pre-rule can pre20 go
       where
-        go : (φ φ′ : Expr Boolean) (e : Command) (t : Parts (row pre20 .after)) (d end : ℕ) → WrittenAt file ends φ f →
-            CommandAt file ends e c → WrittenAt file ends φ′ g → Placed Γ file ends d t (at + 1) end →
-            ComesTo Γ file ends (applied (row pre20 .after) (preRule Γ pre20) (judge Γ t) φ e φ′)
-            (childrenAt ends (Pre f c g) 20 at) d (pastCarried ends (row pre20 .after) (at + 1)) end r
+        go : PreComes Γ file ends f c g at pre20 r
         go φ φ′ e (assertion φ₁ & assertion φ₂ & child k & child l & done) d end x y z
             (a, (b, (j, k-at, (m, l-at, last)))) =
             let s = is-if (can .can .ends-of) y h in
             comes _ r (ap (λ u. preRule Γ pre20 φ₁ φ₂ (judge Γ k) (judge Γ l) φ u φ′) (s .is))
             (tested n (split .is φ (s .test) φ₁ φ₂ x (s .test-at) a (written-to i b)))
             (two-children (pre-stands a (s .first-at) z k-at)
-            (pre-stands b (s .second-at) z (subst (λ v. TreeAt Γ file d j l v) last l-at)))
+            (up-to (pre-stands b (s .second-at) z l-at) last))

@@ -6,30 +6,26 @@ use mathlib.Core.Path.{_≡_, refl, ap, subst}
 use mathlib.Core.Bool.{Bool}
 use mathlib.Core.List.{List}
 use Prim.Native.Nat.{ℕ, _+_}
-use Rattle.language.specs.Syntax.{Boolean, Expr, Command}
 use Rattle.rules.specs.Context.{Context}
 use Rattle.rules.specs.Condition.{byForm}
 use Rattle.rules.specs.Evidence.{row, Parts, assertion, command, child, done, _&_, pre21, pre30}
-use Rattle.rules.specs.Judge.{misfit, applied, preRule, judge}
+use Rattle.rules.specs.Judge.{misfit, preRule, judge}
 use Rattle.layout.specs.Bytes.{kindAt}
-use Rattle.layout.proofs.SpelledEvidence.{TreeAt}
-use Rattle.compare.specs.Places.{endAt}
 use Rattle.implication.specs.declared.Condition.{Condition}
 use Rattle.implication.specs.declared.Condition.the-variants.{Fails}
 use Rattle.ends.specs.Ends.{EndsOf}
-use Rattle.goals.specs.Children.{childrenAt, pastCarried}
 use Rattle.goals.specs.Conditions.{conditionOf}
-use Rattle.goals.specs.Goals.{CanTry, StepOf, ComesTo, pre-stands}
+use Rattle.goals.specs.Goals.{CanTry, StepOf, pre-stands}
 use Rattle.goals.specs.declared.Goal.the-variants.{Pre}
-use Rattle.goals.specs.Places.{WrittenAt, CommandAt, PartKnown}
+use Rattle.goals.specs.Places.{CommandAt, PartKnown}
 use Rattle.goals.proofs.Places.{command-known}
 use Rattle.goals.proofs.Evidence.{Placed}
-use Rattle.goals.proofs.Comes.{comes, one-child, pre-rule}
+use Rattle.goals.proofs.Comes.{comes, one-child, PreComes, pre-rule}
 use Rattle.rule_laws.specs.Sameness.{CanMean, MeaningAt}
 use Rattle.rule_laws.proofs.Commands.{is-while, is-for, other-kind, other-than-while, other-than-for}
-use Rattle.rule_laws.proofs.Trying.{tested}
+use Rattle.rule_laws.proofs.Trying.{parts-of, up-to, tested}
 use Rattle.pre_rules.specs.Conditions.{CanRepeat, RepeatsAt}
-use Rattle.pre_rules.proofs.Goal.{here, command-head, parts-of, first-carried, misfit-rule}
+use Rattle.pre_rules.proofs.Goal.{here, command-head, first-carried, misfit-rule}
 
 module _ {file ends : List ℕ} {Γ : Context} {f c g at : ℕ} (can : CanTry file ends Γ 21 (Pre f c g) at) where
   pub while-fails : (kindAt file c ≡ 30 → ⊥) → StepOf file ends Γ (Pre f c g) at Fails
@@ -53,17 +49,14 @@ module _ {file ends : List ℕ} {Γ : Context} {f c g at : ℕ} (can : CanTry fi
     pub while-rule : {r : Condition} → RepeatsAt file ends (Γ .limits .comparisons) (at + 1) (c + 1) g f r →
         StepOf file ends Γ (Pre f c g) at r
     unfolding preRule judge byForm
-    while-rule {r} repeats = pre-rule (can .can .ends-of) (can .rule-is) (row pre21) refl go
+    while-rule {r} repeats = pre-rule can pre21 go
       where
-        go : (φ φ′ : Expr Boolean) (e : Command) (t : Parts (row pre21 .after)) (d end : ℕ) → WrittenAt file ends φ f →
-            CommandAt file ends e c → WrittenAt file ends φ′ g → Placed Γ file ends d t (at + 1) end →
-            ComesTo Γ file ends (applied (row pre21 .after) (preRule Γ pre21) (judge Γ t) φ e φ′)
-            (childrenAt ends (Pre f c g) 21 at) d (pastCarried ends (row pre21 .after) (at + 1)) end r
+        go : PreComes Γ file ends f c g at pre21 r
         go φ φ′ e (assertion φ₀ & child k & done) d end x y z (a, (i, k-at, last)) =
             let s = is-while (can .can .ends-of) y h in
             comes _ r (ap (λ u. preRule Γ pre21 φ₀ (judge Γ k) φ u φ′) (s .is))
             (repeats .is φ₀ (s .test) φ′ φ a (s .test-at) z x Γ refl)
-            (one-child (pre-stands a (s .body-at) x (subst (λ q. TreeAt Γ file d (endAt ends (at + 1)) k q) last k-at)))
+            (one-child (up-to (pre-stands a (s .body-at) x k-at) last))
 
 -- the command that is carried is in the list of ends
 carried-known : (Γ : Context) (file ends : List ℕ) (d at end : ℕ) → EndsOf file ends → (t : Parts (row pre30 .after)) →
@@ -90,15 +83,12 @@ module _ {file ends : List ℕ} {Γ : Context} {f c g at : ℕ} (can : CanTry fi
     pub for-rule : {b : Bool} → MeaningAt file ends (at + 1) c b → {r : Condition} → r ≡ conditionOf b →
         StepOf file ends Γ (Pre f c g) at r
     unfolding preRule judge byForm
-    for-rule means {r} n = pre-rule (can .can .ends-of) (can .rule-is) (row pre30) refl go
+    for-rule means {r} n = pre-rule can pre30 go
       where
-        go : (φ φ′ : Expr Boolean) (e : Command) (t : Parts (row pre30 .after)) (d end : ℕ) → WrittenAt file ends φ f →
-            CommandAt file ends e c → WrittenAt file ends φ′ g → Placed Γ file ends d t (at + 1) end →
-            ComesTo Γ file ends (applied (row pre30 .after) (preRule Γ pre30) (judge Γ t) φ e φ′)
-            (childrenAt ends (Pre f c g) 30 at) d (pastCarried ends (row pre30 .after) (at + 1)) end r
+        go : PreComes Γ file ends f c g at pre30 r
         go φ φ′ e (command p & child k & done) d end x y z (a, (i, k-at, last)) =
             let s = is-for (can .can .ends-of) y h in
             let there = subst (λ u. CommandAt file ends u c) (s .is) y in
             comes _ r (ap (λ u. preRule Γ pre30 p (judge Γ k) φ u φ′) (s .is))
             (tested n (means .is p (s .counter) (s .bound) (s .body) a there))
-            (one-child (pre-stands x a z (subst (λ q. TreeAt Γ file d (endAt ends (at + 1)) k q) last k-at)))
+            (one-child (up-to (pre-stands x a z k-at) last))

@@ -1,24 +1,20 @@
 -- The rule of a sequence (document 01, rule 23).
 -- Assumes nothing.
 --     sequence-fails, sequence-rule    a command of another form; a sequence
-use mathlib.Core.Path.{_≡_, refl, ap, subst}
+use mathlib.Core.Path.{_≡_, refl, ap}
 use mathlib.Core.List.{List}
-use Prim.Native.Nat.{ℕ, _+_}
-use Rattle.language.specs.Syntax.{Boolean, Expr, Command}
+use Prim.Native.Nat.{ℕ}
 use Rattle.rules.specs.Context.{Context}
 use Rattle.rules.specs.Condition.{byForm}
-use Rattle.rules.specs.Evidence.{row, Parts, assertion, child, done, _&_, pre23}
-use Rattle.rules.specs.Judge.{misfit, applied, preRule, judge}
+use Rattle.rules.specs.Evidence.{assertion, child, done, _&_, pre23}
+use Rattle.rules.specs.Judge.{misfit, preRule, judge}
 use Rattle.layout.specs.Bytes.{kindAt}
-use Rattle.layout.proofs.SpelledEvidence.{TreeAt}
 use Rattle.implication.specs.declared.Condition.the-variants.{Passes, Fails}
-use Rattle.goals.specs.Children.{childrenAt, pastCarried}
-use Rattle.goals.specs.Goals.{CanTry, StepOf, ComesTo, pre-stands}
+use Rattle.goals.specs.Goals.{CanTry, StepOf, pre-stands}
 use Rattle.goals.specs.declared.Goal.the-variants.{Pre}
-use Rattle.goals.specs.Places.{WrittenAt, CommandAt}
-use Rattle.goals.proofs.Evidence.{Placed}
-use Rattle.goals.proofs.Comes.{comes, two-children, pre-rule}
+use Rattle.goals.proofs.Comes.{comes, two-children, PreComes, pre-rule}
 use Rattle.rule_laws.proofs.Commands.{is-sequence, other-kind, other-than-sequence}
+use Rattle.rule_laws.proofs.Trying.{up-to}
 use Rattle.pre_rules.proofs.Goal.{misfit-rule}
 
 module _ {file ends : List ℕ} {Γ : Context} {f c g at : ℕ} (can : CanTry file ends Γ 23 (Pre f c g) at) where
@@ -28,14 +24,11 @@ module _ {file ends : List ℕ} {Γ : Context} {f c g at : ℕ} (can : CanTry fi
 
   pub sequence-rule : kindAt file c ≡ 25 → StepOf file ends Γ (Pre f c g) at Passes
   unfolding preRule judge byForm
-  sequence-rule h = pre-rule (can .can .ends-of) (can .rule-is) (row pre23) refl go
+  sequence-rule h = pre-rule can pre23 go
     where
-      go : (φ φ′ : Expr Boolean) (e : Command) (t : Parts (row pre23 .after)) (d end : ℕ) → WrittenAt file ends φ f →
-          CommandAt file ends e c → WrittenAt file ends φ′ g → Placed Γ file ends d t (at + 1) end →
-          ComesTo Γ file ends (applied (row pre23 .after) (preRule Γ pre23) (judge Γ t) φ e φ′)
-          (childrenAt ends (Pre f c g) 23 at) d (pastCarried ends (row pre23 .after) (at + 1)) end Passes
+      go : PreComes Γ file ends f c g at pre23 Passes
       go φ φ′ e (assertion φ₁ & child k & child l & done) d end x y z (a, (i, k-at, (m, l-at, last))) =
           let s = is-sequence (can .can .ends-of) y h in
           comes _ Passes (ap (λ u. preRule Γ pre23 φ₁ (judge Γ k) (judge Γ l) φ u φ′) (s .is)) refl
           (two-children (pre-stands x (s .first-at) a k-at)
-          (pre-stands a (s .second-at) z (subst (λ q. TreeAt Γ file d i l q) last l-at)))
+          (up-to (pre-stands a (s .second-at) z l-at) last))

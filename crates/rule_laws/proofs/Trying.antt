@@ -1,65 +1,71 @@
 -- What a rule of any judgement is tried on: its evidence word, and the parts after it.
 -- Assumes nothing.
 --     step-head, low-head  the evidence word is in the file
---     can-try, listed, last-row
---                          a goal that can be judged, tried by its rule; the rule is in the table, and may be the last
---     PartsAt, parts-at    the parts after an evidence word of a rule, at their places
+--     first-word           the first word of what has words is in the file
+--     can-try              a goal that can be judged, tried by its rule
+--     NoneFrom, last-rule  a number that is none of some in a row; a goal tried by the last rule, which is none of those before
+--     PartsAt, parts-of    the parts after an evidence word of a rule, at their places
+--     up-to                a goal up to the same place by another name
 --     tested               the code's test is the rule's
 --     is-first, is-second  the only child, and the second of two
 --     only-rule            the last rule that has children
-use mathlib.Core.Path.{_≡_, refl, ap, _∙_}
+use mathlib.Core.Path.{_≡_, refl, ap, subst, _∙_}
 use mathlib.Core.Bool.{Bool, true, false, cond}
 use mathlib.Core.List.{List, []}
-use mathlib.Core.Option.{none, some}
-use Prim.Native.Nat.{ℕ, suc, _+_, _<_, _≤_}
+use Prim.Native.Nat.{ℕ, zero, suc, _+_, _<_, _≤_}
 use native.Mathlib.Omega.{arith}
-use borrow.Author.Tests.{eqb-true}
-use lib.Dec.{eqb}
+use borrow.Author.Tests.{eqb-true, leb-true}
+use lib.Dec.{eqb, leb}
 use lib.ListN.{length}
 use Rattle.rules.specs.Context.{Context}
 use Rattle.rules.specs.Condition.{test}
 use Rattle.rules.specs.Evidence.{Judgement, Item, Rule, Row, row, rules, by, Evidence, Parts}
 use Rattle.layout.specs.Bytes.{payloadAt}
-use Rattle.layout.specs.ReadEvidence.{ruleOf}
 use Rattle.layout.proofs.SpelledEvidence.{TreeAt, head-inside}
 use Rattle.layout.proofs.BackEvidence.{rule-row}
-use Rattle.ends.specs.Ends.{EndsOf}
+use Rattle.compare.proofs.Operands.{Inside}
 use Rattle.implication.specs.Sides.{resultOf}
 use Rattle.implication.specs.declared.Condition.{Condition}
+use Rattle.goals.specs.Children.{judgementOf}
 use Rattle.goals.specs.Conditions.{conditionOf}
 use Rattle.goals.specs.Goals.{TreeGoal, GoalStands, flow-stands, set-stands, pre-stands, CanStep, CanTry}
 use Rattle.goals.specs.declared.Goal.{Goal}
 use Rattle.goals.proofs.Evidence.{Placed, placed, payload-is, evidence-of}
+use Rattle.goals.proofs.Children.{allRows, by-table}
 use Rattle.goals.proofs.Comes.{tested-result}
 
-head : {Γ : Context} {file ends : List ℕ} {goal : Goal} {g : TreeGoal} {d at end : ℕ} →
-    GoalStands Γ file ends goal g d at end → at < length file
-head {Γ} {file} {d = d} {at} {end} (flow-stands {k = k} x y z s) = head-inside Γ file k d at end s
-head {Γ} {file} {d = d} {at} {end} (set-stands {k = k} x y s) = head-inside Γ file k d at end s
-head {Γ} {file} {d = d} {at} {end} (pre-stands {k = k} x y z s) = head-inside Γ file k d at end s
+record EvidenceAt (Γ : Context) (file : List ℕ) (j : Judgement) (d at end : ℕ) : Type 0 where
+  evidence : Evidence j
+  stands : TreeAt Γ file d at evidence end
 
-module _ {file ends : List ℕ} {Γ : Context} {goal : Goal} {at : ℕ} where
-  pub step-head : CanStep file ends Γ goal at → at < length file
-  step-head can = head (can .goal-stands)
+evidence-at : {Γ : Context} {file ends : List ℕ} {goal : Goal} {g : TreeGoal} {d at end : ℕ} →
+    GoalStands Γ file ends goal g d at end → EvidenceAt Γ file (judgementOf goal) d at end
+evidence-at (flow-stands {k = k} x y z s) = record { evidence = k; stands = s }
+evidence-at (set-stands {k = k} x y s) = record { evidence = k; stands = s }
+evidence-at (pre-stands {k = k} x y z s) = record { evidence = k; stands = s }
 
-  pub low-head : {n : ℕ} → CanTry file ends Γ n goal at → at < 8192
-  low-head can = let h = step-head (can .can) in let s = can .can .size in omega arith
+pub first-word : {file : List ℕ} {at end : ℕ} → Inside file at end → at < length file
+first-word i = let s = i .start in let w = i .within in omega arith
 
-  pub can-try : {n : ℕ} → CanStep file ends Γ goal at → payloadAt file at ≡ n → CanTry file ends Γ n goal at
-  can-try can e = record { can = can; rule-is = e }
+-- n is none of the m numbers from a on
+abbrev pub NoneFrom : ℕ → ℕ → ℕ → Type 0
+NoneFrom n a zero = Unit {0}
+NoneFrom n a (suc m) = NoneFrom n a m × (n ≡ a + m → ⊥)
 
-pub listed : (Γ : Context) (file ends : List ℕ) {j : Judgement} (e : Evidence j) (d at end : ℕ) →
-    TreeAt Γ file d at e end → (ρ : Row j) × (ruleOf (payloadAt file at) (rules j) ≡ some ρ)
-listed Γ file ends {j} (by r i t) d at end s =
-    (row r, ap (λ n. ruleOf n (rules j)) (payload-is Γ file ends r i t d at end s) ∙ rule-row r .0)
+above : (n a m : ℕ) → a ≤ n → NoneFrom n a m → a + m ≤ n
+above n a zero l h = omega arith
+above n a (suc m) l (h, d) = let k = above n a m l h in omega arith
 
--- a rule that is none of those before the last
-pub last-row : {j : Judgement} (n m : ℕ) (ρ σ : Row j) → cond (eqb n m) (some ρ) none ≡ some σ → n ≡ m
-last-row n m ρ σ h = eqb-true n m (go (eqb n m) h)
+-- the number of a row is one from a to b
+abbrev within : {j : Judgement} → ℕ → ℕ → Row j → Bool
+within a b ρ = cond (leb a (ρ .number)) (leb (ρ .number) b) false
+
+from-to : (a b n : ℕ) → cond (leb a n) (leb n b) false ≡ true → (a ≤ n) × (n ≤ b)
+from-to a b n h = go (leb a n) refl h
   where
-    go : (b : Bool) → cond b (some ρ) none ≡ some σ → b ≡ true
-    go true h = refl
-    go false h = let z : _≡_ {A = ℕ} 0 1 = cc in absurd (omega (arith, z))
+    go : (t : Bool) → leb a n ≡ t → cond t (leb n b) false ≡ true → (a ≤ n) × (n ≤ b)
+    go true e h = (leb-true a n e, leb-true n b h)
+    go false e h = let z : _≡_ {A = ℕ} 0 1 = cc in absurd (omega (arith, z))
 
 pub record PartsAt (Γ : Context) (file ends : List ℕ) (l : List Item) (at : ℕ) : Type 0 where
   pub parts : Parts l
@@ -67,17 +73,49 @@ pub record PartsAt (Γ : Context) (file ends : List ℕ) (l : List Item) (at : �
   pub end : ℕ
   pub parts-placed : Placed Γ file ends levels parts at end
 
-pub parts-at : {Γ : Context} {file ends : List ℕ} {j : Judgement} {n : ℕ} {l : List Item} (r : Rule j n l) →
-    EndsOf file ends → (e : Evidence j) {d at end : ℕ} → d ≤ 256 → TreeAt Γ file (suc d) at e end →
-    payloadAt file at ≡ n → PartsAt Γ file ends l (at + 1)
-parts-at {Γ} {file} {ends} r o e {d} {at} {end} low s h =
-    let x = evidence-of Γ file ends (row r) (rule-row r .0) e d at end s h in
-    record {
-      parts = x .parts;
-      levels = d;
-      end = end;
-      parts-placed = placed Γ file ends o d low (x .parts) (at + 1) end (x .stand);
-    }
+module _ {file ends : List ℕ} {Γ : Context} {goal : Goal} {at : ℕ} where
+  pub step-head : CanStep file ends Γ goal at → at < length file
+  step-head can =
+      let x = evidence-at (can .goal-stands) in
+      head-inside Γ file (x .evidence) (suc (can .levels)) at (can .end) (x .stands)
+
+  pub low-head : {n : ℕ} → CanTry file ends Γ n goal at → at < 8192
+  low-head can = let h = step-head (can .can) in let s = can .can .size in omega arith
+
+  pub can-try : {n : ℕ} → CanStep file ends Γ goal at → payloadAt file at ≡ n → CanTry file ends Γ n goal at
+  can-try can e = record { can = can; rule-is = e }
+
+  -- the rules are numbered from a on, and m stand before the last
+  pub last-rule : (can : CanStep file ends Γ goal at) (a m : ℕ) → allRows (within a (a + m)) (rules (judgementOf goal)) ≡ true →
+      NoneFrom (payloadAt file at) a m → CanTry file ends Γ (a + m) goal at
+  last-rule can a m rows h =
+      let x = evidence-at (can .goal-stands) in
+      let r = range (x .evidence) (x .stands) in
+      let l = above (payloadAt file at) a m (r .0) h in
+      can-try can (omega (arith, r .1))
+    where
+      range : (e : Evidence (judgementOf goal)) → TreeAt Γ file (suc (can .levels)) at e (can .end) →
+          (a ≤ payloadAt file at) × (payloadAt file at ≤ a + m)
+      range (by {n = n} r i t) s =
+          rw (payload-is Γ file ends r i t (suc (can .levels)) at (can .end) s)
+          (from-to a (a + m) n (by-table (within a (a + m)) rows r))
+
+  pub parts-of : {n : ℕ} {l : List Item} → CanTry file ends Γ n goal at → Rule (judgementOf goal) n l →
+      PartsAt Γ file ends l (at + 1)
+  parts-of can r =
+      let k = can .can in
+      let x = evidence-at (k .goal-stands) in
+      let w = evidence-of Γ file ends (row r) (rule-row r .0) (x .evidence) (k .levels) at (k .end) (x .stands) (can .rule-is) in
+      record {
+        parts = w .parts;
+        levels = k .levels;
+        end = k .end;
+        parts-placed = placed Γ file ends (k .ends-of) (k .levels) (k .low) (w .parts) (at + 1) (k .end) (w .stand);
+      }
+
+pub up-to : {Γ : Context} {file ends : List ℕ} {g : Goal} {t : TreeGoal} {d at q end : ℕ} →
+    GoalStands Γ file ends g t d at q → q ≡ end → GoalStands Γ file ends g t d at end
+up-to {Γ} {file} {ends} {g} {t} {d} {at} s e = subst (λ i. GoalStands Γ file ends g t d at i) e s
 
 pub tested : {b t : Bool} {c : Condition} → c ≡ conditionOf b → b ≡ t → resultOf c ≡ test t
 tested {b} e h = ap resultOf e ∙ tested-result b ∙ ap test h

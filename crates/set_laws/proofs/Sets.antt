@@ -2,7 +2,6 @@
 -- Assumes nothing.
 --     set-stands, has-set             a set at a place, as the comparison of sets takes it
 --     set-count, set-written          its count; its members at their places
---     carried-set                     a set that evidence carries, and what follows it
 --     is-empty, not-empty             a set with no member, or as all the others
 --     is-one, not-one                 a set of one member, or as all the others
 use mathlib.Core.Path.{_≡_, refl, sym, ap, subst, _∙_}
@@ -16,14 +15,14 @@ use Rattle.rules.specs.Assertion.{Member, Members}
 use Rattle.rules.specs.Context.{Context}
 use Rattle.rules.specs.Condition.{onEmpty, onOne}
 use Rattle.layout.specs.Spelling.{FitsExpression, memberWords, membersWords, FitsMembers, FitsSet}
-use Rattle.layout.specs.EvidenceWords.{Part, setPart}
-use Rattle.layout.specs.Standing.{Stands, PartStands, Chain}
+use Rattle.layout.specs.EvidenceWords.{setPart}
+use Rattle.layout.specs.Standing.{Stands, PartStands}
 use Rattle.layout.proofs.Stands.{parted}
 use Rattle.layout.proofs.Words.{payload-of-word}
 use Rattle.ends.specs.Ends.{EndsOf}
 use Rattle.compare.specs.Places.{endAt}
 use Rattle.goals.specs.Places.{WrittenAt, SetAt}
-use Rattle.goals.proofs.Places.{expression-past, set-past, written, member-set}
+use Rattle.goals.proofs.Places.{expression-past, written}
 use Rattle.sets.specs.Items.{pastMember}
 use Rattle.sets.specs.Piles.{countAt}
 use Rattle.sets.specs.Trees.{SetStands, HasSet}
@@ -79,13 +78,6 @@ module _ {file ends : List ℕ} (o : EndsOf file ends) where
   pub set-written : {Γ : Context} {m : Members} {at : ℕ} → SetAt file ends Γ m at →
       MembersWritten file ends m (at + 1)
   set-written {Γ} {m} {at} x = set-to Γ m (x .levels) at (endAt ends at) (x .low) (x .stands)
-
-  pub carried-set : (Γ : Context) (m : Members) (l : List Part) (d at p : ℕ) → d ≤ 256 →
-      Chain file (setPart Γ m ∷ l) d at p → SetAt file ends Γ m at × Chain file l d (endAt ends at) p
-  carried-set Γ m l d at p h c = (
-    member-set o Γ m d at (c .0) h (c .1),
-    subst (λ q. Chain file l d q p) (set-past o Γ m d at (c .0) (c .1)) (c .2),
-  )
 
 empty-by : (m : Members) → length m ≡ 0 → m ≡ []
 empty-by [] e = refl

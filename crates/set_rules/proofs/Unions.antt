@@ -18,21 +18,20 @@ use Rattle.rules.specs.Condition.{test, _then_}
 use Rattle.rules.specs.Sets.{without}
 use Rattle.rules.specs.Tests.{same}
 use Rattle.rules.specs.Evidence.{row, Parts, child, members, done, _&_, set16, set17}
-use Rattle.rules.specs.Judge.{applied, setRule, judge}
-use Rattle.layout.proofs.SpelledEvidence.{TreeAt}
+use Rattle.rules.specs.Judge.{setRule, judge}
 use Rattle.compare.specs.Places.{endAt}
 use Rattle.implication.specs.Sides.{resultOf}
 use Rattle.implication.specs.declared.Condition.{Condition}
 use Rattle.implication.specs.declared.Condition.the-variants.{Fails}
-use Rattle.goals.specs.Children.{childrenAt, pastCarried}
+use Rattle.goals.specs.Children.{childrenAt}
 use Rattle.goals.specs.Conditions.{conditionOf}
-use Rattle.goals.specs.Goals.{CanTry, StepOf, ComesTo, set-stands}
+use Rattle.goals.specs.Goals.{CanTry, StepOf, set-stands}
 use Rattle.goals.specs.declared.Goal.the-variants.{Set}
 use Rattle.goals.specs.Places.{SetAt}
 use Rattle.goals.proofs.Places.{set-to}
 use Rattle.goals.proofs.Evidence.{Placed}
-use Rattle.goals.proofs.Comes.{comes, two-children, then-passes, then-fails, set-rule}
-use Rattle.rule_laws.proofs.Trying.{tested, only-rule}
+use Rattle.goals.proofs.Comes.{comes, two-children, then-passes, then-fails, SetComes, set-rule}
+use Rattle.rule_laws.proofs.Trying.{parts-of, up-to, tested, only-rule}
 use Rattle.sets.specs.Rules.{CanThree, SameUnion}
 use Rattle.sets.specs.Trees.{HasSet, stands-empty, stands-plain, stands-without, CanSameSet, SameSet}
 use Rattle.sets.specs.declared.item.View.the-variants.{Plain}
@@ -42,7 +41,7 @@ use Rattle.sets.specs.declared.pile.Piles.{Piles}
 use Rattle.set_laws.proofs.Sets as sets
 use Rattle.set_laws.proofs.Sets.{has-set}
 use Rattle.set_rules.specs.Conditions.{CanRest, RestAt}
-use Rattle.set_rules.proofs.Goal.{here, parts-of}
+use Rattle.set_rules.proofs.Goal.{here}
 
 has-to : {file : List ℕ} {i j : ℕ} → j ≡ i → HasSet file i → HasSet file j
 has-to {file} e x = subst (HasSet file) (sym e) x
@@ -96,18 +95,15 @@ module _ {file ends : List ℕ} {Γ : Context} {p q at b c : ℕ} where
         resultOf r ≡ (test (same x (s ++ t)) then test (same y (s′ ++ t′)))) →
         StepOf file ends Γ (Set p q) at r
     unfolding setRule judge
-    united {r} h = set-rule (can .can .ends-of) (can .rule-is) (row set16) refl go
+    united {r} h = set-rule can set16 go
       where
-        go : (x y : Members) (t : Parts (row set16 .after)) (d end : ℕ) → SetAt file ends Γ x p →
-            SetAt file ends Γ y q → Placed Γ file ends d t (at + 1) end →
-            ComesTo Γ file ends (applied (row set16 .after) (setRule Γ set16) (judge Γ t) x y)
-            (childrenAt ends (Set p q) 16 at) d (pastCarried ends (row set16 .after) (at + 1)) end r
+        go : SetComes Γ file ends p q at set16 r
         go x y (members s & members s′ & members t & members t′ & child k & child l & done) d end px qy
             (s-at, (s′-at, (t-at, (t′-at, (i, k-at, (m, l-at, last)))))) =
             comes _ r refl
             (h x y s s′ t t′ px qy s-at (set-to eb s′-at) (set-to third t-at) (set-to fourth t′-at))
             (two-children (set-stands s-at s′-at k-at)
-            (set-stands t-at t′-at (subst (λ z. TreeAt Γ file d i l z) last l-at)))
+            (up-to (set-stands t-at t′-at l-at) last))
 
     module _ {u : Bool} (first : SameUnion file p (at + 1) c u) where
       pub first-fails : u ≡ false → StepOf file ends Γ (Set p q) at Fails
@@ -143,19 +139,16 @@ module _ {file ends : List ℕ} {Γ : Context} {p q at b c : ℕ} where
     pub rest-rule : {u : Bool} → RestAt file p c b (at + 1) u → {r : Condition} → r ≡ conditionOf u →
         StepOf file ends Γ (Set p q) at r
     unfolding setRule judge
-    rest-rule rest {r} e = set-rule (can .can .ends-of) (can .rule-is) (row set17) refl go
+    rest-rule rest {r} e = set-rule can set17 go
       where
-        go : (x y : Members) (t : Parts (row set17 .after)) (d end : ℕ) → SetAt file ends Γ x p →
-            SetAt file ends Γ y q → Placed Γ file ends d t (at + 1) end →
-            ComesTo Γ file ends (applied (row set17 .after) (setRule Γ set17) (judge Γ t) x y)
-            (childrenAt ends (Set p q) 17 at) d (pastCarried ends (row set17 .after) (at + 1)) end r
+        go : SetComes Γ file ends p q at set17 r
         go x y (members s & members s′ & members t & child k & child l & done) d end px qy
             (s-at, (s′-at, (t-at, (i, k-at, (m, l-at, last))))) =
             comes _ r refl
             (tested e (rest .is x t s′ s (sets.set-stands px) (sets.set-stands (set-to third-17 t-at))
             (sets.set-stands (set-to eb s′-at)) (sets.set-stands s-at)))
             (two-children (set-stands s-at s′-at k-at)
-            (set-stands t-at qy (subst (λ z. TreeAt Γ file d i l z) last l-at)))
+            (up-to (set-stands t-at qy l-at) last))
 
 -- T without S', and S
 abbrev restPiles : ℕ → ℕ → ℕ → Piles

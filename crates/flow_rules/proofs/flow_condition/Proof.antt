@@ -1,7 +1,8 @@
 -- `flow_rules::flow_condition` meets its contract: each rule has its own function, and no other rule stands there.
 -- Assumes nothing.
+use mathlib.Core.Path.{refl}
 use native.Mathlib.Omega.{arith}
-use Rattle.flow_rules.proofs.Goal.{head, can-try, last-rule}
+use Rattle.rule_laws.proofs.Trying.{can-try, last-rule, step-head}
 use Rattle.flow_rules.proofs.flow_condition.Statement.{statement}
 use Rattle.flow_rules.proofs.flow_condition.Tie as tie
 
@@ -9,8 +10,8 @@ pub flow-condition-spec : {M : Type 1} → statement M
 flow-condition-spec =
     tie.close
     (tie.spec
-    (λ c. let i = head (c .before .before .pre) in omega arith)
-    (λ c. head (c .before .before .before .pre))
+    (λ c. let i = step-head (c .before .before .pre) in omega arith)
+    (λ c. step-head (c .before .before .before .pre))
     (λ c κs. can-try (c .before .before .before .before .pre) (c .match .keys1))
     (λ c κs. can-try (c .before .before .before .before .pre) (c .match .keys2))
     (λ c κs. can-try (c .before .before .before .before .pre) (c .match .keys3))
@@ -24,9 +25,7 @@ flow-condition-spec =
     (λ c κs. can-try (c .before .before .before .before .pre) (c .match .keys11))
     (λ c κs. can-try (c .before .before .before .before .pre) (c .match .keys12))
     (λ c κs. can-try (c .before .before .before .before .pre) (c .match .keys13))
-    (λ c κs.
-    can-try (c .before .before .before .before .pre) (last-rule (c .before .before .before .before .pre)
-    (c .match .rest)))
+    (λ c κs. last-rule (c .before .before .before .before .pre) 1 13 refl (c .match .rest))
     (λ c. c .rule-1 .ensures)
     (λ c. c .rule-2 .ensures)
     (λ c. c .rule-3 .ensures)

@@ -1,8 +1,8 @@
 -- `pre_rules::pre_condition` meets its contract, rule by rule.
 -- Assumes nothing.
+use mathlib.Core.Path.{refl}
 use native.Mathlib.Omega.{arith}
-use Rattle.rule_laws.proofs.Trying.{step-head, can-try}
-use Rattle.pre_rules.proofs.Goal.{last-rule}
+use Rattle.rule_laws.proofs.Trying.{step-head, can-try, last-rule}
 use Rattle.pre_rules.proofs.pre_condition.Statement.{statement}
 use Rattle.pre_rules.proofs.pre_condition.Tie as tie
 
@@ -22,10 +22,7 @@ pre-condition-spec =
     (λ c κs. can-try (c .before .before .before .before .pre) (c .match .keys8))
     (λ c κs. can-try (c .before .before .before .before .pre) (c .match .keys9))
     (λ c κs. can-try (c .before .before .before .before .pre) (c .match .keys10))
-    (λ c κs. let r = c .match .rest in
-    last-rule (c .before .before .before .before .pre) (r .0 .0 .0 .0 .0 .0 .0 .0 .0 .1)
-    (r .0 .0 .0 .0 .0 .0 .0 .0 .1) (r .0 .0 .0 .0 .0 .0 .0 .1) (r .0 .0 .0 .0 .0 .0 .1) (r .0 .0 .0 .0 .0 .1)
-    (r .0 .0 .0 .0 .1) (r .0 .0 .0 .1) (r .0 .0 .1) (r .0 .1) (r .1))
+    (λ c κs. last-rule (c .before .before .before .before .pre) 20 10 refl (c .match .rest))
     (λ c. c .rule-20 .ensures)
     (λ c. c .rule-21 .ensures)
     (λ c. c .rule-22 .ensures)

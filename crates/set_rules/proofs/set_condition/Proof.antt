@@ -1,8 +1,8 @@
 -- `set_rules::set_condition` meets its contract, rule by rule.
 -- Assumes nothing.
+use mathlib.Core.Path.{refl}
 use native.Mathlib.Omega.{arith}
-use Rattle.rule_laws.proofs.Trying.{step-head, can-try}
-use Rattle.set_rules.proofs.Goal.{last-rule}
+use Rattle.rule_laws.proofs.Trying.{step-head, can-try, last-rule}
 use Rattle.set_rules.proofs.set_condition.Statement.{statement}
 use Rattle.set_rules.proofs.set_condition.Tie as tie
 
@@ -18,9 +18,7 @@ set-condition-spec =
     (λ c κs. can-try (c .before .before .before .before .pre) (c .match .keys4))
     (λ c κs. can-try (c .before .before .before .before .pre) (c .match .keys5))
     (λ c κs. can-try (c .before .before .before .before .pre) (c .match .keys6))
-    (λ c κs. let r = c .match .rest in
-    last-rule (c .before .before .before .before .pre) (r .0 .0 .0 .0 .0 .1) (r .0 .0 .0 .0 .1) (r .0 .0 .0 .1)
-    (r .0 .0 .1) (r .0 .1) (r .1))
+    (λ c κs. last-rule (c .before .before .before .before .pre) 13 6 refl (c .match .rest))
     (λ c. c .rule-13 .ensures)
     (λ c. c .rule-14 .ensures)
     (λ c. c .rule-15 .ensures)

@@ -3,7 +3,8 @@
 use mathlib.Core.Path.{sym, _∙_}
 use native.Mathlib.Omega.{arith}
 use borrow.Author.Needs.{needs}
-use Rattle.flow_rules.proofs.Goal.{head, command-head, after-head}
+use Rattle.rule_laws.proofs.Trying.{step-head}
+use Rattle.flow_rules.proofs.Goal.{command-head, after-head}
 use Rattle.flow_rules.proofs.BranchRules.{not-if, not-one-after, can-branch, if-comes}
 use Rattle.flow_rules.proofs.branch.rule_6.Statement.{statement}
 use Rattle.flow_rules.proofs.branch.rule_6.Tie as tie
@@ -19,7 +20,7 @@ rule-6-spec =
     (λ c.
     not-one-after (c .before .before .before .before .before .before .pre) (c .before .before .if1 .left)
     (λ e. c .if2 .taken (c .before .count .ensures ∙ e)))
-    (λ c. let i = head (c .before .before .before .before .before .before .pre .can) in omega arith)
+    (λ c. let i = step-head (c .before .before .before .before .before .before .pre .can) in omega arith)
     (λ c κs. search needs)
     (λ c κs. search needs)
     (λ c.

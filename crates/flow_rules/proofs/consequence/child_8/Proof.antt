@@ -1,7 +1,7 @@
 -- `flow_rules::consequence::child_8` meets its contract.
 -- Assumes nothing.
 use borrow.Author.Needs.{needs}
-use Rattle.flow_rules.proofs.Children.{last-of-two}
+use Rattle.rule_laws.proofs.Trying.{is-second}
 use Rattle.flow_rules.proofs.consequence.child_8.Statement.{statement}
 use Rattle.flow_rules.proofs.consequence.child_8.Tie as tie
 
@@ -11,4 +11,4 @@ child-8-spec =
     (tie.spec
     (λ c. search needs)
     (λ c. rw (c .if1 .taken))
-    (λ c. rw (last-of-two (c .before .pre .child) (c .if1 .left))))
+    (λ c. rw (is-second (c .before .pre .child) (c .if1 .left))))

@@ -1,7 +1,7 @@
 -- `flow_rules::loops::child_13` meets its contract.
 -- Assumes nothing.
 use borrow.Author.Needs.{needs}
-use Rattle.flow_rules.proofs.Children.{last-of-one}
+use Rattle.rule_laws.proofs.Trying.{is-first}
 use Rattle.flow_rules.proofs.loops.child_13.Statement.{statement}
 use Rattle.flow_rules.proofs.loops.child_13.Tie as tie
 
@@ -11,4 +11,4 @@ child-13-spec =
     (tie.spec
     (λ c. search needs)
     (λ c κs. search needs)
-    (λ c. rw (last-of-one (c .before .before .pre .child), c .end-or-zero .ensures)))
+    (λ c. rw (is-first (c .before .before .pre .child), c .end-or-zero .ensures)))

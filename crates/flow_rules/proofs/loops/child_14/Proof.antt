@@ -1,7 +1,7 @@
 -- `flow_rules::loops::child_14` meets its contract.
 -- Assumes nothing.
 use borrow.Author.Needs.{needs}
-use Rattle.flow_rules.proofs.Children.{last-of-one}
+use Rattle.rule_laws.proofs.Trying.{is-first}
 use Rattle.flow_rules.proofs.loops.child_14.Statement.{statement}
 use Rattle.flow_rules.proofs.loops.child_14.Tie as tie
 
@@ -10,4 +10,4 @@ child-14-spec =
     tie.close
     (tie.spec
     (λ c. search needs)
-    (λ c. rw (last-of-one (c .pre .child))))
+    (λ c. rw (is-first (c .pre .child))))

@@ -2,7 +2,8 @@
 -- Assumes nothing.
 use native.Mathlib.Omega.{arith}
 use borrow.Author.Needs.{needs}
-use Rattle.flow_rules.proofs.Goal.{head, command-head}
+use Rattle.rule_laws.proofs.Trying.{step-head}
+use Rattle.flow_rules.proofs.Goal.{command-head}
 use Rattle.flow_rules.proofs.LoopRules.{can-mean, not-for, for-comes}
 use Rattle.flow_rules.proofs.loops.rule_14.Statement.{statement}
 use Rattle.flow_rules.proofs.loops.rule_14.Tie as tie
@@ -14,7 +15,7 @@ rule-14-spec =
     (λ c. let i = command-head (c .before .before .pre .can) in omega arith)
     (λ c. command-head (c .before .before .before .pre .can))
     (λ c. not-for (c .before .before .before .before .pre) (c .if1 .taken))
-    (λ c. let i = head (c .before .before .before .before .pre .can) in omega arith)
+    (λ c. let i = step-head (c .before .before .before .before .pre .can) in omega arith)
     (λ c κs. can-mean (c .before .before .before .before .pre) (c .if1 .left))
     (λ c κs. search needs)
     (λ c.

@@ -1,7 +1,7 @@
 -- `flow_rules::sequence::child_2` meets its contract.
 -- Assumes nothing.
 use borrow.Author.Needs.{needs}
-use Rattle.flow_rules.proofs.Children.{last-of-two}
+use Rattle.rule_laws.proofs.Trying.{is-second}
 use Rattle.flow_rules.proofs.sequence.child_2.Statement.{statement}
 use Rattle.flow_rules.proofs.sequence.child_2.Tie as tie
 
@@ -13,4 +13,4 @@ child-2-spec =
     (λ c. search needs)
     (λ c. rw (c .if1 .taken))
     (λ c κs. search needs)
-    (λ c. rw (last-of-two (c .before .before .before .pre .child) (c .before .if1 .left), c .end-or-zero .ensures)))
+    (λ c. rw (is-second (c .before .before .before .pre .child) (c .before .if1 .left), c .end-or-zero .ensures)))

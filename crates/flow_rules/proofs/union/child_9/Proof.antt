@@ -1,7 +1,7 @@
 -- `flow_rules::union::child_9` meets its contract.
 -- Assumes nothing.
 use borrow.Author.Needs.{needs}
-use Rattle.flow_rules.proofs.Children.{last-of-two}
+use Rattle.rule_laws.proofs.Trying.{is-second}
 use Rattle.flow_rules.proofs.union.child_9.Statement.{statement}
 use Rattle.flow_rules.proofs.union.child_9.Tie as tie
 
@@ -16,7 +16,7 @@ child-9-spec =
     (λ c κs. search needs)
     (λ c.
     rw (
-      last-of-two (c .before .before .before .before .before .pre .child) (c .before .before .if1 .left),
+      is-second (c .before .before .before .before .before .pre .child) (c .before .before .if1 .left),
       c .end-or-zero3 .ensures,
       c .before .end-or-zero2 .ensures,
       c .before .before .before .end-or-zero .ensures,

@@ -3,7 +3,7 @@
 use native.Mathlib.Omega.{arith}
 use borrow.Author.Needs.{needs}
 use borrow.Author.Tests.{not-true, not-false}
-use Rattle.flow_rules.proofs.Goal.{head}
+use Rattle.rule_laws.proofs.Trying.{step-head}
 use Rattle.flow_rules.proofs.UnionRules.{can-first, can-second, union-fails, union-comes}
 use Rattle.flow_rules.proofs.union.rule_9.Statement.{statement}
 use Rattle.flow_rules.proofs.union.rule_9.Tie as tie
@@ -12,7 +12,7 @@ pub rule-9-spec : {M : Type 1} → statement M
 rule-9-spec =
     tie.close
     (tie.spec
-    (λ c. let i = head (c .before .before .pre .can) in omega arith)
+    (λ c. let i = step-head (c .before .before .pre .can) in omega arith)
     (λ c κs. search needs)
     (λ c κs. search needs)
     (λ c κs.

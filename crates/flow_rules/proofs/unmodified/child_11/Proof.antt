@@ -1,7 +1,7 @@
 -- `flow_rules::unmodified::child_11` meets its contract.
 -- Assumes nothing.
 use borrow.Author.Needs.{needs}
-use Rattle.flow_rules.proofs.Children.{last-of-one}
+use Rattle.rule_laws.proofs.Trying.{is-first}
 use Rattle.flow_rules.proofs.unmodified.child_11.Statement.{statement}
 use Rattle.flow_rules.proofs.unmodified.child_11.Tie as tie
 
@@ -11,4 +11,4 @@ child-11-spec =
     (tie.spec
     (λ c. search needs)
     (λ c. search needs)
-    (λ c. rw (last-of-one (c .pre .child))))
+    (λ c. rw (is-first (c .pre .child))))
