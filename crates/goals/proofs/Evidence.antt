@@ -4,7 +4,7 @@
 --     Placed, placed     parts at their places; of parts that stand
 --     payload-is         the payload of an evidence word is its rule's number
 --     evidence-of        evidence whose word has the number of a rule is of that rule
-use mathlib.Core.Path.{_≡_, refl, sym, ap, subst, _∙_}
+use mathlib.Core.Path.{_≡_, sym, ap, subst, _∙_}
 use mathlib.Core.List.{List}
 use mathlib.Core.Option.{some}
 use Prim.Native.Nat.{ℕ, suc, _+_, _≤_}
