@@ -3,6 +3,7 @@
 --     command-end-is, part-end, placed                where a part ends; a part at a place by another name
 --     Later, Body                                     a part within the file, after what has it; that can be run
 --     can-evaluate, can-command, can-again            the parts, and the command again, in a store of the same size
+--     at-head                                         the command by its first word
 --     assert-can, scalar-can, array-can, if-can, while-can    what is worked out
 --     sequence-first, sequence-second, if-then, if-else       what is run
 --     for-small, loop-next, loop-body, loop-counts, by-kind   of a loop
@@ -17,9 +18,10 @@ use Rattle.layout.specs.EvidenceWords.{Part, expressionPart, commandPart}
 use Rattle.layout.proofs.Stands.{stands-end}
 use Rattle.execution.specs.Lent.{Lent}
 use Rattle.ends.specs.Ends.{EndsOf}
+use Rattle.words.specs.declared.CommandWord.{CommandWord}
 use Rattle.words.specs.declared.CommandWord.the-variants.{Sequence, Assert, AssignScalar, AssignArray, If, While}
 use Rattle.words.specs.declared.CommandWord.the-variants.{For}
-use Rattle.heads.specs.Stands.{PartAt}
+use Rattle.heads.specs.Stands.{PartAt, commandAt}
 use Rattle.heads.proofs.Parts.{expression-inside, command-inside, command-parts}
 use Rattle.evaluate.specs.Evaluated.{CanEvaluate}
 use Rattle.evaluate.proofs.Places.{end-is}
@@ -46,6 +48,11 @@ pub record Later (file ends : List ℕ) (at q : ℕ) : Type 0 where
   pub later : at < q
   pub inside : q < length file
   pub listed : q < length ends
+
+-- a part that can be run, later than what has it
+pub record Body (file ends : List ℕ) (m : Lent) (at q : ℕ) : Type 0 where
+  pub can : CanRun file ends m q
+  pub place : Later file ends at q
 
 module _ {file ends : List ℕ} {m : Lent} {at : ℕ} (c : CanRun file ends m at) where
   later-expression : {k : Sort} (e : Expr k) {q p : ℕ} → PartAt file (expressionPart e) q p → at < q →
@@ -89,10 +96,13 @@ module _ {file ends : List ℕ} {m : Lent} {at : ℕ} (c : CanRun file ends m at
     values-sized = kv ∙ c .values-sized;
   }
 
--- a part that can be run, later than what has it
-pub record Body (file ends : List ℕ) (m : Lent) (at q : ℕ) : Type 0 where
-  pub can : CanRun file ends m q
-  pub place : Later file ends at q
+  -- with its first word w as the code has decoded it
+  pub at-head : {w h : CommandWord} → w ≡ commandAt file at → w ≡ h → CanRunAt file ends m at h
+  at-head e f = record { can = c; head = sym e ∙ f }
+
+  body : (d : syntax.Command) {q p : ℕ} {m′ : Lent} → length (m′ .scalars) ≡ length (m .scalars) →
+      length (m′ .values) ≡ length (m .values) → PartAt file (commandPart d) q p → at < q → Body file ends m′ at q
+  body d ks kv s h = record { can = can-command d ks kv s; place = later-command d s h }
 
 module _ {file ends : List ℕ} {m : Lent} {at : ℕ} where
   pub assert-can : CanRunAt file ends m at Assert →
@@ -118,10 +128,7 @@ module _ {file ends : List ℕ} {m : Lent} {at : ℕ} where
   pub sequence-first : CanRunAt file ends m at Sequence → Body file ends m at (at + 1)
   sequence-first x =
       let t = command-parts (x .can .command .tree) (x .can .command .there) (x .head) in
-      record {
-        can = can-command (x .can) (t .first) refl refl (t .first-at);
-        place = later-command (x .can) (t .first) (t .first-at) (omega arith);
-      }
+      body (x .can) (t .first) refl refl (t .first-at) (omega arith)
 
   pub sequence-second : CanRunAt file ends m at Sequence → {q : ℕ} → q ≡ getD ends (at + 1) 0 → {m′ : Lent} →
       length (m′ .scalars) ≡ length (m .scalars) → length (m′ .values) ≡ length (m .values) → Body file ends m′ at q
@@ -130,10 +137,7 @@ module _ {file ends : List ℕ} {m : Lent} {at : ℕ} where
       let i = command-inside (t .first) (t .first-at) in
       let same : t .middle ≡ q = command-end-is (t .first) (x .can .ends-of) (t .first-at) ∙ sym e in
       let there = placed (commandPart (t .second)) same (t .second-at) in
-      record {
-        can = can-command (x .can) (t .second) ks kv there;
-        place = later-command (x .can) (t .second) there (omega arith);
-      }
+      body (x .can) (t .second) ks kv there (omega arith)
 
   pub if-can : CanRunAt file ends m at If →
       CanEvaluate file ends (m .scalars) (m .values) syntax.Boolean (at + 1) × Later file ends at (at + 1)
@@ -147,10 +151,7 @@ module _ {file ends : List ℕ} {m : Lent} {at : ℕ} where
       let i = expression-inside (t .first) (t .first-at) in
       let same : t .middle ≡ q = end-is (t .first) (x .can .ends-of) (t .first-at) ∙ sym e in
       let there = placed (commandPart (t .second)) same (t .second-at) in
-      record {
-        can = can-command (x .can) (t .second) refl refl there;
-        place = later-command (x .can) (t .second) there (omega arith);
-      }
+      body (x .can) (t .second) refl refl there (omega arith)
 
   pub if-else : CanRunAt file ends m at If → {q r : ℕ} → q ≡ getD ends (at + 1) 0 → r ≡ getD ends q 0 →
       Body file ends m at r
@@ -162,10 +163,7 @@ module _ {file ends : List ℕ} {m : Lent} {at : ℕ} where
       let last : t .last ≡ r =
       command-end-is (t .second) (x .can .ends-of) (t .second-at) ∙ ap (λ z. getD ends z 0) same ∙ sym f in
       let there = placed (commandPart (t .third)) last (t .third-at) in
-      record {
-        can = can-command (x .can) (t .third) refl refl there;
-        place = later-command (x .can) (t .third) there (omega arith);
-      }
+      body (x .can) (t .third) refl refl there (omega arith)
 
   pub while-can : CanRunAt file ends m at While → CanEvaluate file ends (m .scalars) (m .values) syntax.Boolean (at + 1)
   while-can x =
@@ -195,17 +193,11 @@ module _ {file ends : List ℕ} {m : Lent} {at : ℕ} where
       let i = expression-inside (t .first) (t .first-at) in
       let same : t .middle ≡ q = end-is (t .first) (x .can .ends-of) (t .first-at) ∙ sym e in
       let there = placed (commandPart (t .second)) same (t .second-at) in
-      record {
-        can = can-command (x .can) (t .second) refl refl there;
-        place = later-command (x .can) (t .second) there (omega arith);
-      }
+      body (x .can) (t .second) refl refl there (omega arith)
   loop-body (Count z r) x {q} e =
       let t = command-parts (x .can .command .tree) (x .can .command .there) (x .head) in
       let there = placed (commandPart (t .0 .first)) (sym e) (t .0 .first-at) in
-      record {
-        can = can-command (x .can) (t .0 .first) refl refl there;
-        place = later-command (x .can) (t .0 .first) there (omega arith);
-      }
+      body (x .can) (t .0 .first) refl refl there (omega arith)
 
   pub loop-counts : (kind : Loop) → CanRunAt file ends m at (loopWord kind) → CountsIn kind 32
   loop-counts Test x = tt

@@ -7,11 +7,12 @@
 use mathlib.Core.Path.{_≡_, refl, sym, ap, _∙_}
 use mathlib.Core.Bool.{Bool, true, false}
 use mathlib.Core.List.{List}
-use Prim.Native.Nat.{ℕ, zero, suc, _<_, _≤_}
+use Prim.Native.Nat.{ℕ, zero, suc, _+_, _<_, _≤_}
 use native.Mathlib.Omega.{arith}
 use lib.ListN.{length}
 use Rattle.language.specs.Syntax as syntax
 use Rattle.language.specs.Syntax.{Expr}
+use Rattle.rules.specs.Words.{commandWords}
 use Rattle.layout.specs.EvidenceWords.{commandPart}
 use Rattle.execution.specs.Lent.{Lent, storeOf}
 use Rattle.execution.specs.Evaluate.{Outcome, worked, stops, evaluate}
@@ -49,8 +50,8 @@ module _ (b : Expr syntax.Boolean) (body : ℕ → Lent → definition.End) (at 
   unfolding turns
   turn-is k n m = turn-step k n m (evaluate b (storeOf m))
 
-  module _ (bounded : (n : ℕ) (m : Lent) → Bounded n (body n m)) where
-    same-after : (k j l : ℕ) (e : definition.End) → Bounded l e → l ≤ k → l ≤ j →
+  module _ (past : ℕ) (bounded : (n : ℕ) (m : Lent) → Bounded past n (body n m)) where
+    same-after : (k j l : ℕ) (e : definition.End) → Bounded past l e → l ≤ k → l ≤ j →
         ((n : ℕ) (m : Lent) → n ≤ k → n ≤ j → turns k b body at n m ≡ turns j b body at n m) →
         onEnded e (turns k b body at) ≡ onEnded e (turns j b body at)
     same-after k j l (ended n m) h x y f = f n m (omega arith) (omega arith)
@@ -77,7 +78,7 @@ module _ (b : Expr syntax.Boolean) (body : ℕ → Lent → definition.End) (at 
     turns-same (suc k) (suc j) n m x y =
         same-step k j n m (evaluate b (storeOf m)) x y (λ i l p q. turns-same k j i l p q)
 
-    less-after : (l : ℕ) (e : definition.End) → Bounded l e → {n : ℕ} {m : Lent} → again n m ≡ goOn e → n ≤ l
+    less-after : (l : ℕ) (e : definition.End) → Bounded past l e → {n : ℕ} {m : Lent} → again n m ≡ goOn e → n ≤ l
     less-after l (ended i x) h {n} e = let q : n ≡ i = cc in omega arith
     less-after l (stopped k p i x) h e = never (cc)
 
@@ -118,7 +119,7 @@ module _ {file : List ℕ} {at : ℕ} {m m′ : Lent} {n : ℕ} {r : Turn} where
   pub falls : CommandStands file at → TurnAs file at m n r m′ → {l : ℕ} → r ≡ Turn.Again l → l < n
   falls x f e =
       let c = x .tree in
-      turn-less (loopTest c) (loopBody c at) at (body-bounded c at) n m
+      turn-less (loopTest c) (loopBody c at) at (at + length (commandWords c)) (body-bounded c at) n m
       (ap (λ y. turnedAt y m′) (sym e) ∙ f .is c (x .past) (x .there))
 
   module _ {m₀ : Lent} {n₀ : ℕ} (g : Going file at m₀ n₀ m n) (f : TurnAs file at m n r m′) where
@@ -127,7 +128,7 @@ module _ {file : List ℕ} {at : ℕ} {m m′ : Lent} {n : ℕ} {r : Turn} where
     going-on e ks kv = record {
       same = λ c p s.
           g .same c p s
-          ∙ turns-again (loopTest c) (loopBody c at) at (body-bounded c at) n m
+          ∙ turns-again (loopTest c) (loopBody c at) at (at + length (commandWords c)) (body-bounded c at) n m
           (ap (λ y. turnedAt y m′) (sym e) ∙ f .is c p s);
       scalars-kept = ks ∙ g .scalars-kept;
       values-kept = kv ∙ g .values-kept;

@@ -5,9 +5,11 @@
 use mathlib.Core.Path.{_≡_, refl, sym, ap, subst, _∙_}
 use mathlib.Core.Bool.{Bool, true, false}
 use mathlib.Core.List.{List}
-use Prim.Native.Nat.{ℕ, _<_, _≤_}
+use Prim.Native.Nat.{ℕ, _+_, _<_, _≤_}
+use native.Mathlib.Omega.{arith}
 use borrow.Author.Tests.{lt-ltb, le-ltb, eq-eqb, ne-eqb}
 use lib.ListN.{length}
+use Rattle.rules.specs.Words.{commandWords}
 use Rattle.layout.specs.File.{File, wordsRead}
 use Rattle.execution.specs.Lent.{Lent}
 use Rattle.execution.specs.Run.{run}
@@ -51,9 +53,9 @@ no-values m k h = rw (eq-eqb (length (m .scalars)) 32 k) (rw (ne-eqb (length (m 
 both-sized : (m : Lent) → length (m .scalars) ≡ 32 → length (m .values) ≡ 2048 → wellSized m ≡ true
 both-sized m k h = rw (eq-eqb (length (m .scalars)) 32 k) (rw (eq-eqb (length (m .values)) 2048 h))
 
-bounded-report : (e : End) (m : Lent) (n : ℕ) → Bounded n (endAt e m) → CanReport e n
-bounded-report (Ended l) m n b = b
-bounded-report (Stopped k p l) m n b = b
+bounded-report : (b : ℕ) (e : End) (m : Lent) (n : ℕ) → Bounded b n (endAt e m) → CanReport e n
+bounded-report b (Ended l) m n h = h
+bounded-report b (Stopped k p l) m n h = h .0
 
 module _ {w ends : List ℕ} {x : Context} (c : CanRunFile w ends x) (budget : ℕ) (m : Lent) where
   by-file : {r : Ran} {m′ : Lent} → ranAt r m′ ≡ runFile (c .tree) budget m →
@@ -86,7 +88,9 @@ module _ {w ends : List ℕ} {x : Context} (c : CanRunFile w ends x) (budget : �
 
     pub can-report : CanReport e budget
     can-report =
-        bounded-report e m′ budget (subst (Bounded budget) (sym came) (run-bounded (c .tree .program) 1 budget m))
+        let past = 1 + length (commandWords (c .tree .program)) in
+        bounded-report past e m′ budget
+        (subst (Bounded past budget) (sym came) (run-bounded past (c .tree .program) 1 budget m (omega arith)))
 
     pub reported : {r : Ran} → budget ≤ 1000000 → length (m .scalars) ≡ 32 → length (m .values) ≡ 2048 →
         Reports e budget r →

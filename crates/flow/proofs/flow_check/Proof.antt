@@ -10,8 +10,7 @@ pub flow-check-spec : {M : Type 1} → statement M
 flow-check-spec =
     tie.close
     (tie.spec
-    (λ c κs. search needs)
-    (λ c. search needs)
+    (λ c κs. search needs) (λ c. search needs)
     (λ c. omega (arith, accepted-small (c .before .before .before .check .ensures) _ (c .before .answer .given .1)))
     (λ c. search needs)
     (λ c.

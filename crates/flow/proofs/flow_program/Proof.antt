@@ -13,8 +13,7 @@ unfolding programPlaces
 flow-program-spec =
     tie.close
     (tie.spec
-    (λ c κs. search needs)
-    (λ c. search needs)
+    (λ c κs. search needs) (λ c. search needs)
     (λ c κs.
     let outcome = c .before .before .before in
     let h = places-in standard _ _ _ _ (outcome .standard-outcome .ensures) (c .before .done .given .1) in

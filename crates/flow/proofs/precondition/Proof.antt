@@ -13,14 +13,12 @@ unfolding precondition
 precondition-spec =
     tie.close
     (tie.spec
-    (λ c κs. search needs)
-    (λ c. search needs)
+    (λ c κs. search needs) (λ c. search needs)
     (λ c κs.
     let outcome = c .before .before .before in
     let h = places-in standard _ _ _ _ (outcome .standard-outcome .ensures) (c .before .done .given .1) in
     (h .pre-post, omega (arith, h .post-evidence, h .inside)))
-    (λ c. search needs)
-    (λ c. search needs)
+    (λ c. search needs) (λ c. search needs)
     (λ c.
     let outcome = c .before .before .before .before in
     precondition-bytes standard _ _ _ _ _ (outcome .standard-outcome .ensures) (c .before .before .done .given .1)

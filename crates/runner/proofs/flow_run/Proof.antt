@@ -10,6 +10,5 @@ flow-run-spec =
     (tie.spec
     (λ c κs. search needs)
     (λ c κs. can-pack (c .before .before .run .ensures))
-    (λ c. search needs)
-    (λ c. search needs)
+    (λ c. search needs) (λ c. search needs)
     (λ c. packed-run (c .before .before .before .run .ensures) (c .pack .ensures)))

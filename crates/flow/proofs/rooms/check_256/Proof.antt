@@ -9,7 +9,6 @@ pub check-256-spec : {M : Type 1} → statement M
 check-256-spec =
     tie.close
     (tie.spec
-    (λ c. search needs)
-    (λ c. search needs)
+    (λ c. search needs) (λ c. search needs)
     (λ c κs. let pre = c .before .before .before .pre in (can-load pre (search needs) (search needs), pre .within))
     (λ c. search needs))

@@ -14,22 +14,18 @@ pub check-in-spec : {M : Type 1} → statement M
 check-in-spec =
     tie.close
     (tie.spec
-    (λ c κs. search needs)
-    (λ c. search needs)
+    (λ c κs. search needs) (λ c. search needs)
     (λ c. file-words (read c .read-file .ensures) (c .before .layout .given .1) .inside)
     (λ c. let known = c .before in file-words (read known .read-file .ensures) (known .before .layout .given .1) .count)
     (λ c κs.
     let known = c .before .before in
     let within = read known .before .before .before .before .before .before .pre .1 in
     found-judge (read known .read-file .ensures) within (known .before .layout .given .1))
-    (λ c. search needs)
-    (λ c. search needs)
-    (λ c. search needs)
+    (λ c. search needs) (λ c. search needs) (λ c. search needs)
     (λ c.
     let known = c .before .before .before in
     found-outcome (read known .read-file .ensures) _ (known .before .layout .given .1) (c .judge-file .ensures))
-    (λ c. search needs)
-    (λ c. search needs)
+    (λ c. search needs) (λ c. search needs)
     (λ c.
     let file = c .before .before .before .before .before .before .before in
     refused-outcome (file .read-file .ensures) _ (c .before .layout2 .given .1)))

@@ -10,8 +10,7 @@ judge-file-spec =
     tie.close
     (tie.spec
     (λ c κs. can-judge _ (c .before .before .pre))
-    (λ c. search needs)
-    (λ c. search needs)
+    (λ c. search needs) (λ c. search needs)
     (λ c.
     let judge = c .before .before .before in
     judged-outcome _ (judge .before .before .before .pre) _ _ (judge .judge .ensures) (c .before .judged .given .1))

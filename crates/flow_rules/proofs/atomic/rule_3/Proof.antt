@@ -15,8 +15,7 @@ rule-3-spec =
     (λ c. command-head (c .before .before .before .pre .can))
     (λ c. not-scalar (c .before .before .before .before .pre) (c .if1 .taken))
     (λ c. let i = command-head (c .before .before .before .before .pre .can) in omega arith)
-    (λ c κs. search needs)
-    (λ c. search needs)
+    (λ c κs. search needs) (λ c. search needs)
     (λ c κs.
     rw (c .end-or-zero .ensures) (can-replace-scalar (c .before .before .before .before .before .pre .can)
     (c .before .if1 .left)))

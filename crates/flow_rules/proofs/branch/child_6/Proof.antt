@@ -9,12 +9,9 @@ pub child-6-spec : {M : Type 1} → statement M
 child-6-spec =
     tie.close
     (tie.spec
-    (λ c. search needs)
-    (λ c. search needs)
-    (λ c κs. search needs)
+    (λ c. search needs) (λ c. search needs) (λ c κs. search needs)
     (λ c. rw (c .if1 .taken, c .before .end-or-zero .ensures))
-    (λ c κs. search needs)
-    (λ c κs. search needs)
+    (λ c κs. search needs) (λ c κs. search needs)
     (λ c.
     rw (
       c .before .if2 .taken,
@@ -22,8 +19,7 @@ child-6-spec =
       c .before .before .end-or-zero2 .ensures,
       c .before .before .before .before .end-or-zero .ensures,
     ))
-    (λ c κs. search needs)
-    (λ c. search needs)
+    (λ c κs. search needs) (λ c. search needs)
     (λ c.
     rw (
       last-of-three (c .before .before .before .before .before .before .pre .child)

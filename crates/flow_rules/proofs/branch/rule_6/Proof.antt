@@ -21,8 +21,7 @@ rule-6-spec =
     not-one-after (c .before .before .before .before .before .before .pre) (c .before .before .if1 .left)
     (λ e. c .if2 .taken (c .before .count .ensures ∙ e)))
     (λ c. let i = step-head (c .before .before .before .before .before .before .pre .can) in omega arith)
-    (λ c κs. search needs)
-    (λ c κs. search needs)
+    (λ c κs. search needs) (λ c κs. search needs)
     (λ c.
     let i = command-head (c .before .before .before .before .before .before .before .before .pre .can) in omega arith)
     (λ c κs.

@@ -9,6 +9,5 @@ pub child-13-spec : {M : Type 1} → statement M
 child-13-spec =
     tie.close
     (tie.spec
-    (λ c. search needs)
-    (λ c κs. search needs)
+    (λ c. search needs) (λ c κs. search needs)
     (λ c. rw (is-first (c .before .before .pre .child), c .end-or-zero .ensures)))

@@ -9,8 +9,7 @@ pub child-2-spec : {M : Type 1} → statement M
 child-2-spec =
     tie.close
     (tie.spec
-    (λ c. search needs)
-    (λ c. search needs)
+    (λ c. search needs) (λ c. search needs)
     (λ c. rw (c .if1 .taken))
     (λ c κs. search needs)
     (λ c. rw (is-second (c .before .before .before .pre .child) (c .before .if1 .left), c .end-or-zero .ensures)))

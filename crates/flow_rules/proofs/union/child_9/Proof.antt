@@ -9,11 +9,9 @@ pub child-9-spec : {M : Type 1} → statement M
 child-9-spec =
     tie.close
     (tie.spec
-    (λ c. search needs)
-    (λ c κs. search needs)
+    (λ c. search needs) (λ c κs. search needs)
     (λ c. rw (c .if1 .taken, c .before .end-or-zero .ensures))
-    (λ c κs. search needs)
-    (λ c κs. search needs)
+    (λ c κs. search needs) (λ c κs. search needs)
     (λ c.
     rw (
       is-second (c .before .before .before .before .before .pre .child) (c .before .before .if1 .left),

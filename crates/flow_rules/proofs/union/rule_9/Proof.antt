@@ -13,8 +13,7 @@ rule-9-spec =
     tie.close
     (tie.spec
     (λ c. let i = step-head (c .before .before .pre .can) in omega arith)
-    (λ c κs. search needs)
-    (λ c κs. search needs)
+    (λ c κs. search needs) (λ c κs. search needs)
     (λ c κs.
     rw (c .end-or-zero2 .ensures, c .before .end-or-zero .ensures) (can-first
     (c .before .before .before .before .pre)))

@@ -9,6 +9,5 @@ pub child-11-spec : {M : Type 1} → statement M
 child-11-spec =
     tie.close
     (tie.spec
-    (λ c. search needs)
-    (λ c. search needs)
+    (λ c. search needs) (λ c. search needs)
     (λ c. rw (is-first (c .pre .child))))

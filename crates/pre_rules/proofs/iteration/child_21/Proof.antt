@@ -9,7 +9,5 @@ pub child-21-spec : {M : Type 1} → statement M
 child-21-spec =
     tie.close
     (tie.spec
-    (λ c. search needs)
-    (λ c κs. search needs)
-    (λ c. search needs)
+    (λ c. search needs) (λ c κs. search needs) (λ c. search needs)
     (λ c. rw (is-first (c .before .before .pre .2)) (cc (c .end-or-zero .ensures))))

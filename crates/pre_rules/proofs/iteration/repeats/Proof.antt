@@ -66,8 +66,7 @@ repeats-spec =
     (λ c. search needs)
     past-requires
     second-requires
-    (λ c. search needs)
-    (λ c. search needs)
+    (λ c. search needs) (λ c. search needs)
     both
     fails
     large)

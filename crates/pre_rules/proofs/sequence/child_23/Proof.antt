@@ -10,9 +10,7 @@ pub child-23-spec : {M : Type 1} → statement M
 child-23-spec =
     tie.close
     (tie.spec
-    (λ c. search needs)
-    (λ c. search needs)
+    (λ c. search needs) (λ c. search needs)
     (λ c. rw (c .if1 .taken) refl)
-    (λ c. search needs)
-    (λ c κs. search needs)
+    (λ c. search needs) (λ c κs. search needs)
     (λ c. rw (is-second (c .before .before .before .pre .2) (c .before .if1 .left)) (cc (c .end-or-zero .ensures))))

@@ -9,11 +9,7 @@ pub body-at-spec : {M : Type 1} → statement M
 body-at-spec =
     tie.close
     (tie.spec
-    (λ c. search needs)
-    (λ c. search needs)
-    (λ c κs. search needs)
-    (λ c. search needs)
-    (λ c. search needs)
+    (λ c. search needs) (λ c. search needs) (λ c κs. search needs) (λ c. search needs) (λ c. search needs)
     (λ c. let s = (c .before .before .before .before) in
     c .end-at .ensures ∙ ap (bodyPlace (s .args .ends .now) (s .args .at)) (sym (c .before .enum-told .given .1)))
     (λ c. let s = (c .before .before .before) in

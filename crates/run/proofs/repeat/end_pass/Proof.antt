@@ -11,10 +11,7 @@ pub end-pass-spec : {M : Type 1} → statement M
 end-pass-spec =
     tie.close
     (tie.spec
-    (λ c. search needs)
-    (λ c. search needs)
-    (λ c. search needs)
-    (λ c. search needs)
+    (λ c. search needs) (λ c. search needs) (λ c. search needs) (λ c. search needs)
     (λ c κs. let s = (c .before .before .before .before .before .before .before) in
     subst (λ k. CountsIn k (length (s .args .scalars .now))) (c .before .before .kind .given .1) (s .pre))
     (λ c. search needs)

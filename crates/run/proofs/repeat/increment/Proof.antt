@@ -8,11 +8,7 @@ pub increment-spec : {M : Type 1} → statement M
 increment-spec =
     tie.close
     (tie.spec
-    (λ c κs. search needs)
-    (λ c κs. search needs)
-    (λ c κs. search needs)
-    (λ c. search needs)
-    (λ c. search needs)
+    (λ c κs. search needs) (λ c κs. search needs) (λ c κs. search needs) (λ c. search needs) (λ c. search needs)
     (λ c. search needs)
     (λ c. increment-again (c .before .before .before .before .before .before .sum .result)
     (next-count (record { sfits = c .before .before .before .before .before .before .before .value-at .ok })

@@ -15,8 +15,7 @@ loop-test-spec =
     (λ c. let s = (c .before .before .before .before) in let h = command-starts (s .pre .can .command) in omega arith)
     (λ c κs. let s = (c .before .before .before .before) in let p = by-kind (s .pre) (c .enum-told .given .1) in
     while-can p)
-    (λ c. search needs)
-    (λ c. search needs)
+    (λ c. search needs) (λ c. search needs)
     (λ c κs. let s = (c .before .before .before .before .before) in
     let p = by-kind (s .pre) (c .before .kind .given .1) in let h = for-small p .0 in
     let l = s .pre .can .scalars-sized in omega arith)

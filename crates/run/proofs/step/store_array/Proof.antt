@@ -11,11 +11,7 @@ store-array-spec =
     (tie.spec
     (λ c. let a = (c .before) .args in
     array-none (a .at) (a .left) (a .values .now) (a .a) (fillOutcome (a .array) (a .scratch .now)) (c .if1 .taken))
-    (λ c. search needs)
-    (λ c. search needs)
-    (λ c κs. search needs)
-    (λ c. search needs)
-    (λ c. search needs)
+    (λ c. search needs) (λ c. search needs) (λ c κs. search needs) (λ c. search needs) (λ c. search needs)
     (λ c. search needs)
     (λ c. let a = (c .before .before .before .before .before .before) .args in
     array-given (a .at) (a .left) (a .values .now) (a .a) (a .scratch .now) _

@@ -11,11 +11,7 @@ store-scalar-spec =
     (tie.spec
     (λ c. let a = (c .before) .args in
     scalar-none (a .at) (a .left) (a .scalars .now) (a .x) (outcome (a .v)) (c .if1 .taken))
-    (λ c. search needs)
-    (λ c κs. search needs)
-    (λ c. search needs)
-    (λ c. search needs)
-    (λ c. search needs)
+    (λ c. search needs) (λ c κs. search needs) (λ c. search needs) (λ c. search needs) (λ c. search needs)
     (λ c. let a = (c .before .before .before .before .before .before .before) .args in
     scalar-given (a .at) (a .left) (a .scalars .now) (a .x) _
     (c .before .before .before .before .before .before .if1 .left) (c .before .before .before .before .v .given .1)

@@ -11,10 +11,7 @@ test-step-spec =
     (tie.spec
     (λ c. choose-none ((c .before) .args .at) ((c .before) .args .left) (testOutcome ((c .before) .args .test))
     (c .if1 .taken))
-    (λ c. search needs)
-    (λ c. search needs)
-    (λ c. search needs)
-    (λ c. search needs)
+    (λ c. search needs) (λ c. search needs) (λ c. search needs) (λ c. search needs)
     (λ c. choose-then ((c .before .before .before .before .before) .args .at)
     ((c .before .before .before .before .before) .args .left) (c .before .before .before .before .if1 .left)
     (c .before .before .test .given .1) (c .if2 .taken))

@@ -17,8 +17,7 @@ pub run-bytes-spec : {M : Type 1} → statement M
 run-bytes-spec =
     tie.close
     (tie.spec
-    (λ c. search needs)
-    (λ c. search needs)
+    (λ c. search needs) (λ c. search needs)
     (λ c κs.
     record {
       fits = λ g. omega (arith, good-length (c .before .before .before .args .file .now) g);
@@ -31,10 +30,7 @@ run-bytes-spec =
     (λ c κs.
     let told = c .before .before .before .before in
     can-run-file (read told .read-file .ensures) (told .enum-told .given .1))
-    (λ c. search needs)
-    (λ c κs. search needs)
-    (λ c. search needs)
-    (λ c. search needs)
+    (λ c. search needs) (λ c κs. search needs) (λ c. search needs) (λ c. search needs)
     (λ c.
     let told = c .before .before .before .before .before .before .before in
     ran-file (read told .read-file .ensures) (told .enum-told .given .1) (c .before .before .run-program .ensures))

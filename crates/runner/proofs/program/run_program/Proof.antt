@@ -28,8 +28,7 @@ run-program-spec =
     (λ c κs. let s = (c .before .before .before .before .before .before .before .before .before .before) in
     let m = lent (s .args .scalars .now) (s .args .values .now) in
     can-report (s .pre) (s .args .budget) m (c .before .before .run-command .ensures))
-    (λ c. search needs)
-    (λ c. search needs)
+    (λ c. search needs) (λ c. search needs)
     (λ c. let s = (c .before .before .before .before .before .before .before .before .before .before .before) in
     let m = lent (s .args .scalars .now) (s .args .values .now) in
     reported (s .pre) (s .args .budget) m (c .before .before .before .run-command .ensures)

@@ -29,8 +29,7 @@ each-implies-false-spec =
     let c₂ = c₁ .before in
     let c₅ = c₂ .before .before .before in
     can-imply (c₂ .loop .inv) (c₁ .loop-test .taken) (c .end-at .ensures) (c₅ .pre))
-    (λ c. search needs)
-    (λ c. search needs)
+    (λ c. search needs) (λ c. search needs)
     (λ c.
     let c₂ = c .before .before in
     let c₃ = c₂ .before in
@@ -51,8 +50,7 @@ each-implies-false-spec =
     let c₅ = c₄ .before in
     let c₈ = c₅ .before .before .before in
     can-pass (c₅ .loop .inv) (c₄ .loop-test .taken) (c₈ .pre .ends-of))
-    (λ c. search needs)
-    (λ c. search needs)
+    (λ c. search needs) (λ c. search needs)
     (λ c.
     let c₁ = c .before in
     let c₃ = c₁ .before .before in

@@ -9,10 +9,7 @@ pub is-within-spec : {M : Type 1} → statement M
 is-within-spec =
     tie.close
     (tie.spec
-    (λ c κs. search needs)
-    (λ c κs. search needs)
-    (λ c. search needs)
-    (λ c. search needs)
+    (λ c κs. search needs) (λ c κs. search needs) (λ c. search needs) (λ c. search needs)
     (λ c κs. can-see (c .before .before .before .before .pre) (c .before .count .ensures) (c .count2 .ensures))
     (λ c.
     let c₁ = c .before in

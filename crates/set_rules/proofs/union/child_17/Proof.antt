@@ -9,8 +9,7 @@ pub child-17-spec : {M : Type 1} → statement M
 child-17-spec =
     tie.close
     (tie.spec
-    (λ c. search needs)
-    (λ c κs. search needs)
+    (λ c. search needs) (λ c κs. search needs)
     (λ c. rw (c .if1 .taken) (cc (c .before .end-or-zero .ensures)))
     (λ c κs. search needs)
     (λ c. rw (is-second (c .before .before .before .before .pre .1) (c .before .if1 .left)) (cc (

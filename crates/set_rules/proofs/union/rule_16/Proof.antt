@@ -13,9 +13,7 @@ rule-16-spec =
     tie.close
     (tie.spec
     (λ c. let i = low-head (c .before .before .pre) in omega arith)
-    (λ c κs. search needs)
-    (λ c κs. search needs)
-    (λ c κs. search needs)
+    (λ c κs. search needs) (λ c κs. search needs) (λ c κs. search needs)
     (λ c κs. let c₁ = c .before in let c₂ = c₁ .before in let c₅ = c₂ .before .before .before in
     can-first (c₅ .pre) (c₂ .end-or-zero .ensures) (c₁ .end-or-zero2 .ensures) (c .end-or-zero3 .ensures))
     (λ c. let c₁ = c .before in let c₂ = c₁ .before in let c₃ = c₂ .before in let c₄ = c₃ .before in

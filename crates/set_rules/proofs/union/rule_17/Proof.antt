@@ -12,8 +12,7 @@ rule-17-spec =
     tie.close
     (tie.spec
     (λ c. let i = low-head (c .before .before .pre) in omega arith)
-    (λ c κs. search needs)
-    (λ c κs. search needs)
+    (λ c κs. search needs) (λ c κs. search needs)
     (λ c κs. can-rest (c .before .before .before .before .pre) (c .before .end-or-zero .ensures)
     (c .end-or-zero2 .ensures))
     (λ c κs. search needs)
