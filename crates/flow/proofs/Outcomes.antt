@@ -15,7 +15,7 @@ use Rattle.rules.specs.Judge as judge
 use Rattle.layout.specs.Reading.{Reading, read, fault}
 use Rattle.layout.specs.File.{File, fileOf, wordsRead}
 use Rattle.layout.specs.Verdict.{judged, verdictOf}
-use Rattle.context.specs.Contexts.{contextOf, refusal}
+use Rattle.context.specs.Contexts.{contextOf}
 use Rattle.context.specs.declared.Context.{Context}
 use Rattle.context.specs.declared.Refusal.{Refusal}
 use Rattle.reader.specs.File.{places}

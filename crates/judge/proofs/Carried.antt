@@ -20,7 +20,6 @@ use Rattle.goals.specs.declared.Goal.{Goal}
 use Rattle.goals.specs.Children.{judgementOf, carriedOff, pastCarried}
 use Rattle.compare.specs.Places.{endAt}
 use Rattle.judge.specs.Row.{isCarried, PastCarried}
-use Rattle.judge.specs.declared.row.First.{First}
 
 -- of a row whose items l stand from `at` on, rest is left from next on
 pub record Left (ends : List ℕ) (l : List Item) (at rest next : ℕ) : Type 0 where

@@ -5,7 +5,6 @@
 --     word-back                                          wordDue, of what stands
 --     expression-stands, command-stands, set-stands      from what stands to what is read
 --     stands-from                                        from what is spelled to what stands
---     expression-back, command-back, set-back            the same of what is spelled
 use mathlib.Core.Path.{_≡_, refl, sym, _∙_, ap, ap₂, subst}
 use mathlib.Core.Bool.{Bool, true, false}
 use mathlib.Core.List.{List, [], _∷_, _++_}
@@ -264,18 +263,3 @@ module _ (file : List ℕ) where
 pub stands-from : {file : List ℕ} {F : Type 0} {at : ℕ} (l : List Word) → SpelledAt file at l → F →
     Stands file l F at (at + length l)
 stands-from {file} {at} l h f = record { stand = spelled-stands file at l (at + length l) h refl; fit = f }
-
-pub expression-back :
-    (file : List ℕ) (d : ℕ) {j : Sort} (e : Expr j) (at : ℕ) → SpelledAt file at (words e) → FitsExpression e d →
-    expression file d j at ≡ read e (at + length (words e))
-expression-back file d e at h f = expression-stands file d e at _ (stands-from (words e) h f) .back
-
-pub command-back :
-    (file : List ℕ) (d : ℕ) (c : Command) (at : ℕ) → SpelledAt file at (commandWords c) → FitsCommand c d →
-    command file d at ≡ read c (at + length (commandWords c))
-command-back file d c at h f = command-stands file d c at _ (stands-from (commandWords c) h f) .back
-
-pub set-back :
-    (Γ : Context) (file : List ℕ) (d : ℕ) (m : Members) (at : ℕ) → SpelledAt file at (setWords m) →
-    FitsSet Γ m d → set Γ file d at ≡ read m (at + length (setWords m))
-set-back Γ file d m at h f = set-stands file Γ d m at _ (stands-from (setWords m) h f) .back

@@ -2,26 +2,23 @@
 -- Assumes nothing.
 --     rule-row                      a rule is in the table, by its number
 --     evidence-stands               from what stands to what is read
---     evidence-back                 the same of what is spelled
 use mathlib.Core.Path.{_≡_, refl}
 use mathlib.Core.List.{List}
 use mathlib.Core.Option.{some}
 use Prim.Native.Nat.{ℕ, zero, suc, _+_, _≤_}
 use native.Mathlib.Omega.{arith}
 use borrow.Author.Tests.{eq-eqb}
-use lib.ListN.{length}
 use Rattle.rules.specs.Context.{Context}
 use Rattle.rules.specs.Evidence.{Judgement, Item, Rule, row, rules, item, Tree, by, assertion, command, members}
 use Rattle.rules.specs.Evidence.{child, done, _&_, Evidence, Parts, flow1, flow2, flow3, flow4, flow5, flow6, flow7}
 use Rattle.rules.specs.Evidence.{flow8, flow9, flow10, flow11, flow12, flow13, flow14, set13, set14, set15, set16}
 use Rattle.rules.specs.Evidence.{set17, set18, set19, pre20, pre21, pre22, pre23, pre24, pre25, pre26, pre27, pre28}
 use Rattle.rules.specs.Evidence.{pre29, pre30}
-use Rattle.layout.specs.Reading.{read, Reader}
+use Rattle.layout.specs.Reading.{Reader}
 use Rattle.layout.specs.ReadEvidence.{evidenceKind, ruleOf, itemReader, partsReader, evidence}
-use Rattle.layout.specs.Spelling.{SpelledAt}
-use Rattle.layout.specs.EvidenceWords.{spelledTree, FitsTree, treePart}
+use Rattle.layout.specs.EvidenceWords.{spelledTree, FitsTree}
 use Rattle.layout.proofs.SpelledEvidence.{TreeAt, parted-trees}
-use Rattle.layout.proofs.Back.{Back, begun, _⊲_, option-back, word-back, stands-from}
+use Rattle.layout.proofs.Back.{Back, begun, _⊲_, option-back, word-back}
 use Rattle.layout.proofs.Back.{expression-stands, command-stands, set-stands}
 
 pub rule-row : {j : Judgement} {n : ℕ} {l : List Item} (r : Rule j n l) → (ruleOf n (rules j) ≡ some (row r)) × (n ≤ 255)
@@ -86,10 +83,3 @@ module _ (Γ : Context) (file : List ℕ) where
       rw (s .fit .0) (word-back _ s (omega arith) (rw (eq-eqb (evidenceKind j) (evidenceKind j) refl)
       (option-back _ _ (rule-row r .0) (begun refl ⊲ parts-back d (evidence Γ file d) (λ j e q p s. evidence-stands d e q p s) t (at + 1) p
       (record { stand = s .stand .2; fit = s .fit .1 })))))
-
--- the same of what is spelled
-pub evidence-back :
-    (Γ : Context) (file : List ℕ) (d : ℕ) {j : Judgement} (e : Evidence j) (at : ℕ) →
-    SpelledAt file at (treePart Γ e .spelling) → treePart Γ e .fits d at →
-    evidence Γ file d j at ≡ read e (at + length (treePart Γ e .spelling))
-evidence-back Γ file d e at h f = evidence-stands Γ file d e at _ (stands-from (treePart Γ e .spelling) h f) .back

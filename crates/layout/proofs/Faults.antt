@@ -4,8 +4,6 @@
 --     BoundsBy, Bounds                                             the law, by cases on a reading
 --     expression-bounds, command-bounds, set-bounds                of these readers
 --     evidence-bounds                                              of evidence
---     bounds-read, bounds-fault                                    of what was read; of a refusal
-use mathlib.Core.Path.{_≡_, subst}
 use mathlib.Core.List.{List}
 use Prim.Native.Nat.{ℕ, _<_, _≤_}
 use Rattle.language.specs.Syntax.{Sort}
@@ -33,14 +31,6 @@ past-bounds {A} {file} {at} {T} {r} h = record { bounds = go (r at) (h .past) }
     go : (x : Reading A) → PastBy file at T x → BoundsBy file at x
     go (read a p) k = (k .0, k .1)
     go (fault n p) k = k
-
-pub bounds-read : {A : Type 0} {file : List ℕ} {at : ℕ} {r : Reader A} (a : A) (p : ℕ) → Bounds file at r →
-    r at ≡ read a p → (at < p) × (p ≤ wordCount file)
-bounds-read {file} {at} a p h e = subst (λ x. BoundsBy file at x) e (h .bounds)
-
-pub bounds-fault : {A : Type 0} {file : List ℕ} {at : ℕ} {r : Reader A} (n p : ℕ) → Bounds file at r →
-    r at ≡ fault n p → at ≤ wordCount file → FaultAt file at n p
-bounds-fault {file} {at} n p h e = subst (λ x. BoundsBy file at x) e (h .bounds)
 
 pub expression-bounds : (file : List ℕ) (d : ℕ) (j : Sort) (at : ℕ) → Bounds file at (expression file d j)
 expression-bounds file d j at = past-bounds (expression-past file d j at)

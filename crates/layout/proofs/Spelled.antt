@@ -3,7 +3,6 @@
 --     ExpressionAt, CommandAt, SetAt                      it stands from a place up to another and fits
 --     expression-past, command-past, set-past             by cases on the reading, refusals too
 --     past-read, spelled                                  of what was read, by any reader
---     expression-spelled, command-spelled, set-spelled    by these
 use mathlib.Core.Path.{_≡_, refl, sym, subst}
 use mathlib.Core.List.{List, [], _∷_}
 use Prim.Native.Nat.{ℕ, zero, suc, _+_, _/_, _%_, _<_, _≤_}
@@ -202,19 +201,3 @@ past-read file {at} {T} r a p h e = subst (λ x. PastBy file at T x) e (h .past)
 pub spelled : {file : List ℕ} {l : List Word} {F : Type 0} {at p : ℕ} → Stands file l F at p →
     SpelledAt file at l × (p ≡ at + length l) × F
 spelled {file} {l} {at} {p} s = (stands-spelled file at l p (s .stand), stands-end file at l p (s .stand), s .fit)
-
-pub expression-spelled :
-    (file : List ℕ) (d : ℕ) (j : Sort) (at : ℕ) (e : Expr j) (p : ℕ) → expression file d j at ≡ read e p →
-    SpelledAt file at (words e) × (p ≡ at + length (words e)) × FitsExpression e d
-expression-spelled file d j at e p h =
-    spelled (past-read file (expression file d j) e p (expression-past file d j at) h .2)
-
-pub command-spelled :
-    (file : List ℕ) (d at : ℕ) (c : Command) (p : ℕ) → command file d at ≡ read c p →
-    SpelledAt file at (commandWords c) × (p ≡ at + length (commandWords c)) × FitsCommand c d
-command-spelled file d at c p h = spelled (past-read file (command file d) c p (command-past file d at) h .2)
-
-pub set-spelled :
-    (Γ : Context) (file : List ℕ) (d at : ℕ) (m : Members) (p : ℕ) → set Γ file d at ≡ read m p →
-    SpelledAt file at (setWords m) × (p ≡ at + length (setWords m)) × FitsSet Γ m d
-set-spelled Γ file d at m p h = spelled (past-read file (set Γ file d) m p (set-past file Γ d at) h .2)

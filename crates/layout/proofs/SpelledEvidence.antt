@@ -3,7 +3,6 @@
 --     TreeAt, joined-trees, parted-trees    it stands from a place up to another and fits; one part and then others
 --     head-inside                           its word is in the file
 --     evidence-past                         by cases on the reading, refusals too
---     PartSpelled, evidence-spelled         of what was read
 use mathlib.Core.Path.{_≡_, refl, sym, subst}
 use mathlib.Core.List.{List, [], _∷_}
 use Prim.Native.Nat.{ℕ, zero, suc, _+_, _<_}
@@ -14,7 +13,7 @@ use Rattle.rules.specs.Context.{Context}
 use Rattle.rules.specs.Evidence.{Judgement, Item, assertionItem, commandItem, membersItem, childItem, Row, rules}
 use Rattle.rules.specs.Evidence.{Standing, item, Tree, by, _&_, Evidence, Parts}
 use Rattle.layout.specs.Bytes.{wordCount}
-use Rattle.layout.specs.Reading.{read, Reader}
+use Rattle.layout.specs.Reading.{Reader}
 use Rattle.layout.specs.ReadEvidence.{evidenceKind, ruleOf, itemReader, partsReader, evidence}
 use Rattle.layout.specs.Spelling.{SpelledAt}
 use Rattle.layout.specs.EvidenceWords.{Part, spelledTree, FitsTree, treePart}
@@ -23,7 +22,7 @@ use Rattle.layout.proofs.Words.{word-found}
 use Rattle.layout.proofs.Stands.{both, parted, stands-end}
 use Rattle.layout.proofs.Yields.{Optional, nothing, something, entry, on-option}
 use Rattle.layout.proofs.Yields.{Yields, Past, past-yields, start, _▹_, level-past, due-past}
-use Rattle.layout.proofs.Spelled.{expression-past, command-past, set-past, past-read, spelled}
+use Rattle.layout.proofs.Spelled.{expression-past, command-past, set-past}
 
 module _ (Γ : Context) (file : List ℕ) where
   abbrev pub TreeAt : {s : Standing} → ℕ → ℕ → Tree s → ℕ → Type 0
@@ -79,13 +78,3 @@ module _ (Γ : Context) (file : List ℕ) where
         stand = (f .inside, word-found (evidenceKind j) (pos (r .number)) f e (sym h), s .stand);
         fit = (refl, s .fit);
       }) ▹ parts-yields d (evidence Γ file d) (λ i q. past-yields (evidence-past d i q)) (r .after)) nothing
-
--- of what was read
-abbrev pub PartSpelled : List ℕ → Part → ℕ → ℕ → ℕ → Type 0
-PartSpelled file x d at p = SpelledAt file at (x .spelling) × (p ≡ at + length (x .spelling)) × x .fits d at
-
-pub evidence-spelled :
-    (Γ : Context) (file : List ℕ) (d : ℕ) {j : Judgement} (at : ℕ) (e : Evidence j) (p : ℕ) →
-    evidence Γ file d j at ≡ read e p → PartSpelled file (treePart Γ e) d at p
-evidence-spelled Γ file d {j} at e p h =
-    spelled (past-read file (evidence Γ file d j) e p (evidence-past Γ file d j at) h .2)

@@ -95,15 +95,24 @@ pub +run-command+run-for+run-if+run-pass+run-sequence+run-turn+run-turns-spec :
 +run-command+run-for+run-if+run-pass+run-sequence+run-turn+run-turns-spec =
     close μ-run-command μ-run-for μ-run-if μ-run-pass μ-run-sequence μ-run-turn μ-run-turns
     (λ t. run-command-lts.spec (
-      command-head-reads.Asked, command-head-reads.Learnt,
-      pass-step-reads.Asked, pass-step-reads.Learnt,
-      and 4 run-sequence-kinds.ps (falls 4 run-sequence-kinds.ps _<_ μ-run-sequence t) run-sequence.Pre, run-sequence.Post,
-      run-assert-reads.Asked, run-assert-reads.Learnt,
-      assign-scalar-reads.Asked, assign-scalar-reads.Learnt,
-      assign-array-reads.Asked, assign-array-reads.Learnt,
-      and 4 run-if-kinds.ps (falls 4 run-if-kinds.ps _<_ μ-run-if t) run-if.Pre, run-if.Post,
-      run-turns-below t, run-turns.Post,
-      and 4 run-for-kinds.ps (falls 4 run-for-kinds.ps _<_ μ-run-for t) run-for.Pre, run-for.Post,
+      command-head-reads.Asked,
+      command-head-reads.Learnt,
+      pass-step-reads.Asked,
+      pass-step-reads.Learnt,
+      and 4 run-sequence-kinds.ps (falls 4 run-sequence-kinds.ps _<_ μ-run-sequence t) run-sequence.Pre,
+      run-sequence.Post,
+      run-assert-reads.Asked,
+      run-assert-reads.Learnt,
+      assign-scalar-reads.Asked,
+      assign-scalar-reads.Learnt,
+      assign-array-reads.Asked,
+      assign-array-reads.Learnt,
+      and 4 run-if-kinds.ps (falls 4 run-if-kinds.ps _<_ μ-run-if t) run-if.Pre,
+      run-if.Post,
+      run-turns-below t,
+      run-turns.Post,
+      and 4 run-for-kinds.ps (falls 4 run-for-kinds.ps _<_ μ-run-for t) run-for.Pre,
+      run-for.Post,
     )
     (and 4 run-command-kinds.ps (is 4 run-command-kinds.ps μ-run-command t) run-command.Pre)
     run-command.Post
@@ -154,8 +163,10 @@ pub +run-command+run-for+run-if+run-pass+run-sequence+run-turn+run-turns-spec :
     absurd (command-parts (p .command .tree) (p .command .there)
     (sym (c .before .before .command-head .ensures) ∙ c .enum-told6 .given .1))))
     (λ t. run-for-lts.spec (
-      store-scalar-reads.Asked, store-scalar-reads.Learnt,
-      run-turns-below t, run-turns.Post,
+      store-scalar-reads.Asked,
+      store-scalar-reads.Learnt,
+      run-turns-below t,
+      run-turns.Post,
     )
     (and 4 run-for-kinds.ps (is 4 run-for-kinds.ps μ-run-for t) run-for.Pre)
     run-for.Post
@@ -180,10 +191,14 @@ pub +run-command+run-for+run-if+run-pass+run-sequence+run-turn+run-turns-spec :
     (λ c. let s = (c .before .before .before .before .before .before .before .before) in let p = s .pre .1 in
     for-stopped (p .head) (c .before .before .before .before .store-scalar .ensures) (c .before .k .given .1)))
     (λ t. run-if-lts.spec (
-      eval-boolean-reads.Asked, eval-boolean-reads.Learnt,
-      end-at-reads.Asked, end-at-reads.Learnt,
-      test-step-reads.Asked, test-step-reads.Learnt,
-      run-command-below t, run-command.Post,
+      eval-boolean-reads.Asked,
+      eval-boolean-reads.Learnt,
+      end-at-reads.Asked,
+      end-at-reads.Learnt,
+      test-step-reads.Asked,
+      test-step-reads.Learnt,
+      run-command-below t,
+      run-command.Post,
     )
     (and 4 run-if-kinds.ps (is 4 run-if-kinds.ps μ-run-if t) run-if.Pre)
     run-if.Post
@@ -229,9 +244,12 @@ pub +run-command+run-for+run-if+run-pass+run-sequence+run-turn+run-turns-spec :
     if-stopped (p .can .ends-of) (p .head) (c .before .before .before .before .before .eval-boolean .ensures)
     (c .before .before .before .test-step .ensures) (c .before .k .given .1)))
     (λ t. run-pass-lts.spec (
-      body-at-reads.Asked, body-at-reads.Learnt,
-      run-command-below t, run-command.Post,
-      end-pass-reads.Asked, end-pass-reads.Learnt,
+      body-at-reads.Asked,
+      body-at-reads.Learnt,
+      run-command-below t,
+      run-command.Post,
+      end-pass-reads.Asked,
+      end-pass-reads.Learnt,
     )
     (and 4 run-pass-kinds.ps (is 4 run-pass-kinds.ps μ-run-pass t) run-pass.Pre)
     run-pass.Post
@@ -250,8 +268,10 @@ pub +run-command+run-for+run-if+run-pass+run-sequence+run-turn+run-turns-spec :
     (c .before .before .before .before .before .before .before .before .body-at .ensures)
     (c .before .before .before .before .before .run-command .ensures) (c .before .end-pass .ensures)))
     (λ t. run-sequence-lts.spec (
-      run-command-below t, run-command.Post,
-      end-at-reads.Asked, end-at-reads.Learnt,
+      run-command-below t,
+      run-command.Post,
+      end-at-reads.Asked,
+      end-at-reads.Learnt,
     )
     (and 4 run-sequence-kinds.ps (is 4 run-sequence-kinds.ps μ-run-sequence t) run-sequence.Pre)
     run-sequence.Post
@@ -282,9 +302,12 @@ pub +run-command+run-for+run-if+run-pass+run-sequence+run-turn+run-turns-spec :
     sequence-stopped (p .head) (c .before .before .before .before .before .run-command .ensures)
     (c .before .k .given .1)))
     (λ t. run-turn-lts.spec (
-      loop-test-reads.Asked, loop-test-reads.Learnt,
-      test-step-reads.Asked, test-step-reads.Learnt,
-      and 4 run-pass-kinds.ps (falls 4 run-pass-kinds.ps _<_ μ-run-pass t) run-pass.Pre, run-pass.Post,
+      loop-test-reads.Asked,
+      loop-test-reads.Learnt,
+      test-step-reads.Asked,
+      test-step-reads.Learnt,
+      and 4 run-pass-kinds.ps (falls 4 run-pass-kinds.ps _<_ μ-run-pass t) run-pass.Pre,
+      run-pass.Post,
     )
     (and 4 run-turn-kinds.ps (is 4 run-turn-kinds.ps μ-run-turn t) run-turn.Pre)
     run-turn.Post
