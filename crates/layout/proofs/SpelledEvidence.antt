@@ -5,9 +5,8 @@
 --     evidence-past                         by cases on the reading, refusals too
 use mathlib.Core.Path.{_≡_, refl, sym, subst}
 use mathlib.Core.List.{List, [], _∷_}
-use Prim.Native.Nat.{ℕ, zero, suc, _+_, _<_}
+use Prim.Native.Nat.{ℕ, zero, suc, _<_}
 use lib.IntN.{pos}
-use lib.ListN.{length}
 use Rattle.language.specs.Syntax.{Boolean}
 use Rattle.rules.specs.Context.{Context}
 use Rattle.rules.specs.Evidence.{Judgement, Item, assertionItem, commandItem, membersItem, childItem, Row, rules}
@@ -15,8 +14,7 @@ use Rattle.rules.specs.Evidence.{Standing, item, Tree, by, _&_, Evidence, Parts
 use Rattle.layout.specs.Bytes.{wordCount}
 use Rattle.layout.specs.Reading.{Reader}
 use Rattle.layout.specs.ReadEvidence.{evidenceKind, ruleOf, itemReader, partsReader, evidence}
-use Rattle.layout.specs.Spelling.{SpelledAt}
-use Rattle.layout.specs.EvidenceWords.{Part, spelledTree, FitsTree, treePart}
+use Rattle.layout.specs.EvidenceWords.{spelledTree, FitsTree, treePart}
 use Rattle.layout.specs.Standing.{PartStands}
 use Rattle.layout.proofs.Words.{word-found}
 use Rattle.layout.proofs.Stands.{both, parted, stands-end}
