@@ -2,7 +2,7 @@
 -- Assumes nothing.
 --     exchanged-append                                         one list after the other
 --     none-matched, one-matched, two-matched, three-matched    a cursor after an expression with so many operands
---     can-inside, any-listed                                   places are in the file, in the list of ends
+--     any-first, can-inside, any-listed                                   places are in the file, in the list of ends
 --     can-first, can-second, can-third                         its operands can be matched, and lie further on
 use mathlib.Core.Path.{_≡_, refl, sym, ap, subst, _∙_}
 use mathlib.Core.List.{List, [], _∷_, _++_, append-assoc, append-nil}
@@ -12,12 +12,14 @@ use lib.ListN.{length, getD}
 use Rattle.language.specs.Syntax.{Sort}
 use Rattle.ends.specs.Ends.{EndsOf}
 use Rattle.compare.specs.Matching.{between, matched, putFor, exchanged}
-use Rattle.compare.specs.Places.{endAt, ExpressionAt, AnyAt, Chained, CanMatch, CanMatchAny, Matched}
+use Rattle.ends.specs.Places.{endAt}
+use Rattle.ends.proofs.Places.{node-known}
+use Rattle.compare.specs.Places.{ExpressionAt, AnyAt, Chained, CanMatch, CanMatchAny, Matched}
 use Rattle.compare.specs.declared.cursor.Match.{Match}
 use Rattle.compare.specs.declared.cursor.Put.{Put}
 use Rattle.compare.proofs.Ranges.{between-none, between-first, between-join}
 use Rattle.compare.proofs.Matching.{matched-append}
-use Rattle.compare.proofs.Operands.{expression-inside}
+use Rattle.compare.proofs.Operands.{any-inside}
 
 module _ (file : List ℕ) (put : Put) where
   pub exchanged-append : (k l : List ℕ) → exchanged file put (k ++ l) ≡ exchanged file put k ++ exchanged file put l
@@ -65,7 +67,7 @@ module _ {file : List ℕ} {put : Put} where
     operand : {m n : Match} {at : ℕ} → AnyAt file ends at → Matched file ends m at put n →
         After file put m at n (endAt ends at)
     operand x e =
-        let i = expression-inside (x .expression) in
+        let i = any-inside x in
         record { is = e .is; order = let h = i .start in omega arith; within = i .within }
 
     up-to : {m r : Match} {b p : ℕ} → After file put m b r p → p ≡ endAt ends b → Matched file ends m b put r
@@ -101,21 +103,19 @@ module _ {file : List ℕ} {put : Put} where
         (operand (c .1 .1 .0) (moved f (t ∙ ap (endAt ends) s))))
         (c .1 .1 .1)
 
-pub can-inside : {file ends : List ℕ} {k : Sort} {b : ℕ} {put : Put} → CanMatch file ends k b put → b < length file
-can-inside p =
-    let i = expression-inside (p .expression) in
+pub any-first : {file ends : List ℕ} {b : ℕ} → AnyAt file ends b → b < length file
+any-first x =
+    let i = any-inside x in
     let s = i .start in
     let l = i .within in
     omega arith
 
+pub can-inside : {file ends : List ℕ} {k : Sort} {b : ℕ} {put : Put} → CanMatch file ends k b put → b < length file
+can-inside p = any-first (record { sort = _; expression = p .expression })
+
 -- an operand's place is in the list of ends too
 pub any-listed : {file ends : List ℕ} {at : ℕ} → EndsOf file ends → AnyAt file ends at → at < length ends
-any-listed o x =
-    let i = expression-inside (x .expression) in
-    let s = i .start in
-    let l = i .within in
-    let n = o .long in
-    omega arith
+any-listed o x = node-known o (x .expression .there) .listed
 
 -- the words left from a place on, twice, so that a function's own number lies between those of its operands
 abbrev pub left : List ℕ → ℕ → ℕ
@@ -128,7 +128,7 @@ CanCall file ends put t at = (left file at + 1 < t) × CanMatchAny file ends at 
 module _ {file ends : List ℕ} {put : Put} (ends-of : EndsOf file ends) (inside : put .to ≤ length file) where
   call : {t b at : ℕ} → left file b ≡ t → b < at → AnyAt file ends at → CanCall file ends put t at
   call {t} {b} {at} e h x =
-      let i = expression-inside (x .expression) in
+      let i = any-inside x in
       let s = i .start in
       let l = i .within in
       (omega arith, record { ends-of = ends-of; any = x; inside = inside })
@@ -139,25 +139,18 @@ module _ {file ends : List ℕ} {put : Put} (ends-of : EndsOf file ends) (inside
 
     pub can-second : {at p : ℕ} → Chained file ends 2 (b + 1) p → at ≡ endAt ends (b + 1) → CanCall file ends put t at
     can-second {at} c k =
-        let s = expression-inside (c .0 .expression) .start in
+        let s = any-inside (c .0) .start in
         call e (omega arith) (subst (AnyAt file ends) (sym k) (c .1 .0))
 
     pub can-third : {at second p : ℕ} → Chained file ends 3 (b + 1) p → second ≡ endAt ends (b + 1) →
         at ≡ endAt ends second → CanCall file ends put t at
     can-third {at} {second} c k g =
-        let s = expression-inside (c .0 .expression) .start in
-        let u = expression-inside (c .1 .0 .expression) .start in
+        let s = any-inside (c .0) .start in
+        let u = any-inside (c .1 .0) .start in
         let f : at ≡ endAt ends (endAt ends (b + 1)) = g ∙ ap (endAt ends) k in
         call e (omega arith) (subst (AnyAt file ends) (sym f) (c .1 .1 .0))
 
 -- the function for the sort is called at the same place
-pub any-inside : {file ends : List ℕ} {b : ℕ} → AnyAt file ends b → b < length file
-any-inside x =
-    let i = expression-inside (x .expression) in
-    let s = i .start in
-    let l = i .within in
-    omega arith
-
 pub can-sort : {file ends : List ℕ} {put : Put} {t b : ℕ} {k : Sort} → left file b + 1 ≡ t → CanMatchAny file ends b put →
     ExpressionAt file ends k b → (left file b < t) × CanMatch file ends k b put
 can-sort e p x = (omega arith, record { ends-of = p .ends-of; expression = x; inside = p .inside })

@@ -14,7 +14,8 @@ use native.Mathlib.Omega.{arith}
 use Rattle.language.specs.Syntax.{Boolean}
 use Rattle.layout.specs.Bytes.{wordOf}
 use Rattle.compare.specs.Matching.{between, matchedWord, matched, came, sameNumbers, exchanged}
-use Rattle.compare.specs.Places.{endAt, PartKnown, CanMatch, CanMatchAny, Matched}
+use Rattle.ends.specs.Places.{endAt, PartKnown}
+use Rattle.compare.specs.Places.{CanMatch, CanMatchAny, Matched}
 use Rattle.compare.specs.Forms.{part, andNumbers, andNotNumbers, splitNumbers, antecedentNumbers, consequentNumbers}
 use Rattle.compare.specs.Forms.{AntecedentAt, ConsequentAt}
 use Rattle.compare.specs.declared.cursor.Match.{Match}

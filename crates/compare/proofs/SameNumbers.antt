@@ -20,7 +20,7 @@ use Rattle.rules.specs.Words.{Word, sameWords}
 use Rattle.rules.proofs.Decides.{sameWords-decides}
 use Rattle.compare.specs.Matching.{between, numbers, matched, came, sameNumbers}
 use Rattle.compare.specs.EqualWords.{EqualCount}
-use Rattle.compare.specs.Places.{endAt, PartKnown}
+use Rattle.ends.specs.Places.{endAt, PartKnown}
 use Rattle.compare.specs.Forms.{part}
 use Rattle.compare.specs.declared.cursor.Match.{Match}
 use Rattle.compare.proofs.Ranges.{between-none, between-first, between-last, between-length}

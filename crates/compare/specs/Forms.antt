@@ -11,7 +11,8 @@ use Prim.Native.Nat.{ℕ}
 use Rattle.language.specs.Syntax.{Boolean}
 use Rattle.layout.specs.Bytes.{wordOf}
 use Rattle.compare.specs.Matching.{between, exchanged}
-use Rattle.compare.specs.Places.{endAt, PartKnown, CanMatch, CanMatchAny}
+use Rattle.ends.specs.Places.{endAt, PartKnown}
+use Rattle.compare.specs.Places.{CanMatch, CanMatchAny}
 use Rattle.compare.specs.declared.antecedent.Antecedent.{Antecedent}
 use Rattle.compare.specs.declared.antecedent.Antecedent.the-variants.{Written, And, AndNot, Split, Replaced, True}
 use Rattle.compare.specs.declared.consequent.Consequent.{Consequent}

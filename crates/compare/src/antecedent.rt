@@ -12,7 +12,7 @@ use words::kinds::OR_WORD;
 use words::kinds::TRUE_WORD;
 ghost use mathlib.Core.Path.{_≡_};
 ghost use Rattle.compare.specs.Matching.{matched, sameNumbers};
-ghost use Rattle.compare.specs.Places.{PartKnown};
+ghost use Rattle.ends.specs.Places.{PartKnown};
 ghost use Rattle.compare.specs.Forms.{part, andNumbers, andNotNumbers, splitNumbers, antecedentNumbers, AntecedentAt};
 ghost use Rattle.compare.specs.Forms.{CanAntecedent};
 ghost use Rattle.compare.specs.declared.antecedent.Antecedent.the-variants.{True};

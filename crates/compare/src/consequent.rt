@@ -5,7 +5,7 @@ use crate::part::came_to_end;
 use crate::part::same_parts;
 ghost use mathlib.Core.Path.{_≡_};
 ghost use Rattle.compare.specs.Matching.{sameNumbers};
-ghost use Rattle.compare.specs.Places.{PartKnown};
+ghost use Rattle.ends.specs.Places.{PartKnown};
 ghost use Rattle.compare.specs.Forms.{part, consequentNumbers, CanConsequent};
 
 // A consequent as the rules form it, by places: the expression at a place; the same with words put for a word.

@@ -7,7 +7,7 @@ ghost use mathlib.Core.Path.{_≡_};
 ghost use Prim.Native.Nat.{_<_};
 ghost use lib.ListN.{length};
 ghost use Rattle.compare.specs.Matching.{matched, came, sameNumbers};
-ghost use Rattle.compare.specs.Places.{endAt, PartKnown};
+ghost use Rattle.ends.specs.Places.{endAt, PartKnown};
 ghost use Rattle.compare.specs.Forms.{part};
 
 // The words of the part at a stand at the cursor.

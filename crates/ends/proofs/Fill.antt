@@ -13,7 +13,8 @@ use lib.ListN.{length, getD, take, drop, set, length-append, length-take, length
 use lib.ListN.{drop-of-length-le, take-append-drop, List·getD-append}
 use lib.Seq.{take-suc, drop-cons, set-at, getD-append-add, getD-drop, length-take-le}
 use Rattle.layout.specs.Bytes.{kindAt, payloadAt}
-use Rattle.ends.specs.Sizes.{countOf, past, sizes, endPlaces, follow, Filled}
+use Rattle.layout.specs.Nodes.{countOf}
+use Rattle.ends.specs.Sizes.{past, sizes, endPlaces, follow, Filled}
 use Rattle.ends.proofs.Sizes.{sizes-length, sizes-at, sizes-inside, placed-length, placed-at, Ended, follow-past}
 
 module _ (file before : List ℕ) where

@@ -2,6 +2,7 @@
 --     Sizes         the sizes of what starts at each word
 --     Ends          the places that the sizes make are the ends
 --     Fill          ends written from the last word to the first
+--     Places        what stands at a place: its first word, and its parts at their places
 --     Bits          bits of numbers
 --     Marks         masks of what words assign
 --     BlockMasks    masks of blocks
@@ -9,6 +10,7 @@
 pub mod Sizes
 pub mod Ends
 pub mod Fill
+pub mod Places
 pub mod Bits
 pub mod Marks
 pub mod BlockMasks

@@ -15,7 +15,8 @@ use borrow.Author.Tests.{ne-eqb, lt-ltb, le-ltb}
 use lib.ListN.{length, getD, drop, length-drop, drop-of-length-le}
 use lib.Seq.{drop-cons, drop-drop}
 use Rattle.layout.specs.Bytes.{kindAt, payloadAt, payloads}
-use Rattle.ends.specs.Sizes.{countAt, counts, countOf, past, sizes, placed, follow}
+use Rattle.layout.specs.Nodes.{countAt, counts, countOf}
+use Rattle.ends.specs.Sizes.{past, sizes, placed, follow}
 
 pub lt-or-le : (m n : ℕ) → (m < n) ⊎ (n ≤ m)
 lt-or-le m n = elim (decLt m n) [ yes h ↦ inl h | no h ↦ inr (omega arith) ]

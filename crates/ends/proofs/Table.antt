@@ -6,10 +6,11 @@ use mathlib.Core.List.{List}
 use Prim.Native.Nat.{ℕ}
 use native.Mathlib.Omega.{arith}
 use lib.ListN.{getD}
+use Rattle.layout.specs.Nodes.{expressionNode, commandNode, setNode}
 use Rattle.ends.specs.Ends.{EndsOf}
 use Rattle.ends.specs.Sizes.{Filled}
 use Rattle.ends.specs.Blocks.{Blocked}
-use Rattle.ends.proofs.Ends.{Sized, expression-sized, command-sized, set-sized}
+use Rattle.ends.proofs.Ends.{Sized, node-sized}
 
 module _ {file before filled after : List ℕ} (f : Filled file before filled) (m : Blocked file filled after) where
   by-size : {at p : ℕ} → Sized file at p → getD after at 0 ≡ p
@@ -18,8 +19,8 @@ module _ {file before filled after : List ℕ} (f : Filled file before filled) (
   pub table-ends : EndsOf file after
   table-ends = record {
     long = omega (arith, m .blocks .room);
-    expression-end = λ e d at p s. by-size (expression-sized file d e at p s);
-    command-end = λ c d at p s. by-size (command-sized file d c at p s);
-    set-end = λ Γ q d at p s. by-size (set-sized file Γ d q at p s);
+    expression-end = λ e d at p s. by-size (node-sized file d (expressionNode e) at p s);
+    command-end = λ c d at p s. by-size (node-sized file d (commandNode c) at p s);
+    set-end = λ Γ q d at p s. by-size (node-sized file d (setNode Γ q) at p s);
     blocks = m .blocks;
   }

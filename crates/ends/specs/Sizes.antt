@@ -1,7 +1,6 @@
 -- The place past what starts at each word of a file, found from the last word to the first (document 01, "Layout").
--- Working: `expression-sized`, `command-sized` and `set-sized` of proofs/Ends say that these places are the ends.
+-- Working: `node-sized` of proofs/Ends says that these places are the ends.
 -- Assumes nothing.
---     countOf        how many expressions and commands follow a word, by its kind and payload
 --     past, sizes    the words of the next parts, by the sizes of what starts at each place; those sizes
 --     endPlaces      the places past what starts at each word
 --     follow         from a place on, past so many parts, by a list of ends
@@ -9,26 +8,13 @@
 --     Filled         what is left of a list of ends when they are written to it
 --     CanTable       a list has room for the ends and for masks behind them
 use mathlib.Core.Path.{_≡_}
-use mathlib.Core.Bool.{true, false, cond}
+use mathlib.Core.Bool.{true, false}
 use mathlib.Core.List.{List, [], _∷_, _++_}
 use Prim.Native.Nat.{ℕ, zero, suc, _+_, _*_, _/_, _%_, _<_, _≤_}
-use lib.Dec.{eqb, ltb}
+use lib.Dec.{ltb}
 use lib.ListN.{length, getD, drop}
 use Rattle.layout.specs.Bytes.{payloads}
-
--- the count beside a kind, or 0
-abbrev pub countAt : ℕ → List (ℕ × ℕ) → ℕ
-countAt k [] = 0
-countAt k (e ∷ l) = cond (eqb k (e .0)) (e .1) (countAt k l)
-
--- a set has two expressions for each of its members; words of other kinds are taken alone
-abbrev pub counts : ℕ → List (ℕ × ℕ)
-counts p =
-    (32, 2 * p) ∷ (31, 1) ∷ (30, 2) ∷ (29, 3) ∷ (28, 1) ∷ (27, 1) ∷ (26, 1) ∷ (25, 2) ∷ (18, 3) ∷ (12, 1) ∷ (11, 2)
-    ∷ (10, 2) ∷ (8, 2) ∷ (4, 2) ∷ (3, 2) ∷ []
-
-unfoldable pub countOf : ℕ → ℕ → ℕ
-countOf k p = countAt k (counts p)
+use Rattle.layout.specs.Nodes.{countOf}
 
 -- `past n m`: the words of the next n parts, where m has the sizes of what starts at each place
 unfoldable pub past : ℕ → List ℕ → ℕ

@@ -25,7 +25,8 @@ ghost use Prim.Native.Nat.{_/_, _%_, _<_, _≤_};
 ghost use lib.ListN.{length, getD};
 ghost use Rattle.layout.specs.Bytes.{payloads};
 ghost use Rattle.ends.specs.Ends.{EndsOf};
-ghost use Rattle.ends.specs.Sizes.{countOf, follow, CanFill, Filled, CanTable};
+ghost use Rattle.layout.specs.Nodes.{countOf};
+ghost use Rattle.ends.specs.Sizes.{follow, CanFill, Filled, CanTable};
 
 // The place past the part that starts at `at`, by a list of ends.
 pub fn end_at(ends: &[u32], at: usize) -> usize

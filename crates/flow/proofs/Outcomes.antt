@@ -27,7 +27,8 @@ use Rattle.file.specs.Found.{CanLoad, FileRead}
 use Rattle.file.proofs.Found.{ReadAt, found-read, read-stands}
 use Rattle.file.proofs.Files.{file-words}
 use Rattle.goals.specs.Goals as goals
-use Rattle.goals.proofs.Places.{member-set, commanded}
+use Rattle.layout.specs.Nodes.{commandNode, setNode}
+use Rattle.ends.proofs.Places.{node-at}
 use Rattle.goals.specs.declared.Goal.the-variants as Goal
 use Rattle.goals.specs.declared.Judged.{Judged}
 use Rattle.goals.specs.declared.Judged.the-variants as Judged
@@ -64,9 +65,9 @@ module _ {w ends : List ℕ} (context : Context) {s : Places} (h : CanJudgeFile 
       subst (λ (z : Places). goals.GoalStands (contextOf context) w ends (Goal.Flow (z .pre) 1 (z .post)) tree l (z .evidence)
       (known .end)) (sym (known .at))
       (goals.flow-stands
-      (member-set (h .ends-of) (contextOf context) (known .file .pre) l _ _ low (x .pre))
-      (commanded (h .ends-of) (known .file .program) l _ _ low (x .program))
-      (member-set (h .ends-of) (contextOf context) (known .file .post) l _ _ low (x .post))
+      (node-at (h .ends-of) (setNode (contextOf context) (known .file .pre)) l _ _ low (x .pre))
+      (node-at (h .ends-of) (commandNode (known .file .program)) l _ _ low (x .program))
+      (node-at (h .ends-of) (setNode (contextOf context) (known .file .post)) l _ _ low (x .post))
       (x .evidence))
 
   pub can-judge : goals.CanJudge w ends (contextOf context) (Goal.Flow (s .pre) 1 (s .post)) (s .evidence)

@@ -15,7 +15,7 @@ use Rattle.rules.specs.Condition.{byForm}
 use Rattle.rules.specs.Evidence.{flow1, flow3, flow4, flow5}
 use Rattle.rules.specs.Judge.{misfit, flowRule}
 use Rattle.layout.specs.Bytes.{kindAt, payloadAt, payloads}
-use Rattle.compare.specs.Places.{endAt}
+use Rattle.ends.specs.Places.{endAt}
 use Rattle.compare.specs.declared.cursor.Put.{Put}
 use Rattle.implication.specs.declared.Condition.the-variants.{Fails}
 use Rattle.goals.specs.declared.Goal.the-variants.{Flow}
@@ -26,25 +26,25 @@ use Rattle.rule_laws.proofs.Commands.{AssignAt, is-skip, is-scalar, is-array, i
 use Rattle.rule_laws.proofs.Commands.{other-than-skip, other-than-scalar, other-than-array, other-than-assert}
 use Rattle.sets.specs.Trees.{RightSide, PutStands, put-scalar, put-array}
 use Rattle.sets.specs.Rules.{CanReplaced, CanUnder, SameWritten, SameReplaced, SameUnder}
-use Rattle.set_laws.proofs.Sets.{set-stands, has-set}
-use Rattle.flow_rules.proofs.Goal.{by-test, no-parts, trees, expression-stands, has-expression}
+use Rattle.set_laws.proofs.Sets.{has-set}
+use Rattle.flow_rules.proofs.Goal.{by-test, no-parts, trees}
 
 -- the right side of the assignment at c, for the word n:x
 abbrev pub putting : List ℕ → List ℕ → ℕ → ℕ → Put
 putting file ends c n = record { word = n * payloads + payloadAt file c; from = c + 1; to = endAt ends (c + 1) }
 
 right-side : {file ends : List ℕ} {c : ℕ} {e : Command} {k : Sort} {make : ℕ → Expr k → Assignment} (n : ℕ)
-    (x : AssignAt file ends c e k make) → RightSide file (putting file ends c n) n (x .name) (x .right)
+    (x : AssignAt file ends c e k make) → RightSide file ends (putting file ends c n) n (x .name) (x .right)
 right-side n x = record {
   small = x .parts .small;
   word-is = ap (λ i. n * payloads + i) (x .parts .payload);
-  levels = x .parts .right-at .levels;
-  stands = x .parts .right-at .stands;
+  there = x .parts .right-at;
+  end-is = refl;
 }
 
 module _ {Γ : Context} {file ends : List ℕ} {p c q at : ℕ} where
   module _ (can : CanStep file ends Γ (Flow p c q) at) where
-    can-replace : (put : Put) (a : Assignment) → PutStands file put a → CanReplaced file ends p q put
+    can-replace : (put : Put) (a : Assignment) → PutStands file ends put a → CanReplaced file ends p q put
     can-replace put a s = record {
       ends-of = can .ends-of;
       first-set = has-set (trees can .before-at);
@@ -67,7 +67,7 @@ module _ {Γ : Context} {file ends : List ℕ} {p c q at : ℕ} where
       ends-of = can .ends-of;
       first-set = has-set (trees can .before-at);
       second-set = has-set (trees can .after-at);
-      test = has-expression (is-assert (can .ends-of) (trees can .command-at) h .test-at);
+      test = record { tree = _; there = is-assert (can .ends-of) (trees can .command-at) h .test-at };
     }
 
   module _ (can : CanTry file ends Γ 1 (Flow p c q) at) where
@@ -75,11 +75,11 @@ module _ {Γ : Context} {file ends : List ℕ} {p c q at : ℕ} where
     unfolding flowRule
     not-skip h = flow-rule can flow1 λ x y e t d end a k z s. misfit-comes (other-than-skip misfit e _ (other-kind k h))
 
-    pub skip-comes : kindAt file c ≡ 24 → {b : Bool} → SameWritten file p q b →
+    pub skip-comes : kindAt file c ≡ 24 → {b : Bool} → SameWritten file ends p q b →
         StepOf file ends Γ (Flow p c q) at (conditionOf b)
     unfolding flowRule byForm
     skip-comes h w = flow-rule can flow1 λ x y e t d end a k z s.
-        rw (is-skip k h) (by-test refl (w .does x y (set-stands a) (set-stands z))
+        rw (is-skip k h) (by-test refl (w .does x y a z)
         (no-children (no-parts Γ file ends d t s)))
 
   module _ (can : CanTry file ends Γ 3 (Flow p c q) at) where
@@ -87,12 +87,12 @@ module _ {Γ : Context} {file ends : List ℕ} {p c q at : ℕ} where
     unfolding flowRule
     not-scalar h = flow-rule can flow3 λ x y e t d end a k z s. misfit-comes (other-than-scalar misfit e _ (other-kind k h))
 
-    pub scalar-comes : kindAt file c ≡ 27 → {b : Bool} → SameReplaced file p q (putting file ends c 2) b →
+    pub scalar-comes : kindAt file c ≡ 27 → {b : Bool} → SameReplaced file ends p q (putting file ends c 2) b →
         StepOf file ends Γ (Flow p c q) at (conditionOf b)
     unfolding flowRule byForm
     scalar-comes h w = flow-rule can flow3 λ x y e t d end a k z s.
         let i = is-scalar (can .can .ends-of) k h in
-        rw (i .is) (by-test refl (w .does x y _ (set-stands a) (set-stands z) (put-scalar (right-side 2 i)))
+        rw (i .is) (by-test refl (w .does x y _ a z (put-scalar (right-side 2 i)))
         (no-children (no-parts Γ file ends d t s)))
 
   module _ (can : CanTry file ends Γ 4 (Flow p c q) at) where
@@ -100,12 +100,12 @@ module _ {Γ : Context} {file ends : List ℕ} {p c q at : ℕ} where
     unfolding flowRule
     not-array h = flow-rule can flow4 λ x y e t d end a k z s. misfit-comes (other-than-array misfit e _ (other-kind k h))
 
-    pub array-comes : kindAt file c ≡ 28 → {b : Bool} → SameReplaced file p q (putting file ends c 16) b →
+    pub array-comes : kindAt file c ≡ 28 → {b : Bool} → SameReplaced file ends p q (putting file ends c 16) b →
         StepOf file ends Γ (Flow p c q) at (conditionOf b)
     unfolding flowRule byForm
     array-comes h w = flow-rule can flow4 λ x y e t d end a k z s.
         let i = is-array (can .can .ends-of) k h in
-        rw (i .is) (by-test refl (w .does x y _ (set-stands a) (set-stands z) (put-array (right-side 16 i)))
+        rw (i .is) (by-test refl (w .does x y _ a z (put-array (right-side 16 i)))
         (no-children (no-parts Γ file ends d t s)))
 
   module _ (can : CanTry file ends Γ 5 (Flow p c q) at) where
@@ -113,11 +113,11 @@ module _ {Γ : Context} {file ends : List ℕ} {p c q at : ℕ} where
     unfolding flowRule
     not-assert h = flow-rule can flow5 λ x y e t d end a k z s. misfit-comes (other-than-assert misfit e _ (other-kind k h))
 
-    pub assert-comes : kindAt file c ≡ 26 → {b : Bool} → SameUnder file p q (c + 1) b →
+    pub assert-comes : kindAt file c ≡ 26 → {b : Bool} → SameUnder file ends p q (c + 1) b →
         StepOf file ends Γ (Flow p c q) at (conditionOf b)
     unfolding flowRule byForm
     assert-comes h w = flow-rule can flow5 λ x y e t d end a k z s.
         let i = is-assert (can .can .ends-of) k h in
         rw (i .is) (by-test refl
-        (w .does x y (i .test) (set-stands a) (set-stands z) (expression-stands (i .test-at)))
+        (w .does x y (i .test) a z (i .test-at))
         (no-children (no-parts Γ file ends d t s)))

@@ -21,9 +21,8 @@ use Rattle.rule_laws.proofs.Commands.{is-if, other-kind, other-than-if}
 use Rattle.rule_laws.proofs.Trying.{parts-of, up-to}
 use Rattle.sets.specs.Piles.{countAt}
 use Rattle.sets.specs.Rules.{CanBranches, SameBranches}
-use Rattle.set_laws.proofs.Sets.{set-stands, has-set, is-one, not-one}
+use Rattle.set_laws.proofs.Sets.{has-set, is-one, not-one}
 use Rattle.flow_rules.proofs.Goal.{second, third, by-test, trees}
-use Rattle.flow_rules.proofs.Goal.{expression-stands, has-expression}
 
 module _ {Γ : Context} {file ends : List ℕ} {p c q at : ℕ} (can : CanTry file ends Γ 6 (Flow p c q) at) where
   pub not-if : (kindAt file c ≡ 29 → ⊥) → StepOf file ends Γ (Flow p c q) at Fails
@@ -43,15 +42,15 @@ module _ {Γ : Context} {file ends : List ℕ} {p c q at : ℕ} (can : CanTry fi
       first-set = has-set (trees (can .can) .before-at);
       then-set = has-set s-at;
       else-set = has-set t-at;
-      test = has-expression (is-if (can .can .ends-of) (trees (can .can) .command-at) h .test-at);
-      before = has-expression φ-at;
+      test = record { tree = _; there = is-if (can .can .ends-of) (trees (can .can) .command-at) h .test-at };
+      before = record { tree = _; there = φ-at };
     }
 
     pub can-branch : CanBranches file ends p (at + 1) (second ends at) (c + 1) (third ends at)
     can-branch = let x = parts-of can flow6 in branch (x .parts) (x .levels) (x .end) (x .parts-placed)
 
     comes : countAt file q ≡ 1 → {b : Bool} →
-        SameBranches file p (at + 1) (second ends at) (c + 1) (third ends at) b →
+        SameBranches file ends p (at + 1) (second ends at) (c + 1) (third ends at) b →
         FlowComes Γ file ends p c q at flow6 (conditionOf b)
     unfolding flowRule judge byForm onOne
     comes one w x y e (members s & members t & assertion φ & child k & child l & child n & done) d end a b z
@@ -61,12 +60,11 @@ module _ {Γ : Context} {file ends : List ℕ} {p c q at : ℕ} (can : CanTry fi
         let if-at = rw (f .is) at b in
         let one-at = rw (g .is) at z in
         rw (f .is, g .is) (by-test refl
-        (w .does x s t (f .test) φ (set-stands a) (set-stands s-at) (set-stands t-at) (expression-stands (f .test-at))
-        (expression-stands φ-at))
+        (w .does x s t (f .test) φ a s-at t-at (f .test-at) φ-at)
         (three-children (flow-stands s-at (f .first-at) one-at k-at) (flow-stands t-at (f .second-at) one-at l-at)
         (up-to (pre-stands φ-at if-at (g .only-at .antecedent-at) n-at) last)))
 
     pub if-comes : countAt file q ≡ 1 → {b : Bool} →
-        SameBranches file p (at + 1) (second ends at) (c + 1) (third ends at) b →
+        SameBranches file ends p (at + 1) (second ends at) (c + 1) (third ends at) b →
         StepOf file ends Γ (Flow p c q) at (conditionOf b)
     if-comes one w = flow-rule can flow6 (comes one w)

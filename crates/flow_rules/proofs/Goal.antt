@@ -7,7 +7,6 @@
 --     before-head, command-head, after-head
 --                                         the first words are in the file
 --     can-two                             the two sets of a goal, as the comparison of sets takes them
---     expression-stands, has-expression   an expression at a place, as it takes one
 use mathlib.Core.Path.{_≡_, sym, ap, _∙_}
 use mathlib.Core.Bool.{Bool, true, false}
 use mathlib.Core.List.{List, []}
@@ -19,18 +18,16 @@ use Rattle.rules.specs.Context.{Context}
 use Rattle.rules.specs.Evidence.{done, Parts}
 use Rattle.rules.specs.Condition.{Result, test, _then_}
 use Rattle.rules.specs.Judge.{Verdict, Step, step}
-use Rattle.compare.specs.Places.{endAt}
+use Rattle.ends.specs.Places.{endAt, WrittenAt, CommandAt, SetAt}
 use Rattle.implication.specs.declared.Condition.the-variants.{Fails}
 use Rattle.goals.specs.declared.Goal.{Goal}
 use Rattle.goals.specs.declared.Goal.the-variants.{Flow}
-use Rattle.goals.specs.Places.{WrittenAt, CommandAt, SetAt}
 use Rattle.goals.specs.Conditions.{conditionOf}
 use Rattle.goals.specs.Goals.{TreeGoal, GoalStands, flow-stands, ChildrenOf, ComesTo, CanStep}
-use Rattle.goals.proofs.Places.{command-inside, set-inside}
+use Rattle.ends.proofs.Places.{node-inside}
 use Rattle.goals.proofs.Evidence.{Placed}
 use Rattle.goals.proofs.Comes.{fails-comes, test-comes, then-passes, then-fails}
 use Rattle.rule_laws.proofs.Trying.{first-word}
-use Rattle.sets.specs.Trees.{ExpressionStands, HasExpression}
 use Rattle.sets.specs.Rules.{CanTwo}
 use Rattle.set_laws.proofs.Sets.{has-set}
 
@@ -83,13 +80,13 @@ module _ {Γ : Context} {file ends : List ℕ} {p c q at : ℕ} where
 
     -- first words are in the file
     pub before-head : p < length file
-    before-head = first-word (set-inside (trees .before-at))
+    before-head = first-word (node-inside (trees .before-at))
 
     pub command-head : c < length file
-    command-head = first-word (command-inside (trees .command-at))
+    command-head = first-word (node-inside (trees .command-at))
 
     pub after-head : q < length file
-    after-head = first-word (set-inside (trees .after-at))
+    after-head = first-word (node-inside (trees .after-at))
 
 -- the two sets of the goal, as the comparison of sets takes them
 pub can-two : {Γ : Context} {file ends : List ℕ} {p c q at : ℕ} → CanStep file ends Γ (Flow p c q) at →
@@ -99,10 +96,3 @@ can-two can = record {
   first-set = has-set (trees can .before-at);
   second-set = has-set (trees can .after-at);
 }
-
-module _ {file ends : List ℕ} {k : Sort} {e : Expr k} {at : ℕ} where
-  pub expression-stands : WrittenAt file ends e at → ExpressionStands file e at
-  expression-stands x = record { levels = x .levels; next = endAt ends at; stands = x .stands }
-
-  pub has-expression : WrittenAt file ends e at → HasExpression file k at
-  has-expression x = record { tree = e; stands = expression-stands x }

@@ -13,19 +13,19 @@ use Rattle.rules.specs.Judge.{misfit, flowRule, judge}
 use Rattle.layout.specs.Bytes.{kindAt}
 use Rattle.implication.specs.declared.Condition.the-variants.{Fails}
 use Rattle.goals.specs.declared.Goal.the-variants.{Flow}
-use Rattle.goals.specs.Places.{CommandAt}
+use Rattle.ends.specs.Places.{CommandAt}
 use Rattle.goals.specs.Conditions.{conditionOf}
 use Rattle.goals.specs.Goals.{flow-stands, CanTry, StepOf}
-use Rattle.goals.proofs.Places.{command-known}
+use Rattle.ends.proofs.Places.{node-known}
 use Rattle.goals.proofs.Evidence.{Placed}
 use Rattle.goals.proofs.Comes.{misfit-comes, one-child, FlowComes, flow-rule}
 use Rattle.rule_laws.specs.Sameness.{CanMean, MeaningAt}
 use Rattle.rule_laws.proofs.Commands.{is-while, is-for, other-kind, other-than-while, other-than-for}
 use Rattle.rule_laws.proofs.Trying.{parts-of, up-to}
 use Rattle.sets.specs.Rules.{CanTest, SameWritten, TestStands}
-use Rattle.set_laws.proofs.Sets.{set-stands, has-set}
+use Rattle.set_laws.proofs.Sets.{has-set}
 use Rattle.flow_rules.proofs.Goal.{by-test, first-fails, second-test, trees}
-use Rattle.flow_rules.proofs.Goal.{command-head, expression-stands, has-expression}
+use Rattle.flow_rules.proofs.Goal.{command-head}
 
 module _ {Γ : Context} {file ends : List ℕ} {p c q at : ℕ} (can : CanTry file ends Γ 13 (Flow p c q) at) where
   pub not-while : (kindAt file c ≡ 30 → ⊥) → StepOf file ends Γ (Flow p c q) at Fails
@@ -37,24 +37,24 @@ module _ {Γ : Context} {file ends : List ℕ} {p c q at : ℕ} (can : CanTry fi
     can-test = record {
       ends-of = can .can .ends-of;
       first-set = has-set (trees (can .can) .before-at);
-      test = has-expression (is-while (can .can .ends-of) (trees (can .can) .command-at) h .test-at);
+      test = record { tree = _; there = is-while (can .can .ends-of) (trees (can .can) .command-at) h .test-at };
     }
 
-    module _ {a : Bool} (u : SameWritten file p q a) where
+    module _ {a : Bool} (u : SameWritten file ends p q a) where
       pub not-same : a ≡ false → StepOf file ends Γ (Flow p c q) at Fails
       unfolding flowRule byForm
       not-same n = flow-rule can flow13 λ x y e t d end f g z s.
-          rw (is-while (can .can .ends-of) g h .is) (first-fails _ refl (u .does x y (set-stands f) (set-stands z)) n)
+          rw (is-while (can .can .ends-of) g h .is) (first-fails _ refl (u .does x y f z) n)
 
-      comes : a ≡ true → {b : Bool} → TestStands file p (c + 1) b → FlowComes Γ file ends p c q at flow13 (conditionOf b)
+      comes : a ≡ true → {b : Bool} → TestStands file ends p (c + 1) b → FlowComes Γ file ends p c q at flow13 (conditionOf b)
       unfolding flowRule judge byForm
       comes n w x y e (child k & done) d end f g z (i, k-at, last) =
           let l = is-while (can .can .ends-of) g h in
-          rw (l .is) (second-test refl (sym (u .does x y (set-stands f) (set-stands z)) ∙ n)
-          (w .does x (l .test) (set-stands f) (expression-stands (l .test-at)))
+          rw (l .is) (second-test refl (sym (u .does x y f z) ∙ n)
+          (w .does x (l .test) f (l .test-at))
           (one-child (up-to (flow-stands f (l .body-at) z k-at) last)))
 
-      pub while-comes : a ≡ true → {b : Bool} → TestStands file p (c + 1) b →
+      pub while-comes : a ≡ true → {b : Bool} → TestStands file ends p (c + 1) b →
           StepOf file ends Γ (Flow p c q) at (conditionOf b)
       while-comes n w = flow-rule can flow13 (comes n w)
 
@@ -68,10 +68,10 @@ module _ {Γ : Context} {file ends : List ℕ} {p c q at : ℕ} (can : CanTry fi
         CanMean file ends (at + 1) c
     asked (command m & l) d end (m-at, _) = record {
       ends-of = can .can .ends-of;
-      command = command-known (can .can .ends-of) m-at;
+      command = node-known (can .can .ends-of) m-at;
       head = command-head (can .can);
       body =
-          command-known (can .can .ends-of)
+          node-known (can .can .ends-of)
           (is-for (can .can .ends-of) (trees (can .can) .command-at) h .parts .body-at);
     }
 

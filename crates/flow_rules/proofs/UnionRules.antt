@@ -17,7 +17,7 @@ use Rattle.goals.proofs.Evidence.{Placed}
 use Rattle.goals.proofs.Comes.{two-children, FlowComes, flow-rule}
 use Rattle.rule_laws.proofs.Trying.{parts-of, up-to}
 use Rattle.sets.specs.Rules.{CanThree, SameUnion}
-use Rattle.set_laws.proofs.Sets.{set-stands, has-set}
+use Rattle.set_laws.proofs.Sets.{has-set}
 use Rattle.flow_rules.proofs.Goal.{second, third, fourth, first-fails, second-test}
 use Rattle.flow_rules.proofs.Goal.{trees}
 
@@ -45,25 +45,25 @@ module _ {Γ : Context} {file ends : List ℕ} {p c q at : ℕ} (can : CanTry fi
   pub can-second : CanThree file ends q (second ends at) (fourth ends at)
   can-second = let x = parts-of can flow9 in asked (x .parts) (x .levels) (x .end) (x .parts-placed) .1
 
-  module _ {a : Bool} (u : SameUnion file p (at + 1) (third ends at) a) where
+  module _ {a : Bool} (u : SameUnion file ends p (at + 1) (third ends at) a) where
     fails : a ≡ false → FlowComes Γ file ends p c q at flow9 Fails
     unfolding flowRule judge
     fails h x y e (members s & members s′ & members t & members t′ & l) d end f g z
         (s-at, (s′-at, (t-at, (t′-at, _)))) =
-        first-fails _ refl (u .does x s t (set-stands f) (set-stands s-at) (set-stands t-at)) h
+        first-fails _ refl (u .does x s t f s-at t-at) h
 
-    comes : a ≡ true → {b : Bool} → SameUnion file q (second ends at) (fourth ends at) b →
+    comes : a ≡ true → {b : Bool} → SameUnion file ends q (second ends at) (fourth ends at) b →
         FlowComes Γ file ends p c q at flow9 (conditionOf b)
     unfolding flowRule judge
     comes h w x y e (members s & members s′ & members t & members t′ & child k & child l & done) d end f g z
         (s-at, (s′-at, (t-at, (t′-at, (i, k-at, (j, l-at, last)))))) =
-        second-test refl (sym (u .does x s t (set-stands f) (set-stands s-at) (set-stands t-at)) ∙ h)
-        (w .does y s′ t′ (set-stands z) (set-stands s′-at) (set-stands t′-at))
+        second-test refl (sym (u .does x s t f s-at t-at) ∙ h)
+        (w .does y s′ t′ z s′-at t′-at)
         (two-children (flow-stands s-at g s′-at k-at) (up-to (flow-stands t-at g t′-at l-at) last))
 
     pub union-fails : a ≡ false → StepOf file ends Γ (Flow p c q) at Fails
     union-fails h = flow-rule can flow9 (fails h)
 
-    pub union-comes : a ≡ true → {b : Bool} → SameUnion file q (second ends at) (fourth ends at) b →
+    pub union-comes : a ≡ true → {b : Bool} → SameUnion file ends q (second ends at) (fourth ends at) b →
         StepOf file ends Γ (Flow p c q) at (conditionOf b)
     union-comes h w = flow-rule can flow9 (comes h w)

@@ -12,38 +12,38 @@ use Rattle.rules.specs.Context.{Context}
 use Rattle.rules.specs.Condition.{onOne}
 use Rattle.rules.specs.Evidence.{flow10, flow11, child, done, _&_}
 use Rattle.rules.specs.Judge.{misfit, flowRule, judge}
-use Rattle.compare.specs.Places.{endAt}
+use Rattle.ends.specs.Places.{endAt}
 use Rattle.implication.specs.declared.Condition.the-variants.{Fails}
 use Rattle.goals.specs.declared.Goal.the-variants.{Flow}
 use Rattle.goals.specs.Conditions.{conditionOf}
 use Rattle.goals.specs.Goals.{pre-stands, CanTry, StepOf}
-use Rattle.goals.proofs.Places.{known-to, written-known, command-known, set-known}
+use Rattle.ends.proofs.Places.{known-to, node-known}
 use Rattle.goals.proofs.Comes.{misfit-comes, no-children, one-child, FlowComes, flow-rule}
 use Rattle.rule_laws.specs.Sameness.{CanSame, SameAt, CanKeep, KeptAt}
 use Rattle.rule_laws.proofs.Trying.{up-to}
 use Rattle.sets.specs.Piles.{countAt}
 use Rattle.sets.specs.Rules.{SameWritten}
-use Rattle.set_laws.proofs.Sets.{set-stands, is-one, not-one}
+use Rattle.set_laws.proofs.Sets.{is-one, not-one}
 use Rattle.flow_rules.proofs.Goal.{first-fails, second-test, no-parts, trees}
 
 module _ {Γ : Context} {file ends : List ℕ} {p c q at : ℕ} (can : CanTry file ends Γ 10 (Flow p c q) at) where
   pub can-keep-set : CanKeep file ends q c
   can-keep-set = record {
     ends-of = can .can .ends-of;
-    part = set-known (can .can .ends-of) (trees (can .can) .after-at);
-    command = command-known (can .can .ends-of) (trees (can .can) .command-at);
+    part = node-known (can .can .ends-of) (trees (can .can) .after-at);
+    command = node-known (can .can .ends-of) (trees (can .can) .command-at);
   }
 
-  module _ {a : Bool} (u : SameWritten file p q a) where
+  module _ {a : Bool} (u : SameWritten file ends p q a) where
     pub not-same : a ≡ false → StepOf file ends Γ (Flow p c q) at Fails
     unfolding flowRule
     not-same h = flow-rule can flow10 λ x y e t d end f g z s.
-        first-fails _ refl (u .does x y (set-stands f) (set-stands z)) h
+        first-fails _ refl (u .does x y f z) h
 
     pub set-kept : a ≡ true → {b : Bool} → KeptAt file ends q c b → StepOf file ends Γ (Flow p c q) at (conditionOf b)
     unfolding flowRule
     set-kept h w = flow-rule can flow10 λ x y e t d end f g z s.
-        second-test refl (sym (u .does x y (set-stands f) (set-stands z)) ∙ h) (w .set Γ y e z g)
+        second-test refl (sym (u .does x y f z) ∙ h) (w .set Γ y e z g)
         (no-children (no-parts Γ file ends d t s))
 
 module _ {Γ : Context} {file ends : List ℕ} {p c q at : ℕ} (can : CanTry file ends Γ 11 (Flow p c q) at) where
@@ -62,8 +62,8 @@ module _ {Γ : Context} {file ends : List ℕ} {p c q at : ℕ} (can : CanTry fi
         let o = can .can .ends-of in
         record {
           ends-of = o;
-          part = known-to e (written-known o (is-one (trees (can .can) .before-at) o one .only-at .consequent-at));
-          command = command-known o (trees (can .can) .command-at);
+          part = known-to e (node-known o (is-one (trees (can .can) .before-at) o one .only-at .consequent-at));
+          command = node-known o (trees (can .can) .command-at);
         }
 
     module _ (alone : countAt file q ≡ 1) where
@@ -71,8 +71,8 @@ module _ {Γ : Context} {file ends : List ℕ} {p c q at : ℕ} (can : CanTry fi
       can-same =
           let o = can .can .ends-of in
           record {
-            first = written-known o (is-one (trees (can .can) .before-at) o one .only-at .consequent-at);
-            second = written-known o (is-one (trees (can .can) .after-at) o alone .only-at .consequent-at);
+            first = node-known o (is-one (trees (can .can) .before-at) o one .only-at .consequent-at);
+            second = node-known o (is-one (trees (can .can) .after-at) o alone .only-at .consequent-at);
           }
 
       module _ {a : Bool} (u : SameAt file ends (endAt ends (p + 1)) (endAt ends (q + 1)) a) where

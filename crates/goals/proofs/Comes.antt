@@ -27,7 +27,7 @@ use Rattle.implication.specs.declared.Condition.{Condition}
 use Rattle.implication.specs.declared.Condition.the-variants.{Passes, Fails}
 use Rattle.goals.specs.declared.Goal.{Goal}
 use Rattle.goals.specs.declared.Goal.the-variants.{Flow, Set, Pre}
-use Rattle.goals.specs.Places.{WrittenAt, CommandAt, SetAt}
+use Rattle.ends.specs.Places.{WrittenAt, CommandAt, SetAt}
 use Rattle.goals.specs.Children.{childrenAt, pastCarried}
 use Rattle.goals.specs.Conditions.{conditionOf}
 use Rattle.goals.specs.Goals.{TreeGoal, verdict, GoalStands, flow-stands, set-stands, pre-stands, ChildrenOf, ComesTo}

@@ -8,21 +8,21 @@ use mathlib.Core.Path.{_≡_, sym, ap, subst, _∙_}
 use mathlib.Core.List.{List}
 use mathlib.Core.Option.{some}
 use Prim.Native.Nat.{ℕ, suc, _+_, _≤_}
-use native.Mathlib.Omega.{arith}
 use lib.IntN.{pos}
+use Rattle.rules.specs.Words.{word}
 use Rattle.rules.specs.Context.{Context}
 use Rattle.rules.specs.Evidence.{Judgement, Item, Rule, Row, row, rules, by, assertion, command, members, child, done, _&_}
 use Rattle.rules.specs.Evidence.{Evidence, Parts}
 use Rattle.layout.specs.Bytes.{payloadAt}
 use Rattle.layout.specs.ReadEvidence.{evidenceKind, ruleOf}
 use Rattle.layout.specs.EvidenceWords.{spelledTree, FitsTree}
-use Rattle.layout.proofs.Words.{payload-of-word}
+use Rattle.layout.specs.Nodes.{expressionNode, commandNode, setNode}
+use Rattle.layout.proofs.Nodes.{content-at}
 use Rattle.layout.proofs.SpelledEvidence.{TreeAt, parted-trees}
-use Rattle.layout.proofs.BackEvidence.{rule-row}
+use Rattle.layout.proofs.BackEvidence.{rule-row, rule-range}
 use Rattle.ends.specs.Ends.{EndsOf}
-use Rattle.compare.specs.Places.{endAt}
-use Rattle.goals.specs.Places.{WrittenAt, CommandAt, SetAt}
-use Rattle.goals.proofs.Places.{expression-past, command-past, set-past, written, commanded, member-set}
+use Rattle.ends.specs.Places.{endAt, WrittenAt, CommandAt, SetAt}
+use Rattle.ends.proofs.Places.{node-then}
 
 module _ (Γ : Context) (file ends : List ℕ) where
   -- with d levels left, from a place up to another
@@ -38,20 +38,14 @@ module _ (Γ : Context) (file ends : List ℕ) where
   unfolding spelledTree FitsTree
   placed o d l done at end s = s .stand
   placed o d l (assertion φ & t) at end s =
-      let x = parted-trees Γ file (assertion φ) t d at end s in (
-        written o φ d at (x .0) l (x .1),
-        subst (λ q. Placed d t q end) (expression-past o φ d at (x .0) (x .1)) (placed o d l t (x .0) end (x .2)),
-      )
+      let x = parted-trees Γ file (assertion φ) t d at end s in
+      node-then o (expressionNode φ) d l (λ q. Placed d t q end) (x .1) (placed o d l t (x .0) end (x .2))
   placed o d l (command c & t) at end s =
-      let x = parted-trees Γ file (command c) t d at end s in (
-        commanded o c d at (x .0) l (x .1),
-        subst (λ q. Placed d t q end) (command-past o c d at (x .0) (x .1)) (placed o d l t (x .0) end (x .2)),
-      )
+      let x = parted-trees Γ file (command c) t d at end s in
+      node-then o (commandNode c) d l (λ q. Placed d t q end) (x .1) (placed o d l t (x .0) end (x .2))
   placed o d l (members p & t) at end s =
-      let x = parted-trees Γ file (members p) t d at end s in (
-        member-set o Γ p d at (x .0) l (x .1),
-        subst (λ q. Placed d t q end) (set-past o Γ p d at (x .0) (x .1)) (placed o d l t (x .0) end (x .2)),
-      )
+      let x = parted-trees Γ file (members p) t d at end s in
+      node-then o (setNode Γ p) d l (λ q. Placed d t q end) (x .1) (placed o d l t (x .0) end (x .2))
   placed o d l (child k & t) at end s =
       let x = parted-trees Γ file (child k) t d at end s in
       (x .0, x .1, placed o d l t (x .0) end (x .2))
@@ -59,9 +53,7 @@ module _ (Γ : Context) (file ends : List ℕ) where
   pub payload-is : {j : Judgement} {n : ℕ} {l : List Item} (r : Rule j n l) (i : ℕ) (t : Parts l) (d at end : ℕ) →
       TreeAt Γ file d at (by r i t) end → payloadAt file at ≡ n
   unfolding spelledTree
-  payload-is {j} {n} r i t d at end s =
-      let low = rule-row r .1 in
-      payload-of-word file at (evidenceKind j) (pos n) (s .stand .1) (omega arith)
+  payload-is {j} {n} r i t d at end s = content-at file at (word (evidenceKind j) (pos n)) (s .stand .1) (rule-range r)
 
   -- evidence of a row, with its parts after its word
   pub record OfRow {j : Judgement} (ρ : Row j) (e : Evidence j) (d at end : ℕ) : Type 0 where

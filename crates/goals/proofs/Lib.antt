@@ -1,9 +1,7 @@
 -- Laws of goals and of rules at their evidence words.
---     Places      what stands at a place, by its end in the list of ends
 --     Evidence    the evidence of a goal by its rule
 --     Children    the row of its rule, and as many goals for children
 --     Comes       what a rule comes to, from the trees at its places
-pub mod Places
 pub mod Evidence
 pub mod Comes
 pub mod Children

@@ -12,7 +12,7 @@ use lib.Dec.{eqb}
 use lib.ListN.{getD}
 use Rattle.rules.specs.Evidence.{Judgement, flow, implication, precondition}
 use Rattle.rules.specs.Evidence.{Item, assertionItem, commandItem, membersItem, childItem}
-use Rattle.compare.specs.Places.{endAt}
+use Rattle.ends.specs.Places.{endAt}
 use Rattle.goals.specs.declared.Goal.{Goal}
 use Rattle.goals.specs.declared.Goal.the-variants.{Flow, Set, Pre}
 

@@ -27,7 +27,7 @@ use Rattle.goals.specs.declared.Goal.{Goal}
 use Rattle.goals.specs.declared.Goal.the-variants.{Flow, Set, Pre}
 use Rattle.goals.specs.declared.Judged.{Judged}
 use Rattle.goals.specs.declared.Judged.the-variants.{Accepted, Refused}
-use Rattle.goals.specs.Places.{WrittenAt, CommandAt, SetAt}
+use Rattle.ends.specs.Places.{WrittenAt, CommandAt, SetAt}
 use Rattle.goals.specs.Children.{childrenAt, pastCarried}
 
 pub data TreeGoal : Type 0 where

@@ -1,9 +1,7 @@
 -- Goals by places and as trees.
---     Places      what stands at a place, up to its end in the list of ends
 --     Children    the goals of a rule's children
 --     Conditions  the result of a condition that is a test
 --     Goals       which trees a goal stands for; the contract of every rule; evidence judged
-pub mod Places
 pub mod Children
 pub mod Goals
 pub mod Conditions

@@ -1,12 +1,11 @@
--- The first word of what stands at a place, decoded.
+-- The first word of an expression or a command, decoded.
 -- Assumes nothing.
 --     arithmeticHead, booleanHead, arrayHead, commandHead    the first word of a tree
---     arithmetic-decoded, boolean-decoded, array-head-decoded, command-decoded
---                                                            is what stands there
-use mathlib.Core.Path.{_≡_, refl, ap, ap₂, _∙_}
+--     arithmetic-decoded, boolean-decoded, array-decoded, command-decoded
+--                                                            is what its kind and payload say
+use mathlib.Core.Path.{_≡_, refl, ap, ap₂}
 use mathlib.Core.Bool.{Bool, true, false}
-use mathlib.Core.List.{List, _∷_}
-use Prim.Native.Nat.{ℕ, zero, suc, _+_, _*_, _/_, _%_, _≤_}
+use Prim.Native.Nat.{ℕ, _+_, _*_, _/_, _%_, _≤_}
 use native.Mathlib.Omega.{arith}
 use borrow.Author.Tests.{le-leb}
 use Rattle.language.specs.Syntax as syntax
@@ -14,15 +13,9 @@ use Rattle.language.specs.Syntax.{plus, minus, times, equal, less, atMost}
 use Rattle.language.specs.Syntax.{Expr, constant, scalar, operation, select, compare, truth, and, or, neg}
 use Rattle.language.specs.Syntax.{array, zeros, update, toScalar, toArray}
 use Rattle.language.specs.Syntax.{skip, sequence, assert, assign, ifElse, while, for}
-use Rattle.rules.specs.Words as spelled
-use Rattle.rules.specs.Words.{words, commandWords, operatorPayload, comparisonPayload, truthPayload}
-use Rattle.layout.specs.Bytes.{kindAt, payloadAt}
-use Rattle.layout.specs.Spelling.{payloadOf, FitsExpression, FitsCommand}
-use Rattle.layout.specs.EvidenceWords.{expressionPart, commandPart}
-use Rattle.layout.specs.Standing.{Stands, PartStands}
-use Rattle.layout.proofs.Words.{signed-payload}
-use Rattle.layout.proofs.Small.{Small, kind-at, content-at, expression-small, command-small}
-use Rattle.layout.proofs.Small as small
+use Rattle.rules.specs.Words.{operatorPayload, comparisonPayload, truthPayload}
+use Rattle.layout.specs.Spelling.{payloadOf}
+use Rattle.layout.specs.Nodes.{expressionNode, commandNode, headOf, kindOf, contentOf, InRange}
 use Rattle.words.specs.Decode.{arithmeticOf, booleanOf, arrayOf, commandOf}
 use Rattle.words.specs.declared.Operator.{Operator}
 use Rattle.words.specs.declared.Operator.the-variants.{Plus, Minus, Times}
@@ -37,7 +30,6 @@ use Rattle.words.specs.declared.ArrayWord.the-variants.{Identifier, Zeros, Upda
 use Rattle.words.specs.declared.CommandWord.{CommandWord}
 use Rattle.words.specs.declared.CommandWord.the-variants.{Skip, Sequence, Assert, AssignScalar, AssignArray, If, While}
 use Rattle.words.specs.declared.CommandWord.the-variants.{For}
-use Rattle.heads.specs.Stands.{arithmeticAt, booleanAt, arrayAt, commandAt}
 
 abbrev pub operatorHead : syntax.Operator → Operator
 operatorHead plus = Plus
@@ -102,80 +94,40 @@ for-low q m h = omega arith
 for-high : (q m : ℕ) → q ≤ 31 → (q + 32 * m) / 32 ≡ m
 for-high q m h = omega arith
 
-for-decoded : (q m : ℕ) → q ≤ 31 → m ≤ 31 → commandOf 31 (q + 32 * m) ≡ For q m
-unfolding commandOf
-for-decoded q m h k =
-    rw (le-leb (q + 32 * m) 1023 (omega arith))
-    (ap₂ For (for-low q m h) (for-high q m h))
-
-scalar-decoded : (x : ℕ) → x ≤ 31 → arithmeticOf 2 x ≡ Scalar x
+-- the first word of a node that is in range, decoded
+pub arithmetic-decoded : (e : Expr syntax.Arithmetic) → InRange (headOf (expressionNode e)) →
+    arithmeticOf (kindOf (headOf (expressionNode e))) (contentOf (headOf (expressionNode e))) ≡ arithmeticHead e
 unfolding arithmeticOf
-scalar-decoded x h = rw (le-leb x 31 h)
+arithmetic-decoded (constant z) h = ap Constant (h .1)
+arithmetic-decoded (scalar x) h = rw (le-leb x 31 (omega (arith, h .0)))
+arithmetic-decoded (operation o a b) h = operator-decoded o
+arithmetic-decoded (select a i) h = refl
 
-array-decoded : (a : ℕ) → a ≤ 31 → arrayOf 16 a ≡ Identifier a
+pub boolean-decoded : (e : Expr syntax.Boolean) →
+    booleanOf (kindOf (headOf (expressionNode e))) (contentOf (headOf (expressionNode e))) ≡ booleanHead e
+unfolding booleanOf
+boolean-decoded (compare r a b) = comparison-decoded r
+boolean-decoded (truth t) = truth-decoded t
+boolean-decoded (and b c) = refl
+boolean-decoded (or b c) = refl
+boolean-decoded (neg b) = refl
+
+pub array-decoded : (e : Expr syntax.Array) → InRange (headOf (expressionNode e)) →
+    arrayOf (kindOf (headOf (expressionNode e))) (contentOf (headOf (expressionNode e))) ≡ arrayHead e
 unfolding arrayOf
-array-decoded a h = rw (le-leb a 31 h)
+array-decoded (array a) h = rw (le-leb a 31 (omega (arith, h .0)))
+array-decoded zeros h = refl
+array-decoded (update a i b) h = refl
 
-to-scalar-decoded : (x : ℕ) → x ≤ 31 → commandOf 27 x ≡ AssignScalar x
+pub command-decoded : (c : syntax.Command) → InRange (headOf (commandNode c)) →
+    commandOf (kindOf (headOf (commandNode c))) (contentOf (headOf (commandNode c))) ≡ commandHead c
 unfolding commandOf
-to-scalar-decoded x h = rw (le-leb x 31 h)
-
-to-array-decoded : (a : ℕ) → a ≤ 31 → commandOf 28 a ≡ AssignArray a
-unfolding commandOf
-to-array-decoded a h = rw (le-leb a 31 h)
-
-module _ {file : List ℕ} where
-  -- by the word that is spelled
-  by-word : {A : Type 0} (of : ℕ → ℕ → A) {w : spelled.Word} {l : List spelled.Word} {F : Type 0} {at p : ℕ} →
-      Stands file (w ∷ l) F at p → Small w →
-      of (kindAt file at) (payloadAt file at) ≡ of (small.kindOf w) (small.contentOf w)
-  by-word of {w} {at = at} s h = ap₂ of (kind-at file at w (s .stand .1) h) (content-at file at w (s .stand .1) h)
-
-  pub arithmetic-decoded : (d : ℕ) (e : Expr syntax.Arithmetic) (at p : ℕ) → PartStands file (expressionPart e) d at p →
-      arithmeticAt file at ≡ arithmeticHead e
-  unfolding words FitsExpression arithmeticOf
-  arithmetic-decoded zero e at p s = absurd (s .fit)
-  arithmetic-decoded (suc d) (constant z) at p s =
-      by-word arithmeticOf s (expression-small (suc d) (constant z) (s .fit) .0)
-      ∙ ap Constant (signed-payload z (s .fit))
-  arithmetic-decoded (suc d) (scalar x) at p s =
-      by-word arithmeticOf s (expression-small (suc d) (scalar x) (s .fit) .0) ∙ scalar-decoded x (s .fit)
-  arithmetic-decoded (suc d) (operation o a b) at p s =
-      by-word arithmeticOf s (expression-small (suc d) (operation o a b) (s .fit) .0) ∙ operator-decoded o
-  arithmetic-decoded (suc d) (select h i) at p s = by-word arithmeticOf s (omega arith)
-
-  pub boolean-decoded : (d : ℕ) (e : Expr syntax.Boolean) (at p : ℕ) → PartStands file (expressionPart e) d at p →
-      booleanAt file at ≡ booleanHead e
-  unfolding words FitsExpression booleanOf
-  boolean-decoded zero e at p s = absurd (s .fit)
-  boolean-decoded (suc d) (compare r a b) at p s =
-      by-word booleanOf s (expression-small (suc d) (compare r a b) (s .fit) .0) ∙ comparison-decoded r
-  boolean-decoded (suc d) (truth t) at p s =
-      by-word booleanOf s (expression-small (suc d) (truth t) (s .fit) .0) ∙ truth-decoded t
-  boolean-decoded (suc d) (and b c) at p s = by-word booleanOf s (omega arith)
-  boolean-decoded (suc d) (or b c) at p s = by-word booleanOf s (omega arith)
-  boolean-decoded (suc d) (neg b) at p s = by-word booleanOf s (omega arith)
-
-  pub array-head-decoded : (d : ℕ) (e : Expr syntax.Array) (at p : ℕ) → PartStands file (expressionPart e) d at p →
-      arrayAt file at ≡ arrayHead e
-  unfolding words FitsExpression arrayOf
-  array-head-decoded zero e at p s = absurd (s .fit)
-  array-head-decoded (suc d) (array a) at p s =
-      by-word arrayOf s (expression-small (suc d) (array a) (s .fit) .0) ∙ array-decoded a (s .fit)
-  array-head-decoded (suc d) zeros at p s = by-word arrayOf s (omega arith)
-  array-head-decoded (suc d) (update h i a) at p s = by-word arrayOf s (omega arith)
-
-  pub command-decoded : (d : ℕ) (c : syntax.Command) (at p : ℕ) → PartStands file (commandPart c) d at p →
-      commandAt file at ≡ commandHead c
-  unfolding commandWords FitsCommand commandOf
-  command-decoded zero c at p s = absurd (s .fit)
-  command-decoded (suc d) skip at p s = by-word commandOf s (omega arith)
-  command-decoded (suc d) (sequence a b) at p s = by-word commandOf s (omega arith)
-  command-decoded (suc d) (assert b) at p s = by-word commandOf s (omega arith)
-  command-decoded (suc d) (assign (toScalar x e)) at p s =
-      by-word commandOf s (command-small (suc d) (assign (toScalar x e)) (s .fit) .0) ∙ to-scalar-decoded x (s .fit .0)
-  command-decoded (suc d) (assign (toArray a e)) at p s =
-      by-word commandOf s (command-small (suc d) (assign (toArray a e)) (s .fit) .0) ∙ to-array-decoded a (s .fit .0)
-  command-decoded (suc d) (ifElse b c₁ c₂) at p s = by-word commandOf s (omega arith)
-  command-decoded (suc d) (while b c) at p s = by-word commandOf s (omega arith)
-  command-decoded (suc d) (for q m c) at p s = by-word commandOf s (s .fit .0) ∙ for-decoded q m (s .fit .0 .0) (s .fit .0 .1)
+command-decoded skip h = refl
+command-decoded (sequence a b) h = refl
+command-decoded (assert b) h = refl
+command-decoded (assign (toScalar x e)) h = rw (le-leb x 31 (omega (arith, h .0)))
+command-decoded (assign (toArray a e)) h = rw (le-leb a 31 (omega (arith, h .0)))
+command-decoded (ifElse b c₁ c₂) h = refl
+command-decoded (while b c) h = refl
+command-decoded (for q m c) h =
+    rw (le-leb (q + 32 * m) 1023 (omega (arith, h .0, h .1))) (ap₂ For (for-low q m (h .0)) (for-high q m (h .0)))

@@ -1,15 +1,15 @@
 -- The parts of what stands at a place, by its first word.
 -- Assumes nothing.
---     Inside, expression-inside, command-inside                      it has a word, and ends within the file
+--     expression-inside, command-inside                              it has a word, and ends within the file
 --     One, Two, Three                                                so many parts, one after the other
 --     ArithmeticParts, BooleanParts, ArrayParts, CommandParts        the parts by the first word
 --     arithmetic-parts, boolean-parts, array-parts, command-parts    are what stands there
 --     expression-starts, command-starts                              as callers have them: there is a word
 --     boolean-settled, command-settled                               a word that is allowed is settled by its kind
-use mathlib.Core.Path.{_≡_, refl, sym, ap, subst, _∙_}
+use mathlib.Core.Path.{_≡_, refl, sym, ap, ap₂, subst, _∙_}
 use mathlib.Core.Bool.{Bool, true, false, cond}
-use mathlib.Core.List.{List, _∷_, _++_}
-use Prim.Native.Nat.{ℕ, zero, suc, _+_, _<_, _≤_}
+use mathlib.Core.List.{List, [], _∷_}
+use Prim.Native.Nat.{ℕ, _+_, _<_, _≤_}
 use native.Mathlib.Omega.{arith}
 use lib.ListN.{length}
 use Rattle.language.specs.Syntax as syntax
@@ -17,15 +17,12 @@ use Rattle.language.specs.Syntax.{plus, minus, times, equal, less, atMost}
 use Rattle.language.specs.Syntax.{Sort, Expr, constant, scalar, operation, select, compare, truth, and, or, neg}
 use Rattle.language.specs.Syntax.{array, zeros, update, toScalar, toArray}
 use Rattle.language.specs.Syntax.{skip, sequence, assert, assign, ifElse, while, for}
-use Rattle.rules.specs.Words as spelled
-use Rattle.rules.specs.Words.{words, commandWords}
 use Rattle.layout.specs.Bytes.{kindAt, payloadAt}
-use Rattle.layout.specs.Spelling.{FitsExpression, FitsCommand}
 use Rattle.layout.specs.EvidenceWords.{Part, expressionPart, commandPart}
-use Rattle.layout.specs.Standing.{Stands, PartStands}
-use Rattle.layout.proofs.Stands.{stands-end, stands-inside, parted}
-use Rattle.ends.proofs.Ends.{rest, less-fit}
-use Rattle.words.specs.Decode.{booleanOf, commandOf}
+use Rattle.layout.specs.Nodes.{Node, expressionNode, commandNode, headOf, kindOf, contentOf}
+use Rattle.layout.specs.Standing.{Chain}
+use Rattle.layout.proofs.Nodes.{Inside, Opened, with-levels, one-part, node-inside}
+use Rattle.words.specs.Decode.{arithmeticOf, booleanOf, arrayOf, commandOf}
 use Rattle.words.specs.Meaning.{operatorMeant, comparisonMeant}
 use Rattle.words.specs.declared.ArithmeticWord.{ArithmeticWord}
 use Rattle.words.specs.declared.ArithmeticWord.the-variants as arithmetic
@@ -43,11 +40,7 @@ use Rattle.words.specs.declared.CommandWord.the-variants.{For}
 use Rattle.heads.specs.Stands.{arithmeticAt, booleanAt, arrayAt, commandAt, PartAt, ExpressionStands, CommandStands}
 use Rattle.heads.proofs.Decoded.{operatorHead, comparisonHead, arithmeticHead, booleanHead, arrayHead}
 use Rattle.heads.proofs.Decoded.{commandHead}
-use Rattle.heads.proofs.Decoded.{arithmetic-decoded, boolean-decoded, array-head-decoded, command-decoded}
-
-pub record Inside (file : List ℕ) (at p : ℕ) : Type 0 where
-  pub start : at < p
-  pub within : p ≤ length file
+use Rattle.heads.proofs.Decoded.{arithmetic-decoded, boolean-decoded, array-decoded, command-decoded}
 
 abbrev pub arithmeticPart : Expr syntax.Arithmetic → Part
 arithmeticPart e = expressionPart e
@@ -129,160 +122,104 @@ comparison-meant less = refl
 comparison-meant atMost = refl
 
 module _ {file : List ℕ} where
-  inside : {w : spelled.Word} {l : List spelled.Word} {F : Type 0} {at p : ℕ} → Stands file (w ∷ l) F at p →
-      Inside file at p
-  inside {w} {l} {at = at} {p} s =
-      let h = s .stand .0 in
-      let e = stands-end file (at + 1) l p (s .stand .2) in
-      record { start = omega arith; within = stands-inside file (at + 1) l p (s .stand .2) (omega arith) }
-
   pub expression-inside : {k : Sort} (e : Expr k) {at p : ℕ} → PartAt file (expressionPart e) at p → Inside file at p
-  unfolding words
-  expression-inside (constant z) s = inside (s .stands)
-  expression-inside (scalar x) s = inside (s .stands)
-  expression-inside (operation o a b) s = inside (s .stands)
-  expression-inside (select h i) s = inside (s .stands)
-  expression-inside (compare r a b) s = inside (s .stands)
-  expression-inside (truth t) s = inside (s .stands)
-  expression-inside (and b c) s = inside (s .stands)
-  expression-inside (or b c) s = inside (s .stands)
-  expression-inside (neg b) s = inside (s .stands)
-  expression-inside (array a) s = inside (s .stands)
-  expression-inside zeros s = inside (s .stands)
-  expression-inside (update h i a) s = inside (s .stands)
+  expression-inside e s = node-inside (expressionNode e) (s .stands)
 
   pub command-inside : (c : syntax.Command) {at p : ℕ} → PartAt file (commandPart c) at p → Inside file at p
-  unfolding commandWords
-  command-inside skip s = inside (s .stands)
-  command-inside (sequence c d) s = inside (s .stands)
-  command-inside (assert b) s = inside (s .stands)
-  command-inside (assign (toScalar x e)) s = inside (s .stands)
-  command-inside (assign (toArray a e)) s = inside (s .stands)
-  command-inside (ifElse b c d) s = inside (s .stands)
-  command-inside (while b c) s = inside (s .stands)
-  command-inside (for q m c) s = inside (s .stands)
+  command-inside c s = node-inside (commandNode c) (s .stands)
 
-  -- with d levels left
-  at-level : (x : Part) (d : ℕ) {at p : ℕ} → PartStands file x d at p → PartAt file x at p
-  at-level x d s = record { levels = d; stands = s }
+  -- so many parts, with d levels left
+  one : {A X : Type 0} {f : X → Part} {make : X → A} {e : A} (d : ℕ) (a : X) {at p : ℕ} → e ≡ make a →
+      Chain file (f a ∷ []) d at p → One file f make e at p
+  one d a h c = record { first = a; is = h; first-at = record { levels = d; stands = one-part c } }
 
-  two : {A X Y : Type 0} (f : X → Part) (g : Y → Part) (make : X → Y → A) (e : A) (a : X) (b : Y) (d : ℕ) {at q p : ℕ} →
-      e ≡ make a b → PartStands file (f a) d at q → PartStands file (g b) d q p → Two file f g make e at p
-  two f g make e a b d {at} {q} h s t = record {
-    first = a;
-    second = b;
-    middle = q;
-    is = h;
-    first-at = at-level (f a) d s;
-    second-at = at-level (g b) d t;
-  }
+  two : {A X Y : Type 0} {f : X → Part} {g : Y → Part} {make : X → Y → A} {e : A} (d : ℕ) (a : X) (b : Y) {at p : ℕ} →
+      e ≡ make a b → Chain file (f a ∷ g b ∷ []) d at p → Two file f g make e at p
+  two d a b h c =
+      record {
+        first = a;
+        second = b;
+        middle = c .0;
+        is = h;
+        first-at = record { levels = d; stands = c .1 };
+        second-at = record { levels = d; stands = one-part (c .2) };
+      }
 
-  arithmetic-own : (d : ℕ) (e : Expr syntax.Arithmetic) (at p : ℕ) → PartStands file (expressionPart e) d at p →
+  three : {A X Y Z : Type 0} {f : X → Part} {g : Y → Part} {h : Z → Part} {make : X → Y → Z → A} {e : A} (d : ℕ) (a : X)
+      (b : Y) (i : Z) {at p : ℕ} → e ≡ make a b i → Chain file (f a ∷ g b ∷ h i ∷ []) d at p → Three file f g h make e at p
+  three d a b i k c =
+      record {
+        first = a;
+        second = b;
+        third = i;
+        middle = c .0;
+        last = c .2 .0;
+        is = k;
+        first-at = record { levels = d; stands = c .1 };
+        second-at = record { levels = d; stands = c .2 .1 };
+        third-at = record { levels = d; stands = one-part (c .2 .2) };
+      }
+
+  arithmetic-own : (d : ℕ) (e : Expr syntax.Arithmetic) {at p : ℕ} → Opened file (expressionNode e) d at p →
       ArithmeticParts file (arithmeticHead e) e at p
-  unfolding words FitsExpression
-  arithmetic-own zero e at p s = absurd (s .fit)
-  arithmetic-own (suc d) (constant z) at p s = refl
-  arithmetic-own (suc d) (scalar x) at p s = (refl, s .fit)
-  arithmetic-own (suc d) (operation o a b) at p s =
-      parted (words a) (words b) (rest s) λ q x y.
-      two _ _ (operation (operatorMeant (operatorHead o))) (operation o a b) a b d
-      (ap (λ i. operation i a b) (sym (operator-meant o))) x y
-  arithmetic-own (suc d) (select h i) at p s =
-      parted (words h) (words i) (rest s) λ q x y. two _ _ select (select h i) h i d refl x y
+  arithmetic-own d (constant z) o = refl
+  arithmetic-own d (scalar x) o = (refl, omega (arith, o .in-range .0))
+  arithmetic-own d (operation i a b) o = two d a b (ap (λ j. operation j a b) (sym (operator-meant i))) (o .parts-at)
+  arithmetic-own d (select h i) o = two d h i refl (o .parts-at)
 
-  boolean-own : (d : ℕ) (e : Expr syntax.Boolean) (at p : ℕ) → PartStands file (expressionPart e) d at p →
+  boolean-own : (d : ℕ) (e : Expr syntax.Boolean) {at p : ℕ} → Opened file (expressionNode e) d at p →
       BooleanParts file (booleanHead e) e at p
-  unfolding words FitsExpression
-  boolean-own zero e at p s = absurd (s .fit)
-  boolean-own (suc d) (compare r a b) at p s =
-      parted (words a) (words b) (rest s) λ q x y.
-      two _ _ (compare (comparisonMeant (comparisonHead r))) (compare r a b) a b d
-      (ap (λ i. compare i a b) (sym (comparison-meant r))) x y
-  boolean-own (suc d) (truth t) at p s = refl
-  boolean-own (suc d) (and b c) at p s =
-      parted (words b) (words c) (rest s) λ q x y. two _ _ and (and b c) b c d refl x y
-  boolean-own (suc d) (or b c) at p s =
-      parted (words b) (words c) (rest s) λ q x y. two _ _ or (or b c) b c d refl x y
-  boolean-own (suc d) (neg b) at p s = record { first = b; is = refl; first-at = at-level _ d (rest s) }
+  boolean-own d (compare r a b) o = two d a b (ap (λ j. compare j a b) (sym (comparison-meant r))) (o .parts-at)
+  boolean-own d (truth t) o = refl
+  boolean-own d (and b c) o = two d b c refl (o .parts-at)
+  boolean-own d (or b c) o = two d b c refl (o .parts-at)
+  boolean-own d (neg b) o = one d b refl (o .parts-at)
 
-  array-own : (d : ℕ) (e : Expr syntax.Array) (at p : ℕ) → PartStands file (expressionPart e) d at p →
+  array-own : (d : ℕ) (e : Expr syntax.Array) {at p : ℕ} → Opened file (expressionNode e) d at p →
       ArrayParts file (arrayHead e) e at p
-  unfolding words FitsExpression
-  array-own zero e at p s = absurd (s .fit)
-  array-own (suc d) (array a) at p s = (refl, s .fit)
-  array-own (suc d) zeros at p s = refl
-  array-own (suc d) (update h i a) at p s =
-      parted (words h) (words i ++ words a) (rest s) λ q x t.
-      parted (words i) (words a) t λ r y z. record {
-        first = h;
-        second = i;
-        third = a;
-        middle = q;
-        last = r;
-        is = refl;
-        first-at = at-level _ d x;
-        second-at = at-level _ d y;
-        third-at = at-level _ d z;
-      }
+  array-own d (array a) o = (refl, omega (arith, o .in-range .0))
+  array-own d zeros o = refl
+  array-own d (update h i a) o = three d h i a refl (o .parts-at)
 
-  command-own : (d : ℕ) (c : syntax.Command) (at p : ℕ) → PartStands file (commandPart c) d at p →
+  command-own : (d : ℕ) (c : syntax.Command) {at p : ℕ} → Opened file (commandNode c) d at p →
       CommandParts file (commandHead c) c at p
-  unfolding commandWords FitsCommand
-  command-own zero c at p s = absurd (s .fit)
-  command-own (suc d) skip at p s = refl
-  command-own (suc d) (sequence a b) at p s =
-      parted (commandWords a) (commandWords b) (rest s) λ q x y. two _ _ sequence (sequence a b) a b d refl x y
-  command-own (suc d) (assert b) at p s = record { first = b; is = refl; first-at = at-level _ d (rest s) }
-  command-own (suc d) (assign (toScalar x e)) at p s =
-      (record { first = e; is = refl; first-at = at-level _ d (less-fit (rest s)) }, s .fit .0)
-  command-own (suc d) (assign (toArray a e)) at p s =
-      (record { first = e; is = refl; first-at = at-level _ d (less-fit (rest s)) }, s .fit .0)
-  command-own (suc d) (ifElse b c₁ c₂) at p s =
-      parted (words b) (commandWords c₁ ++ commandWords c₂) (rest s) λ q x t.
-      parted (commandWords c₁) (commandWords c₂) t λ r y z. record {
-        first = b;
-        second = c₁;
-        third = c₂;
-        middle = q;
-        last = r;
-        is = refl;
-        first-at = at-level _ d x;
-        second-at = at-level _ d y;
-        third-at = at-level _ d z;
-      }
-  command-own (suc d) (while b c) at p s =
-      parted (words b) (commandWords c) (rest s) λ q x y. two _ _ while (while b c) b c d refl x y
-  command-own (suc d) (for q m c) at p s =
-      (record { first = c; is = refl; first-at = at-level _ d (less-fit (rest s)) }, s .fit .0)
+  command-own d skip o = refl
+  command-own d (sequence a b) o = two d a b refl (o .parts-at)
+  command-own d (assert b) o = one d b refl (o .parts-at)
+  command-own d (assign (toScalar x e)) o = (one d e refl (o .parts-at), omega (arith, o .in-range .0))
+  command-own d (assign (toArray a e)) o = (one d e refl (o .parts-at), omega (arith, o .in-range .0))
+  command-own d (ifElse b c₁ c₂) o = three d b c₁ c₂ refl (o .parts-at)
+  command-own d (while b c) o = two d b c refl (o .parts-at)
+  command-own d (for q m c) o = (one d c refl (o .parts-at), o .in-range)
 
-  -- by the word that stands there
+  -- by the word that stands there: w is the node's own
+  by-word : {W : Type 0} (of : ℕ → ℕ → W) {x : Node} {d at p : ℕ} {w h : W} (P : W → Type 0) → Opened file x d at p →
+      of (kindOf (headOf x)) (contentOf (headOf x)) ≡ w → of (kindAt file at) (payloadAt file at) ≡ h → P w → P h
+  by-word of P o e eq y = subst P (sym e ∙ sym (ap₂ of (o .kind) (o .content)) ∙ eq) y
+
   pub arithmetic-parts : (e : Expr syntax.Arithmetic) {at p : ℕ} {h : ArithmeticWord} →
       PartAt file (expressionPart e) at p → arithmeticAt file at ≡ h → ArithmeticParts file h e at p
-  arithmetic-parts e {at} {p} {h} s eq =
-      let k = arithmetic-decoded (s .levels) e at p (s .stands) in
-      let same : arithmeticHead e ≡ h = cc in
-      subst (λ i. ArithmeticParts file i e at p) same (arithmetic-own (s .levels) e at p (s .stands))
+  arithmetic-parts e {at} {p} s eq =
+      with-levels (expressionNode e) (s .levels) (s .stands) λ n l o.
+      by-word arithmeticOf (λ h. ArithmeticParts file h e at p) o (arithmetic-decoded e (o .in-range)) eq (arithmetic-own n e o)
 
   pub boolean-parts : (e : Expr syntax.Boolean) {at p : ℕ} {h : BooleanWord} →
       PartAt file (expressionPart e) at p → booleanAt file at ≡ h → BooleanParts file h e at p
-  boolean-parts e {at} {p} {h} s eq =
-      let k = boolean-decoded (s .levels) e at p (s .stands) in
-      let same : booleanHead e ≡ h = cc in
-      subst (λ i. BooleanParts file i e at p) same (boolean-own (s .levels) e at p (s .stands))
+  boolean-parts e {at} {p} s eq =
+      with-levels (expressionNode e) (s .levels) (s .stands) λ n l o.
+      by-word booleanOf (λ h. BooleanParts file h e at p) o (boolean-decoded e) eq (boolean-own n e o)
 
   pub array-parts : (e : Expr syntax.Array) {at p : ℕ} {h : ArrayWord} →
       PartAt file (expressionPart e) at p → arrayAt file at ≡ h → ArrayParts file h e at p
-  array-parts e {at} {p} {h} s eq =
-      let k = array-head-decoded (s .levels) e at p (s .stands) in
-      let same : arrayHead e ≡ h = cc in
-      subst (λ i. ArrayParts file i e at p) same (array-own (s .levels) e at p (s .stands))
+  array-parts e {at} {p} s eq =
+      with-levels (expressionNode e) (s .levels) (s .stands) λ n l o.
+      by-word arrayOf (λ h. ArrayParts file h e at p) o (array-decoded e (o .in-range)) eq (array-own n e o)
 
   pub command-parts : (c : syntax.Command) {at p : ℕ} {h : CommandWord} →
       PartAt file (commandPart c) at p → commandAt file at ≡ h → CommandParts file h c at p
-  command-parts c {at} {p} {h} s eq =
-      let k = command-decoded (s .levels) c at p (s .stands) in
-      let same : commandHead c ≡ h = cc in
-      subst (λ i. CommandParts file i c at p) same (command-own (s .levels) c at p (s .stands))
+  command-parts c {at} {p} s eq =
+      with-levels (commandNode c) (s .levels) (s .stands) λ n l o.
+      by-word commandOf (λ h. CommandParts file h c at p) o (command-decoded c (o .in-range)) eq (command-own n c o)
 
 module _ {file : List ℕ} {at : ℕ} where
   pub expression-starts : {k : Sort} → ExpressionStands file k at → at < length file

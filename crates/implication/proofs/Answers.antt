@@ -18,8 +18,9 @@ use Rattle.rules.specs.Words.{Word, words}
 use Rattle.rules.specs.Implies.{comparisons, distinct}
 use Rattle.rules.specs.Condition.{test}
 use Rattle.layout.specs.EvidenceWords.{expressionPart}
-use Rattle.layout.specs.Standing.{StandsTo, PartStands}
-use Rattle.layout.proofs.Stands.{stands-end}
+use Rattle.layout.specs.Nodes.{expressionNode}
+use Rattle.layout.specs.Standing.{PartStands}
+use Rattle.layout.proofs.Nodes.{node-inside}
 use Rattle.table.specs.Formula.{spell, depth, Small, Spelled, IsFormula, Every}
 use Rattle.implication.specs.declared.Compiled.{Compiled}
 use Rattle.implication.specs.declared.Condition.{Condition}
@@ -30,26 +31,14 @@ use Rattle.implication.specs.Sides.{resultOf, SideStands, RangeFits, Sid
 use Rattle.implication.specs.Sides.{CanImply, Implied}
 use Rattle.implication.specs.Scanning.{Ranges}
 use Rattle.implication.specs.Compiling.{formula, Known, SideWritten, CanCompile, Fits, Compiles}
-use Rattle.implication.proofs.Encodings.{stands-within}
 use Rattle.implication.proofs.Numbers.{extends-self, extends-comparisons, grown, small, depth-formula}
 use Rattle.implication.proofs.Pairs.{spell-append}
 use Rattle.implication.proofs.Meaning.{implies, table-settled, few-enough, too-many}
 
 -- ---- the ranges of a side
-starts-inside : (w : List ℕ) (φ : Expr Boolean) (a p : ℕ) → StandsTo w a (words φ) p → a < length w
-unfolding words
-starts-inside w (compare r b c) a p s = s .0
-starts-inside w (truth t) a p s = s .0
-starts-inside w (and b c) a p s = s .0
-starts-inside w (or b c) a p s = s .0
-starts-inside w (neg b) a p s = s .0
-
 range-fits : (w : List ℕ) (φ : Expr Boolean) (d a p : ℕ) → PartStands w (expressionPart φ) d a p →
     RangeFits (length w) a p
-range-fits w φ d a p s =
-    let h = starts-inside w φ a p (s .stand) in
-    let e = stands-end w a (words φ) p (s .stand) in
-    (omega arith, stands-within w a (words φ) p (s .stand) (omega arith))
+range-fits w φ d a p s = let i = node-inside (expressionNode φ) s in (omega arith, i .within)
 
 side-fits : (w : List ℕ) (d : ℕ) (s : Side) (χ : Expr Boolean) → SideStands w d s χ → SideFits (length w) s
 side-fits w d (One a p) χ s = range-fits w χ d a p s

@@ -8,7 +8,6 @@
 --     Pairs        two booleans one after the other, and the boolean that a side is
 --     Meaning      the table decides the definition's condition
 --     Powers       powers of two
---     Levels       what fits at some depth fits at every greater one
 --     Answers      what the compiled sides and the table say of the implication
 pub mod WordBytes
 pub mod Spans
@@ -19,5 +18,4 @@ pub mod Walks
 pub mod Pairs
 pub mod Meaning
 pub mod Powers
-pub mod Levels
 pub mod Answers

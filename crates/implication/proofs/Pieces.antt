@@ -20,16 +20,19 @@ use Rattle.language.specs.Syntax.{Expr, constant, scalar, operation, select, co
 use Rattle.language.specs.Syntax.{array, zeros, update}
 use Rattle.rules.specs.Words.{Word, word, words, operatorPayload, comparisonPayload, truthPayload}
 use Rattle.rules.specs.Implies.{comparisons}
-use Rattle.layout.specs.Spelling.{encode, FitsConstant, FitsExpression}
+use Rattle.layout.specs.Bytes.{payloads}
+use Rattle.layout.specs.Spelling.{payloadOf, encode, FitsExpression}
+use Rattle.layout.specs.Nodes.{expressionNode}
 use Rattle.layout.specs.Standing.{StandsTo, Stands}
+use Rattle.layout.proofs.Words.{payload-small}
 use Rattle.layout.proofs.Stands.{stands-end, parted}
+use Rattle.layout.proofs.Nodes.{operator-range, comparison-range, node-range}
 use Rattle.table.specs.Formula.{fixedByte, spell}
 use Rattle.implication.specs.Scanning.{byteOf, byteAt, Skipped}
 use Rattle.implication.specs.Compiling.{Extends, formula, number, Compared}
 use Rattle.implication.proofs.WordBytes.{by-low, by-high, by-compare, by-false, by-true, by-other, byte-word}
 use Rattle.implication.proofs.Spans.{below, Bare, bare-none, bare-one, bare-join}
 use Rattle.implication.proofs.Numbers.{include, extends-self, extends-trans, extends-include, grown-include}
-use Rattle.implication.proofs.Encodings.{fits-operator, fits-comparison, expression-fits}
 
 pub data Piece : Type 0 where
   mark : ℕ → Piece
@@ -104,10 +107,10 @@ bare-stands w [] a b s h = bare-none (omega arith)
 bare-stands w (v ∷ l) a b s h =
     bare-join (a + 1) (bare-one a (ap byteOf (s .1) ∙ h .0)) (bare-stands w l (a + 1) b (s .2) (h .1))
 
-low-word : (k : ℕ) (z : ℤ) → k < 8 → FitsConstant z → byteOf (encode (word k z)) ≡ 21
+low-word : (k : ℕ) (z : ℤ) → k < 8 → payloadOf z < payloads → byteOf (encode (word k z)) ≡ 21
 low-word k z l h = byte-word k z h ∙ by-low k _ l
 
-high-word : (k : ℕ) (z : ℤ) → 12 < k → FitsConstant z → byteOf (encode (word k z)) ≡ 21
+high-word : (k : ℕ) (z : ℤ) → 12 < k → payloadOf z < payloads → byteOf (encode (word k z)) ≡ 21
 high-word k z l h = byte-word k z h ∙ by-high k _ l
 
 abbrev NotBoolean : Sort → Type 0
@@ -118,10 +121,10 @@ NotBoolean Array = Unit {0}
 bare-expression : {k : Sort} (e : Expr k) (d : ℕ) → NotBoolean k → FitsExpression e d → BareWords (words e)
 unfolding FitsExpression words BareWords
 bare-expression e zero n h = absurd h
-bare-expression (constant z) (suc d) n h = (low-word 1 z (omega arith) h, tt)
+bare-expression (constant z) (suc d) n h = (low-word 1 z (omega arith) (payload-small z h), tt)
 bare-expression (scalar x) (suc d) n h = (low-word 2 (pos x) (omega arith) (omega arith), tt)
 bare-expression (operation o a b) (suc d) n h = (
-  low-word 3 (operatorPayload o) (omega arith) (fits-operator o),
+  low-word 3 (operatorPayload o) (omega arith) (operator-range o .0),
   bare-append (words a) (words b) (bare-expression a d tt (h .0)) (bare-expression b d tt (h .1)),
 )
 bare-expression (select a b) (suc d) n h = (
@@ -182,8 +185,8 @@ module _ (w : List ℕ) (n : ℕ) where
       let e = stands-end w i (words (compare r a b)) j (s .stand) in
       let l : i < j = omega arith in
       scan-test j l
-      (ap byteOf (s .stand .1) ∙ byte-word 8 (comparisonPayload r) (fits-comparison r) ∙ by-compare 8 _ refl)
-      (record { stand = s .stand; fits = expression-fits (compare r a b) (suc d) (s .fit) })
+      (ap byteOf (s .stand .1) ∙ byte-word 8 (comparisonPayload r) (comparison-range r .0) ∙ by-compare 8 _ refl)
+      (record { stand = s .stand; fits = node-range (suc d) (expressionNode (compare r a b)) (s .fit) })
       (bare-stands w (words a ++ words b) (i + 1) j (s .stand .2)
       (bare-append (words a) (words b)
       (bare-expression a d tt (s .fit .0))

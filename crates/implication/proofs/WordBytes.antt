@@ -9,8 +9,9 @@ use native.Mathlib.Omega.{arith}
 use borrow.Author.Tests.{lt-ltb, le-ltb, ne-eqb}
 use lib.IntN.{ℤ}
 use Rattle.rules.specs.Words.{word}
-use Rattle.layout.specs.Spelling.{payloadOf, encode, FitsConstant}
-use Rattle.layout.proofs.Words.{quotient, remainder, payload-small}
+use Rattle.layout.specs.Bytes.{payloads}
+use Rattle.layout.specs.Spelling.{payloadOf, encode}
+use Rattle.layout.proofs.Words.{quotient, remainder}
 use Rattle.implication.specs.Scanning.{byteBy, byteOf}
 
 pub by-low : (k p : ℕ) → k < 8 → byteBy k p ≡ 21
@@ -38,9 +39,8 @@ unfolding byteBy
 by-other k p h l =
     rw (le-ltb k 8 (omega arith), le-ltb 12 k l, ne-eqb k 8 (λ e. omega arith), ne-eqb k 9 (λ e. omega arith))
 
-pub byte-word : (k : ℕ) (z : ℤ) → FitsConstant z → byteOf (encode (word k z)) ≡ byteBy k (payloadOf z)
-byte-word k z h =
-    let s = payload-small z h in
+pub byte-word : (k : ℕ) (z : ℤ) → payloadOf z < payloads → byteOf (encode (word k z)) ≡ byteBy k (payloadOf z)
+byte-word k z s =
     ap₂ (λ (i j : ℕ). byteBy i j)
     (quotient k (payloadOf z) (encode (word k z)) refl s)
     (remainder k (payloadOf z) (encode (word k z)) refl s)

@@ -4,7 +4,6 @@
 -- decides what `implication` does. Assumes nothing.
 --     number, entry, Extends           the number of a listed comparison; the one with a number; numbers stay
 --     formula                          the formula of a boolean
---     FitsWord, FitsWords              the payloads are in range
 --     Compared, Known                  a comparison stands in a range of words; all that are listed do
 --     WrittenAt, PairWritten           a boolean stands there, at some depth; one that is made of two
 --     SideWritten                      the boolean that a side is
@@ -16,10 +15,10 @@ use Prim.Native.Nat.{ℕ, _+_, _<_, _≤_}
 use lib.Dec.{eqb}
 use lib.ListN.{length, getD, take}
 use Rattle.language.specs.Syntax.{Boolean, Expr, compare, truth, and, or, neg}
-use Rattle.rules.specs.Words.{Word, word, forWord, words}
+use Rattle.rules.specs.Words.{Word, words}
 use Rattle.rules.specs.Implies.{amongWords, comparisons}
-use Rattle.layout.specs.Spelling.{FitsConstant}
 use Rattle.layout.specs.EvidenceWords.{expressionPart}
+use Rattle.layout.specs.Nodes.{AllInRange}
 use Rattle.layout.specs.Standing.{StandsTo, PartStands}
 use Rattle.table.specs.Formula.{Formula, leaf, fixed, conj, disj, negated, spell}
 use Rattle.implication.specs.declared.Compiled.{Compiled}
@@ -47,18 +46,10 @@ formula l (and b c) = conj (formula l b) (formula l c)
 formula l (or b c) = disj (formula l b) (formula l c)
 formula l (neg b) = negated (formula l b)
 
-abbrev pub FitsWord : Word → Type 0
-FitsWord (word k z) = FitsConstant z
-FitsWord (forWord q m) = ⊥
-
-unfoldable pub FitsWords : List Word → Type 0
-FitsWords [] = Unit {0}
-FitsWords (v ∷ l) = FitsWord v × FitsWords l
-
 -- the comparison with the words c stands from k up to m
 pub record Compared (w : List ℕ) (k : ℕ) (c : List Word) (m : ℕ) : Type 0 where
   pub stand : StandsTo w k c m
-  pub fits : FitsWords c
+  pub fits : AllInRange c
 
 -- the n comparisons of l stand at the ranges of their numbers
 pub record Known (w starts ends : List ℕ) (n : ℕ) (l : List (List Word)) : Type 0 where

@@ -18,7 +18,7 @@ use Rattle.words.specs.Rows.{digit, packed, rowOf}
 use Rattle.words.proofs.RowItems.{digit-rest}
 use Rattle.goals.specs.declared.Goal.{Goal}
 use Rattle.goals.specs.Children.{judgementOf, carriedOff, pastCarried}
-use Rattle.compare.specs.Places.{endAt}
+use Rattle.ends.specs.Places.{endAt}
 use Rattle.judge.specs.Row.{isCarried, PastCarried}
 
 -- of a row whose items l stand from `at` on, rest is left from next on

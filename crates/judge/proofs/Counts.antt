@@ -19,8 +19,8 @@ use Rattle.rules.proofs.Holds.{tally}
 use Rattle.layout.proofs.Counted.{count-length, Counts, tree-tally, flow-counts, set-counts, pre-counts}
 use Rattle.goals.specs.declared.Goal.{Goal}
 use Rattle.goals.specs.Goals.{TreeGoal, verdict, GoalStands, flow-stands, set-stands, pre-stands}
-use Rattle.goals.proofs.Places.{written-inside, command-inside, set-inside}
-use Rattle.compare.proofs.Operands.{Inside}
+use Rattle.ends.proofs.Places.{node-inside}
+use Rattle.layout.proofs.Nodes.{Inside}
 use Rattle.judge.specs.Going.{Low}
 
 module _ (Γ : Context) (file ends : List ℕ) where
@@ -65,10 +65,10 @@ module _ (Γ : Context) (file ends : List ℕ) where
   pub goal-low : {goal : Goal} {g : TreeGoal} {d at end : ℕ} → GoalStands Γ file ends goal g d at end →
       length file ≤ 8192 → Low goal
   goal-low (flow-stands x y z s) n =
-      (below (set-inside x) n, below (command-inside y) n, below (set-inside z) n)
-  goal-low (set-stands x y s) n = (below (set-inside x) n, below (set-inside y) n)
+      (below (node-inside x) n, below (node-inside y) n, below (node-inside z) n)
+  goal-low (set-stands x y s) n = (below (node-inside x) n, below (node-inside y) n)
   goal-low (pre-stands x y z s) n =
-      (below (written-inside x) n, below (command-inside y) n, below (written-inside z) n)
+      (below (node-inside x) n, below (node-inside y) n, below (node-inside z) n)
 
   tree-level : {j : Judgement} (k : Evidence j) (d at end : ℕ) → TreeAt Γ file d at k end → 1 ≤ d
   unfolding FitsTree

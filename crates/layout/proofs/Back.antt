@@ -11,11 +11,11 @@ use mathlib.Core.List.{List, [], _∷_, _++_}
 use mathlib.Core.Option.{Option, some}
 use Prim.Native.Nat.{ℕ, zero, suc, _+_, _*_, _/_, _%_, _<_, _≤_}
 use native.Mathlib.Omega.{arith}
-use borrow.Author.Tests.{lt-ltb, le-leb}
+use borrow.Author.Tests.{lt-ltb, le-leb, lt-leb}
 use lib.IntN.{ℤ}
 use lib.ListN.{length}
 use Rattle.language.specs.Syntax.{Operator, plus, minus, times, Comparison, equal, less, atMost}
-use Rattle.language.specs.Syntax.{Sort, Boolean, Expr, constant, scalar, operation, select}
+use Rattle.language.specs.Syntax.{Sort, Arithmetic, Boolean, Array, Expr, constant, scalar, operation, select}
 use Rattle.language.specs.Syntax.{compare, truth, and, or, neg, array, zeros, update, toScalar, toArray}
 use Rattle.language.specs.Syntax.{Command, skip, sequence, assert, assign, ifElse, while, for}
 use Rattle.rules.specs.Words.{Word, word, forWord, words, commandWords}
@@ -28,10 +28,12 @@ use Rattle.layout.specs.Read.{operatorOf, comparisonOf, truthOf}
 use Rattle.layout.specs.Read.{expression, command, sortOf, consequentAt, memberAt, set}
 use Rattle.layout.specs.Spelling.{payloadOf, SpelledAt, FitsExpression, FitsCommand}
 use Rattle.layout.specs.Spelling.{memberWords, membersWords, setWords, FitsMembers, FitsSet}
-use Rattle.layout.proofs.Words.{quotient, remainder, kind-of-word, payload-of-word}
-use Rattle.layout.proofs.Words.{payload-small, signed-payload}
+use Rattle.layout.proofs.Words.{signed-payload}
+use Rattle.layout.specs.Nodes.{expressionNode, headOf, kindOf, contentOf, InRange}
 use Rattle.layout.specs.Standing.{Stands}
-use Rattle.layout.proofs.Stands.{parted, spelled-stands}
+use Rattle.layout.proofs.Stands.{rest, less-fit, parted, spelled-stands}
+use Rattle.layout.proofs.Forms.{SortKind, sort-kind}
+use Rattle.layout.proofs.Nodes.{kind-at, content-at, with-levels, constant-range, operator-range, comparison-range, truth-range}
 
 -- the reader r reads a from `at` up to p
 pub record Back {A : Type 0} (r : Reader A) (at : ℕ) (a : A) (p : ℕ) : Type 0 where
@@ -82,33 +84,13 @@ unfolding wordDue
 due-back file {A} at k n step {a} {p} h e x y =
     record { back = rw (lt-ltb at (wordCount file) h, wordDue) (ap₂ (λ i j. allowed (step at i j) at) e x ∙ y .allows) }
 
-module _ {file : List ℕ} where
-  -- what stands after a word
-  rest : {w : Word} {l : List Word} {F : Type 0} {at p : ℕ} → Stands file (w ∷ l) F at p → Stands file l F (at + 1) p
-  rest s = record { stand = s .stand .2; fit = s .fit }
-
-  -- without a fact that comes first
-  less-fit : {l : List Word} {F G : Type 0} {at p : ℕ} → Stands file l (F × G) at p → Stands file l G at p
-  less-fit s = record { stand = s .stand; fit = s .fit .1 }
-
-  pub word-back :
-      {A : Type 0} {k : ℕ} {z : ℤ} {l : List Word} {F : Type 0} {at p : ℕ} {a : A}
-      (step : ℕ → ℕ → ℕ → Option (Reader A)) → Stands file (word k z ∷ l) F at p → payloadOf z < payloads →
-      Allowed (step at k (payloadOf z)) at a p → Back (wordDue file step) at a p
-  word-back {k} {z} {at} step s h y =
-      due-back file at k (payloadOf z) step (s .stand .0) (kind-of-word file at k z (s .stand .1) h)
-      (payload-of-word file at k z (s .stand .1) h) y
-
-  -- the word of a `for` over q up to m
-  for-back :
-      {A : Type 0} {q m : ℕ} {l : List Word} {F : Type 0} {at p : ℕ} {a : A} (step : ℕ → ℕ → ℕ → Option (Reader A)) →
-      Stands file (forWord q m ∷ l) F at p → (q ≤ 31) × (m ≤ 31) → Allowed (step at 31 (q + 32 * m)) at a p →
-      Back (wordDue file step) at a p
-  for-back {q} {m} {at} step s h y =
-      let n : ℕ = q + 32 * m in
-      let small : n < payloads = omega (arith, h .0, h .1) in
-      due-back file at 31 n step (s .stand .0) (quotient 31 n (numberAt file at) (s .stand .1) small)
-      (remainder 31 n (numberAt file at) (s .stand .1) small) y
+-- a word that stands there
+pub word-back : {A : Type 0} {file : List ℕ} {w : Word} {l : List Word} {F : Type 0} {at p : ℕ} {a : A}
+    (step : ℕ → ℕ → ℕ → Option (Reader A)) → Stands file (w ∷ l) F at p → InRange w →
+    Allowed (step at (kindOf w) (contentOf w)) at a p → Back (wordDue file step) at a p
+word-back {file} {w} {at} step s h y =
+    due-back file at (kindOf w) (contentOf w) step (s .stand .0) (kind-at file at w (s .stand .1) h)
+    (content-at file at w (s .stand .1) h) y
 
 for-first : (q m : ℕ) → q ≤ 31 → (q + 32 * m) % 32 ≡ q
 for-first q m h = omega arith
@@ -116,22 +98,10 @@ for-first q m h = omega arith
 for-second : (q m : ℕ) → q ≤ 31 → (q + 32 * m) / 32 ≡ m
 for-second q m h = omega arith
 
-small : (n k : ℕ) → k ≤ n → n < payloads → k < payloads
-small n k h l = omega arith
-
-operator-small : (o : Operator) → payloadOf (operatorPayload o) < payloads
-operator-small plus = omega arith
-operator-small minus = omega arith
-operator-small times = omega arith
-
-comparison-small : (r : Comparison) → payloadOf (comparisonPayload r) < payloads
-comparison-small equal = omega arith
-comparison-small less = omega arith
-comparison-small atMost = omega arith
-
-truth-small : (t : Bool) → payloadOf (truthPayload t) < payloads
-truth-small false = omega arith
-truth-small true = omega arith
+sort-of : (j : Sort) (k : ℕ) → SortKind j k → sortOf k ≡ j
+sort-of Arithmetic k h = rw (lt-leb 8 k h, lt-leb 16 k (omega arith))
+sort-of Boolean k h = rw (le-leb 8 k (h .0), le-leb k 12 (h .1))
+sort-of Array k h = rw (le-leb 8 k (omega arith), lt-leb k 12 (omega arith), le-leb 16 k (h .0), le-leb k 18 (h .1))
 
 module _ (file : List ℕ) where
   pub expression-stands : (d : ℕ) {j : Sort} (e : Expr j) (at p : ℕ) →
@@ -139,38 +109,38 @@ module _ (file : List ℕ) where
   unfolding expression words FitsExpression
   expression-stands zero e at p s = absurd (s .fit)
   expression-stands (suc d) (constant z) at p s =
-      word-back _ s (payload-small z (s .fit)) (some-back (rw (signed-payload z (s .fit)) (begun (s .stand .2))))
+      word-back _ s (constant-range z (s .fit)) (some-back (rw (signed-payload z (s .fit)) (begun (s .stand .2))))
   expression-stands (suc d) (scalar x) at p s =
-      word-back _ s (small 31 x (s .fit) (omega arith)) (up-to-back 31 x (s .fit) (begun (s .stand .2)))
+      word-back _ s (omega (arith, s .fit), refl, refl) (up-to-back 31 x (s .fit) (begun (s .stand .2)))
   expression-stands (suc d) (operation o a b) at p s =
-      word-back _ s (operator-small o)
+      word-back _ s (operator-range o)
       (option-back (operatorOf (payloadOf (operatorPayload o))) _ (operator-back o)
       (parted (words a) (words b) (rest s) λ q x y.
       begun refl ⊲ expression-stands d a (at + 1) q x ⊲ expression-stands d b q p y))
   expression-stands (suc d) (select h i) at p s =
-      word-back _ s (omega arith) (some-back (parted (words h) (words i) (rest s) λ q x y.
+      word-back _ s (omega arith, refl, refl) (some-back (parted (words h) (words i) (rest s) λ q x y.
       begun refl ⊲ expression-stands d h (at + 1) q x ⊲ expression-stands d i q p y))
   expression-stands (suc d) (compare r a b) at p s =
-      word-back _ s (comparison-small r)
+      word-back _ s (comparison-range r)
       (option-back (comparisonOf (payloadOf (comparisonPayload r))) _ (comparison-back r)
       (parted (words a) (words b) (rest s) λ q x y.
       begun refl ⊲ expression-stands d a (at + 1) q x ⊲ expression-stands d b q p y))
   expression-stands (suc d) (truth t) at p s =
-      word-back _ s (truth-small t)
+      word-back _ s (truth-range t)
       (option-back (truthOf (payloadOf (truthPayload t))) _ (truth-back t) (begun (s .stand .2)))
   expression-stands (suc d) (and b c) at p s =
-      word-back _ s (omega arith) (some-back (parted (words b) (words c) (rest s) λ q x y.
+      word-back _ s (omega arith, refl, refl) (some-back (parted (words b) (words c) (rest s) λ q x y.
       begun refl ⊲ expression-stands d b (at + 1) q x ⊲ expression-stands d c q p y))
   expression-stands (suc d) (or b c) at p s =
-      word-back _ s (omega arith) (some-back (parted (words b) (words c) (rest s) λ q x y.
+      word-back _ s (omega arith, refl, refl) (some-back (parted (words b) (words c) (rest s) λ q x y.
       begun refl ⊲ expression-stands d b (at + 1) q x ⊲ expression-stands d c q p y))
   expression-stands (suc d) (neg b) at p s =
-      word-back _ s (omega arith) (some-back (begun refl ⊲ expression-stands d b (at + 1) p (rest s)))
+      word-back _ s (omega arith, refl, refl) (some-back (begun refl ⊲ expression-stands d b (at + 1) p (rest s)))
   expression-stands (suc d) (array a) at p s =
-      word-back _ s (small 31 a (s .fit) (omega arith)) (up-to-back 31 a (s .fit) (begun (s .stand .2)))
-  expression-stands (suc d) zeros at p s = word-back _ s (omega arith) (some-back (begun (s .stand .2)))
+      word-back _ s (omega (arith, s .fit), refl, refl) (up-to-back 31 a (s .fit) (begun (s .stand .2)))
+  expression-stands (suc d) zeros at p s = word-back _ s (omega arith, refl, refl) (some-back (begun (s .stand .2)))
   expression-stands (suc d) (update h i a) at p s =
-      word-back _ s (omega arith) (some-back (parted (words h) (words i ++ words a) (rest s) λ q x t.
+      word-back _ s (omega arith, refl, refl) (some-back (parted (words h) (words i ++ words a) (rest s) λ q x t.
       parted (words i) (words a) t λ r y z.
       begun refl ⊲ expression-stands d h (at + 1) q x ⊲ expression-stands d i q r y ⊲ expression-stands d a r p z))
 
@@ -178,51 +148,34 @@ module _ (file : List ℕ) where
       Back (command file d) at c p
   unfolding command commandWords FitsCommand
   command-stands zero c at p s = absurd (s .fit)
-  command-stands (suc d) skip at p s = word-back _ s (omega arith) (some-back (begun (s .stand .2)))
+  command-stands (suc d) skip at p s = word-back _ s (omega arith, refl, refl) (some-back (begun (s .stand .2)))
   command-stands (suc d) (sequence c₁ c₂) at p s =
-      word-back _ s (omega arith) (some-back (parted (commandWords c₁) (commandWords c₂) (rest s) λ q x y.
+      word-back _ s (omega arith, refl, refl) (some-back (parted (commandWords c₁) (commandWords c₂) (rest s) λ q x y.
       begun refl ⊲ command-stands d c₁ (at + 1) q x ⊲ command-stands d c₂ q p y))
   command-stands (suc d) (assert b) at p s =
-      word-back _ s (omega arith) (some-back (begun refl ⊲ expression-stands d b (at + 1) p (rest s)))
+      word-back _ s (omega arith, refl, refl) (some-back (begun refl ⊲ expression-stands d b (at + 1) p (rest s)))
   command-stands (suc d) (assign (toScalar x e)) at p s =
-      word-back _ s (small 31 x (s .fit .0) (omega arith))
+      word-back _ s (omega (arith, s .fit .0), refl, refl)
       (up-to-back 31 x (s .fit .0) (begun refl ⊲ expression-stands d e (at + 1) p (less-fit (rest s))))
   command-stands (suc d) (assign (toArray a e)) at p s =
-      word-back _ s (small 31 a (s .fit .0) (omega arith))
+      word-back _ s (omega (arith, s .fit .0), refl, refl)
       (up-to-back 31 a (s .fit .0) (begun refl ⊲ expression-stands d e (at + 1) p (less-fit (rest s))))
   command-stands (suc d) (ifElse b c₁ c₂) at p s =
-      word-back _ s (omega arith) (some-back (parted (words b) (commandWords c₁ ++ commandWords c₂) (rest s) λ q x t.
+      word-back _ s (omega arith, refl, refl) (some-back (parted (words b) (commandWords c₁ ++ commandWords c₂) (rest s) λ q x t.
       parted (commandWords c₁) (commandWords c₂) t λ r y z.
       begun refl ⊲ expression-stands d b (at + 1) q x ⊲ command-stands d c₁ q r y ⊲ command-stands d c₂ r p z))
   command-stands (suc d) (while b c) at p s =
-      word-back _ s (omega arith) (some-back (parted (words b) (commandWords c) (rest s) λ q x y.
+      word-back _ s (omega arith, refl, refl) (some-back (parted (words b) (commandWords c) (rest s) λ q x y.
       begun refl ⊲ expression-stands d b (at + 1) q x ⊲ command-stands d c q p y))
   command-stands (suc d) (for q m c) at p s =
-      for-back _ s (s .fit .0) (up-to-back 1023 (q + 32 * m) (omega (arith, s .fit .0 .0, s .fit .0 .1))
+      word-back _ s (s .fit .0) (up-to-back 1023 (q + 32 * m) (omega (arith, s .fit .0 .0, s .fit .0 .1))
       (rw (for-first q m (s .fit .0 .0), for-second q m (s .fit .0 .0))
       (begun refl ⊲ command-stands d c (at + 1) p (less-fit (rest s)))))
 
   -- the first word's kind tells the sort
-  sort-by : {k : ℕ} {z : ℤ} {l : List Word} {F : Type 0} {at p : ℕ} → Stands file (word k z ∷ l) F at p →
-      payloadOf z < payloads → sortOf (kindAt file at) ≡ sortOf k
-  sort-by {k} {z} {at} s h = ap sortOf (kind-of-word file at k z (s .stand .1) h)
-
   sort-stands : (d : ℕ) {j : Sort} (e : Expr j) (at p : ℕ) → Stands file (words e) (FitsExpression e d) at p →
       sortOf (kindAt file at) ≡ j
-  unfolding words FitsExpression
-  sort-stands zero e at p s = absurd (s .fit)
-  sort-stands (suc d) (constant z) at p s = sort-by s (payload-small z (s .fit))
-  sort-stands (suc d) (scalar x) at p s = sort-by s (small 31 x (s .fit) (omega arith))
-  sort-stands (suc d) (operation o a b) at p s = sort-by s (operator-small o)
-  sort-stands (suc d) (select h i) at p s = sort-by s (omega arith)
-  sort-stands (suc d) (compare r a b) at p s = sort-by s (comparison-small r)
-  sort-stands (suc d) (truth t) at p s = sort-by s (truth-small t)
-  sort-stands (suc d) (and b c) at p s = sort-by s (omega arith)
-  sort-stands (suc d) (or b c) at p s = sort-by s (omega arith)
-  sort-stands (suc d) (neg b) at p s = sort-by s (omega arith)
-  sort-stands (suc d) (array a) at p s = sort-by s (small 31 a (s .fit) (omega arith))
-  sort-stands (suc d) zeros at p s = sort-by s (omega arith)
-  sort-stands (suc d) (update h i a) at p s = sort-by s (omega arith)
+  sort-stands d {j} e at p s = with-levels (expressionNode e) d s λ n l o. ap sortOf (o .kind) ∙ sort-of j _ (sort-kind e)
 
   abbrev consequentOf : (d : ℕ) (j : Sort) → Reader (Expr Boolean → Member)
   consequentOf d j = leaf (λ e φ. member φ e) ⊛ expression file d j
@@ -256,7 +209,7 @@ module _ (file : List ℕ) where
   unfolding set FitsSet
   set-stands Γ zero m at p s = absurd (s .fit)
   set-stands Γ (suc d) m at p s =
-      word-back _ s (s .fit .0 .1)
+      word-back _ s (s .fit .0 .1, refl, refl)
       (up-to-back (Γ .limits .members) (length m) (s .fit .0 .0) (members-stands d m (at + 1) p (less-fit (rest s))))
 
 -- the same of what is spelled

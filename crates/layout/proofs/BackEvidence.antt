@@ -1,6 +1,6 @@
 -- What stands in the file by its words and fits is read (document 01, "Layout" and "Rules"): evidence.
 -- Assumes nothing.
---     rule-row                      a rule is in the table, by its number
+--     rule-row, rule-range          a rule is in the table, by its number; its word is in range
 --     evidence-stands               from what stands to what is read
 use mathlib.Core.Path.{_≡_, refl}
 use mathlib.Core.List.{List}
@@ -8,8 +8,10 @@ use mathlib.Core.Option.{some}
 use Prim.Native.Nat.{ℕ, zero, suc, _+_, _≤_}
 use native.Mathlib.Omega.{arith}
 use borrow.Author.Tests.{eq-eqb}
+use lib.IntN.{pos}
+use Rattle.rules.specs.Words.{word}
 use Rattle.rules.specs.Context.{Context}
-use Rattle.rules.specs.Evidence.{Judgement, Item, Rule, row, rules, item, Tree, by, assertion, command, members}
+use Rattle.rules.specs.Evidence.{Judgement, flow, implication, precondition, Item, Rule, row, rules, item, Tree, by, assertion, command, members}
 use Rattle.rules.specs.Evidence.{child, done, _&_, Evidence, Parts, flow1, flow2, flow3, flow4, flow5, flow6, flow7}
 use Rattle.rules.specs.Evidence.{flow8, flow9, flow10, flow11, flow12, flow13, flow14, set13, set14, set15, set16}
 use Rattle.rules.specs.Evidence.{set17, set18, set19, pre20, pre21, pre22, pre23, pre24, pre25, pre26, pre27, pre28}
@@ -17,6 +19,7 @@ use Rattle.rules.specs.Evidence.{pre29, pre30}
 use Rattle.layout.specs.Reading.{Reader}
 use Rattle.layout.specs.ReadEvidence.{evidenceKind, ruleOf, itemReader, partsReader, evidence}
 use Rattle.layout.specs.EvidenceWords.{spelledTree, FitsTree}
+use Rattle.layout.specs.Nodes.{InRange}
 use Rattle.layout.proofs.SpelledEvidence.{TreeAt, parted-trees}
 use Rattle.layout.proofs.Back.{Back, begun, _⊲_, option-back, word-back}
 use Rattle.layout.proofs.Back.{expression-stands, command-stands, set-stands}
@@ -55,6 +58,15 @@ rule-row pre28 = (refl, omega arith)
 rule-row pre29 = (refl, omega arith)
 rule-row pre30 = (refl, omega arith)
 
+-- the word of a rule
+pub rule-range : {j : Judgement} {n : ℕ} {l : List Item} → Rule j n l → InRange (word (evidenceKind j) (pos n))
+rule-range {j} r = go j (rule-row r .1)
+  where
+    go : (j : Judgement) {n : ℕ} → n ≤ 255 → InRange (word (evidenceKind j) (pos n))
+    go flow h = (omega arith, refl, refl)
+    go implication h = (omega arith, refl, refl)
+    go precondition h = (omega arith, refl, refl)
+
 module _ (Γ : Context) (file : List ℕ) where
   module _ (d : ℕ) (reader : (j : Judgement) → Reader (Evidence j))
       (known : (j : Judgement) (e : Evidence j) (at p : ℕ) → TreeAt Γ file d at e p → Back (reader j) at e p) where
@@ -79,7 +91,6 @@ module _ (Γ : Context) (file : List ℕ) where
   unfolding evidence spelledTree FitsTree
   evidence-stands zero (by r i t) at p s = absurd (s .fit)
   evidence-stands (suc d) (by {j = j} {n = n} r i t) at p s =
-      let low = rule-row r .1 in
-      rw (s .fit .0) (word-back _ s (omega arith) (rw (eq-eqb (evidenceKind j) (evidenceKind j) refl)
+      rw (s .fit .0) (word-back _ s (rule-range r) (rw (eq-eqb (evidenceKind j) (evidenceKind j) refl)
       (option-back _ _ (rule-row r .0) (begun refl ⊲ parts-back d (evidence Γ file d) (λ j e q p s. evidence-stands d e q p s) t (at + 1) p
       (record { stand = s .stand .2; fit = s .fit .1 })))))

@@ -34,7 +34,9 @@ use Rattle.layout.specs.Bytes.{wordCount, numberAt, payloads}
 use Rattle.layout.specs.Spelling.{SpelledAt}
 use Rattle.layout.specs.FileWords.{FileSpelled}
 use Rattle.layout.specs.Counted.{isEvidence, countEvidence}
-use Rattle.layout.proofs.Small.{AllSmall, kindOf, kind-at, parts-small}
+use Rattle.layout.specs.Nodes.{kindOf, AllInRange}
+use Rattle.layout.proofs.Nodes.{kind-at}
+use Rattle.layout.proofs.Range.{parts-range}
 
 abbrev isEvidenceWord : Word → Bool
 isEvidenceWord (word k z) = leb 33 k && leb k 35
@@ -205,7 +207,7 @@ same-kind n (word k z) e = ap (λ j. leb 33 j && leb j 35) e
 same-kind n (forWord q m) e = ap (λ j. leb 33 j && leb j 35) e
 
 -- words that stand up to the end of a file
-count-spelled : (file : List ℕ) (at : ℕ) (l : List Word) → SpelledAt file at l → AllSmall l →
+count-spelled : (file : List ℕ) (at : ℕ) (l : List Word) → SpelledAt file at l → AllInRange l →
     wordCount file ≡ at + length l → countEvidence (drop at file) ≡ evidenceIn l
 unfolding countEvidence evidenceIn
 count-spelled file at [] s h e =
@@ -228,7 +230,7 @@ pub file-counted : (Γ : Context) (file : List ℕ) (f : File) → FileSpelled �
     countEvidence file ≡ evidenceIn (joined (fileParts Γ f))
 unfolding countEvidence
 file-counted Γ file f h =
-    let all : AllSmall (joined (fileParts Γ f)) = parts-small Γ f (h .fits) in
+    let all : AllInRange (joined (fileParts Γ f)) = parts-range Γ f (h .fits) in
     let some : 0 < length file = omega (arith, h .whole) in
     ap countEvidence (drop-cons file 0 0 some)
     ∙ ap (λ t. cond t (suc (countEvidence (drop 1 file))) (countEvidence (drop 1 file)))

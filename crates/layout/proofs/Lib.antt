@@ -3,6 +3,8 @@
 -- Assumes nothing.
 --     Words              words as numbers
 --     Stands             words between two places
+--     Nodes              what stands at a place, by its first word and its parts
+--     Forms              a node by the kind of its first word
 --     Yields             one law for each combinator of readers
 --     Spelled            what is read stands in the file: expressions, commands and sets
 --     SpelledEvidence    the same of evidence
@@ -10,10 +12,12 @@
 --     BackEvidence       the same of evidence
 --     Faults             where readings end
 --     WholeFile          a whole file
---     Small              the kinds and payloads of the words of what stands
+--     Range              the words of evidence and of a file are in range
 --     Counted            the count of evidence words
 pub mod Words
 pub mod Stands
+pub mod Nodes
+pub mod Forms
 pub mod Yields
 pub mod Spelled
 pub mod SpelledEvidence
@@ -21,5 +25,5 @@ pub mod Back
 pub mod BackEvidence
 pub mod Faults
 pub mod WholeFile
-pub mod Small
+pub mod Range
 pub mod Counted

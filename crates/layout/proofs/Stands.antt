@@ -2,7 +2,7 @@
 -- Assumes nothing.
 --     stands-end, stands-inside         where they end
 --     stands-spelled, spelled-stands    the same by the place where they start, and their number
---     first, both, parted               a word before others; words before others, and back
+--     first, rest, both, parted         a word before others, and what stands after it; words before others, and back
 --     chain-stands, stands-chain        parts one after the other, and back
 use mathlib.Core.Path.{_≡_, refl, sym, subst}
 use mathlib.Core.List.{List, [], _∷_, _++_}
@@ -48,6 +48,14 @@ module _ {file : List ℕ} where
   pub first : {w : Word} {l : List Word} {F : Type 0} {at p : ℕ} → at < wordCount file → numberAt file at ≡ encode w →
       Stands file l F (at + 1) p → Stands file (w ∷ l) F at p
   first h e s = record { stand = (h, e, s .stand); fit = s .fit }
+
+  -- what stands after a word
+  pub rest : {w : Word} {l : List Word} {F : Type 0} {at p : ℕ} → Stands file (w ∷ l) F at p → Stands file l F (at + 1) p
+  rest s = record { stand = s .stand .2; fit = s .fit }
+
+  -- without a fact that comes first
+  pub less-fit : {l : List Word} {F G : Type 0} {at p : ℕ} → Stands file l (F × G) at p → Stands file l G at p
+  less-fit s = record { stand = s .stand; fit = s .fit .1 }
 
   pub both : {l m : List Word} {F G : Type 0} {at q p : ℕ} → Stands file l F at q → Stands file m G q p →
       Stands file (l ++ m) (F × G) at p

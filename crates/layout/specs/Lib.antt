@@ -5,6 +5,7 @@
 --     ReadEvidence    evidence
 --     Spelling        how expressions, commands and sets stand in a file
 --     EvidenceWords   how evidence stands in a file
+--     Nodes           expressions, commands and sets as nodes: a first word and parts
 --     Standing        words and parts between two places
 --     For             refusal 7
 --     File            refusals 1 to 7: a file as trees
@@ -17,6 +18,7 @@ pub mod Read
 pub mod ReadEvidence
 pub mod Spelling
 pub mod EvidenceWords
+pub mod Nodes
 pub mod Standing
 pub mod For
 pub mod File

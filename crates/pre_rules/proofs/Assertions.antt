@@ -12,15 +12,13 @@ use native.Mathlib.Omega.{arith}
 use Rattle.language.specs.Syntax.{Sort, Expr}
 use Rattle.rules.specs.Words.{words}
 use Rattle.compare.specs.Matching.{between, numbers, sameNumbers}
-use Rattle.compare.specs.Places.{endAt}
+use Rattle.ends.specs.Places.{endAt, WrittenAt, PartKnown}
 use Rattle.compare.specs.Forms.{part, antecedentNumbers, AntecedentAt, CanAntecedent}
 use Rattle.compare.specs.declared.cursor.Put.{Put}
 use Rattle.compare.specs.declared.antecedent.Antecedent.{Antecedent}
 use Rattle.compare.specs.declared.antecedent.Antecedent.the-variants.{And, Split, Replaced, True}
 use Rattle.compare.proofs.Replaced.{scalar-replaces, array-replaces}
-use Rattle.compare.proofs.Halves.{has-fits, is-and, is-split, is-replaced, is-true, antecedent-same}
-use Rattle.goals.specs.Places.{WrittenAt, PartKnown}
-use Rattle.rule_laws.proofs.Passing.{written-has}
+use Rattle.compare.proofs.Halves.{part-is, in-range, is-and, is-split, is-replaced, is-true, antecedent-same}
 use Rattle.pre_rules.specs.Conditions.{CanSplit, SplitAt, CanJoin, JoinAt, CanReplace, ReplacedAt, TrueAt}
 
 -- the answer of a comparison with the assertion that a rule forms
@@ -35,7 +33,7 @@ module _ {file ends : List ℕ} {f : ℕ} where
   pub split-at : {b p q : ℕ} {r : Bool} → Answers file ends f (Split p q b) r → SplitAt file ends f b p q r
   split-at h = record {
     is = λ φ t φ₁ φ₂ x y z v.
-        h ∙ antecedent-same (written-has x) (is-split (written-has z) (written-has v) (written-has y));
+        h ∙ antecedent-same x (is-split z v y);
   }
 
   pub can-join : {g b : ℕ} → CanJoin file ends f g b → CanAntecedent file ends f (And g b)
@@ -44,14 +42,14 @@ module _ {file ends : List ℕ} {f : ℕ} where
 
   pub join-at : {g b : ℕ} {r : Bool} → Answers file ends f (And g b) r → JoinAt file ends f g b r
   join-at h =
-      record { is = λ φ φ′ t x y z. h ∙ antecedent-same (written-has x) (is-and (written-has y) (written-has z)) }
+      record { is = λ φ φ′ t x y z. h ∙ antecedent-same x (is-and y z) }
 
   pub can-true : PartKnown file ends f → CanAntecedent file ends f True
   unfolding AntecedentAt
   can-true p = record { whole = p; form-at = tt }
 
   pub true-at : {r : Bool} → Answers file ends f True r → TrueAt file ends f r
-  true-at h = record { is = λ φ x. h ∙ antecedent-same (written-has x) is-true }
+  true-at h = record { is = λ φ x. h ∙ antecedent-same x is-true }
 
 -- the words between a and its end are put for the word w
 abbrev putAt : ℕ → ℕ → ℕ → Put
@@ -59,7 +57,7 @@ putAt w a to = record { word = w; from = a; to = to }
 
 right : {file ends : List ℕ} {a to : ℕ} {j : Sort} {d : Expr j} → to ≡ endAt ends a → WrittenAt file ends d a →
     between file a to ≡ numbers (words d)
-right {file} {a = a} k x = ap (between file a) k ∙ written-has x .same
+right {file} {a = a} k x = ap (between file a) k ∙ part-is x
 
 module _ {file ends : List ℕ} {f g a to : ℕ} (w : ℕ) (k : to ≡ endAt ends a) where
   pub can-replace : CanReplace file ends f g a → CanAntecedent file ends f (Replaced g (putAt w a to))
@@ -74,9 +72,9 @@ module _ {file ends : List ℕ} {f g a to : ℕ} (w : ℕ) (k : to ≡ endAt end
   pub replaced-at : {r : Bool} → Answers file ends f (Replaced g (putAt w a to)) r → ReplacedAt file ends f g w a r
   replaced-at h = record {
     scalars = λ φ φ′ x d u v z l i.
-        let s = scalar-replaces file (putAt w a to) x d l i (right k z) (has-fits (written-has z)) in
-        h ∙ antecedent-same (written-has u) (is-replaced s (written-has v));
+        let s = scalar-replaces file (putAt w a to) x d l i (right k z) (in-range z) in
+        h ∙ antecedent-same u (is-replaced s v);
     arrays = λ φ φ′ x d u v z l i.
-        let s = array-replaces file (putAt w a to) x d l i (right k z) (has-fits (written-has z)) in
-        h ∙ antecedent-same (written-has u) (is-replaced s (written-has v));
+        let s = array-replaces file (putAt w a to) x d l i (right k z) (in-range z) in
+        h ∙ antecedent-same u (is-replaced s v);
   }

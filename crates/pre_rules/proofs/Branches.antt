@@ -11,14 +11,13 @@ use Rattle.rules.specs.Condition.{byForm}
 use Rattle.rules.specs.Evidence.{row, Parts, assertion, child, done, _&_, pre20}
 use Rattle.rules.specs.Judge.{misfit, preRule, judge}
 use Rattle.layout.specs.Bytes.{kindAt}
-use Rattle.compare.specs.Places.{endAt}
+use Rattle.ends.specs.Places.{endAt, PartKnown}
 use Rattle.implication.specs.declared.Condition.{Condition}
 use Rattle.implication.specs.declared.Condition.the-variants.{Fails}
 use Rattle.goals.specs.Conditions.{conditionOf}
 use Rattle.goals.specs.Goals.{CanTry, StepOf, pre-stands}
 use Rattle.goals.specs.declared.Goal.the-variants.{Pre}
-use Rattle.goals.specs.Places.{PartKnown}
-use Rattle.goals.proofs.Places.{written-to, written-known, known-to}
+use Rattle.ends.proofs.Places.{at-place, node-known, known-to}
 use Rattle.goals.proofs.Evidence.{Placed}
 use Rattle.goals.proofs.Comes.{comes, two-children, PreComes, pre-rule}
 use Rattle.ends.specs.Ends.{EndsOf}
@@ -31,7 +30,7 @@ use Rattle.pre_rules.proofs.Goal.{here, first-known, misfit-rule}
 carried-known : (Γ : Context) (file ends : List ℕ) (d at end : ℕ) → EndsOf file ends → (t : Parts (row pre20 .after)) →
     Placed Γ file ends d t at end → PartKnown file ends at × PartKnown file ends (endAt ends at)
 carried-known Γ file ends d at end o (assertion φ₁ & assertion φ₂ & t) (a, (b, x)) =
-    (written-known o a, written-known o b)
+    (node-known o a, node-known o b)
 
 module _ {file ends : List ℕ} {Γ : Context} {f c g at : ℕ} (can : CanTry file ends Γ 20 (Pre f c g) at) where
   pub if-fails : (kindAt file c ≡ 29 → ⊥) → StepOf file ends Γ (Pre f c g) at Fails
@@ -46,7 +45,7 @@ module _ {file ends : List ℕ} {Γ : Context} {f c g at : ℕ} (can : CanTry fi
         let k = carried-known Γ file ends (x .levels) (at + 1) (x .end) o (x .parts) (x .parts-placed) in
         record {
           whole = first-known can;
-          test = written-known o (is-if o (here can .command-at) h .test-at);
+          test = node-known o (is-if o (here can .command-at) h .test-at);
           first = k .0;
           second = known-to i (k .1);
         }
@@ -61,6 +60,6 @@ module _ {file ends : List ℕ} {Γ : Context} {f c g at : ℕ} (can : CanTry fi
             (a, (b, (j, k-at, (m, l-at, last)))) =
             let s = is-if (can .can .ends-of) y h in
             comes _ r (ap (λ u. preRule Γ pre20 φ₁ φ₂ (judge Γ k) (judge Γ l) φ u φ′) (s .is))
-            (tested n (split .is φ (s .test) φ₁ φ₂ x (s .test-at) a (written-to i b)))
+            (tested n (split .is φ (s .test) φ₁ φ₂ x (s .test-at) a (at-place i b)))
             (two-children (pre-stands a (s .first-at) z k-at)
             (up-to (pre-stands b (s .second-at) z l-at) last))

@@ -19,8 +19,8 @@ use Rattle.implication.specs.declared.Condition.the-variants.{Fails}
 use Rattle.goals.specs.Conditions.{conditionOf}
 use Rattle.goals.specs.Goals.{CanTry, StepOf}
 use Rattle.goals.specs.declared.Goal.the-variants.{Pre}
-use Rattle.goals.specs.Places.{PartKnown}
-use Rattle.goals.proofs.Places.{written-known}
+use Rattle.ends.specs.Places.{PartKnown}
+use Rattle.ends.proofs.Places.{node-known}
 use Rattle.rule_laws.specs.Sameness.{SameAssertionAt}
 use Rattle.rule_laws.proofs.Commands.{is-skip, is-scalar, is-array, is-assert, other-kind, other-than-skip}
 use Rattle.rule_laws.proofs.Commands.{other-than-scalar, other-than-array, other-than-assert}
@@ -43,14 +43,12 @@ module _ {file ends : List ℕ} {Γ : Context} {f c g at : ℕ} where
   -- the right side is in the list of ends
   replaceable : {n : ℕ} → CanTry file ends Γ n (Pre f c g) at → {a : ℕ} → PartKnown file ends a →
       CanReplace file ends f g a
-  replaceable can k =
-      let x = here can .second-at in
-      record {
-        ends-of = can .can .ends-of;
-        whole = first-known can;
-        replaced = record { tree = here can .φ′; levels = x .levels; stands = x .stands };
-        right = k;
-      }
+  replaceable can k = record {
+    ends-of = can .can .ends-of;
+    whole = first-known can;
+    replaced = record { tree = here can .φ′; there = here can .second-at };
+    right = k;
+  }
 
   module _ (can : CanTry file ends Γ 24 (Pre f c g) at) where
     pub scalar-fails : (kindAt file c ≡ 27 → ⊥) → StepOf file ends Γ (Pre f c g) at Fails
@@ -61,7 +59,7 @@ module _ {file ends : List ℕ} {Γ : Context} {f c g at : ℕ} where
       pub can-scalar : CanReplace file ends f g (c + 1)
       can-scalar =
           let o = can .can .ends-of in
-          replaceable can (written-known o (is-scalar o (here can .command-at) h .parts .right-at))
+          replaceable can (node-known o (is-scalar o (here can .command-at) h .parts .right-at))
 
       -- the word 2:x
       pub scalar-rule : {b : Bool} → ReplacedAt file ends f g (wordOf 2 (payloadAt file c)) (c + 1) b →
@@ -83,7 +81,7 @@ module _ {file ends : List ℕ} {Γ : Context} {f c g at : ℕ} where
       pub can-array : CanReplace file ends f g (c + 1)
       can-array =
           let o = can .can .ends-of in
-          replaceable can (written-known o (is-array o (here can .command-at) h .parts .right-at))
+          replaceable can (node-known o (is-array o (here can .command-at) h .parts .right-at))
 
       -- the word 16:a
       pub array-rule : {b : Bool} → ReplacedAt file ends f g (wordOf 16 (payloadAt file c)) (c + 1) b →
@@ -108,7 +106,7 @@ module _ {file ends : List ℕ} {Γ : Context} {f c g at : ℕ} where
           record {
             whole = first-known can;
             first = second-known can;
-            test = written-known o (is-assert o (here can .command-at) h .test-at);
+            test = node-known o (is-assert o (here can .command-at) h .test-at);
           }
 
       pub assert-rule : {b : Bool} → JoinAt file ends f g (c + 1) b → {r : Condition} → r ≡ conditionOf b →

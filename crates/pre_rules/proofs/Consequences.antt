@@ -27,7 +27,7 @@ module _ {file ends : List ℕ} {Γ : Context} {f c g at : ℕ} where
       size = can .can .size;
       few = can .can .few;
       left = first-carried can pre28;
-      right = record { tree = here can .φ; tree-at = here can .first-at };
+      right = record { tree = here can .φ; there = here can .first-at };
     }
 
     pub stronger-rule : {r : Condition} → ImpliesAt file ends Γ (at + 1) f r → StepOf file ends Γ (Pre f c g) at r

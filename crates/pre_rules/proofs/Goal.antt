@@ -23,12 +23,11 @@ use Rattle.implication.specs.declared.Condition.the-variants.{Fails}
 use Rattle.goals.specs.Children.{childrenAt}
 use Rattle.goals.specs.Goals.{TreeGoal, GoalStands, pre-stands, ChildrenOf, CanTry, StepOf}
 use Rattle.goals.specs.declared.Goal.the-variants.{Pre}
-use Rattle.goals.specs.Places.{WrittenAt, CommandAt, PartKnown}
-use Rattle.goals.proofs.Places.{command-inside, written-known}
-use Rattle.goals.proofs.Places as places
+use Rattle.ends.specs.Places.{WrittenAt, CommandAt, PartKnown}
+use Rattle.ends.proofs.Places.{node-inside, node-known}
 use Rattle.goals.proofs.Evidence.{Placed}
 use Rattle.goals.proofs.Comes.{no-children, comes, misfit-comes, PreComes, pre-rule}
-use Rattle.rule_laws.specs.Implications.{AssertionAt}
+use Rattle.compare.specs.Places.{ExpressionAt}
 use Rattle.rule_laws.proofs.Trying.{first-word, parts-of, only-rule}
 
 pub record GoalAt (Γ : Context) (file ends : List ℕ) (f c g : ℕ) : Type 0 where
@@ -46,8 +45,8 @@ trees (pre-stands {φ = φ} {φ′ = φ′} {c = e} x y z s) =
 
 -- an assertion that is carried first
 first-of : (Γ : Context) (file ends : List ℕ) (d at end : ℕ) {l : List Item} (t : Parts (assertionItem ∷ l)) →
-    Placed Γ file ends d t at end → AssertionAt file ends at
-first-of Γ file ends d at end (assertion φ & t) (a, x) = record { tree = φ; tree-at = a }
+    Placed Γ file ends d t at end → ExpressionAt file ends Boolean at
+first-of Γ file ends d at end (assertion φ & t) (a, x) = record { tree = φ; there = a }
 
 module _ {file ends : List ℕ} {Γ : Context} {f c g at : ℕ} where
   module _ {n : ℕ} (can : CanTry file ends Γ n (Pre f c g) at) where
@@ -55,21 +54,21 @@ module _ {file ends : List ℕ} {Γ : Context} {f c g at : ℕ} where
     here = trees (can .can .goal-stands)
 
     pub command-head : c < length file
-    command-head = first-word (command-inside (here .command-at))
+    command-head = first-word (node-inside (here .command-at))
 
     pub low-command : c < 8192
     low-command = let h = command-head in let s = can .can .size in omega arith
 
     pub first-known : PartKnown file ends f
-    first-known = written-known (can .can .ends-of) (here .first-at)
+    first-known = node-known (can .can .ends-of) (here .first-at)
 
     pub second-known : PartKnown file ends g
-    second-known = written-known (can .can .ends-of) (here .second-at)
+    second-known = node-known (can .can .ends-of) (here .second-at)
 
     pub command-known : PartKnown file ends c
-    command-known = places.command-known (can .can .ends-of) (here .command-at)
+    command-known = node-known (can .can .ends-of) (here .command-at)
 
-    pub first-carried : {l : List Item} → Rule precondition n (assertionItem ∷ l) → AssertionAt file ends (at + 1)
+    pub first-carried : {l : List Item} → Rule precondition n (assertionItem ∷ l) → ExpressionAt file ends Boolean (at + 1)
     first-carried r =
         let x = parts-of can r in
         first-of Γ file ends (x .levels) (at + 1) (x .end) (x .parts) (x .parts-placed)

@@ -10,12 +10,11 @@ use native.Mathlib.Omega.{arith}
 use Rattle.language.specs.Syntax.{Boolean, Expr, and, neg}
 use Rattle.rules.specs.Context.{Context}
 use Rattle.rules.specs.Condition.{Result, _then_, implication}
-use Rattle.compare.specs.Places.{endAt}
+use Rattle.ends.specs.Places.{endAt, WrittenAt}
 use Rattle.implication.specs.Sides.{resultOf, CanImply, Implied}
 use Rattle.implication.specs.declared.Condition.{Condition}
 use Rattle.implication.specs.declared.Condition.the-variants.{Passes, Fails, TooLarge}
 use Rattle.implication.specs.declared.Side.the-variants.{One, Both, BothNot}
-use Rattle.goals.specs.Places.{WrittenAt}
 use Rattle.rule_laws.proofs.Implying.{deep}
 use Rattle.pre_rules.specs.Conditions.{CanRepeat, RepeatsAt}
 
@@ -32,10 +31,10 @@ module _ {file ends : List ℕ} {limit a b f p q to : ℕ} (e : p ≡ endAt ends
       first = c .first .tree;
       second = c .test .tree;
       is = refl;
-      left = deep e (c .first .tree-at);
-      right = deep h (c .test .tree-at);
+      left = deep e (c .first .there);
+      right = deep h (c .test .there);
     };
-    rightStands = deep i (c .whole .tree-at);
+    rightStands = deep i (c .whole .there);
     size = c .size;
     few = c .few;
   }
@@ -70,10 +69,10 @@ module _ {file ends : List ℕ} {limit a b f p q to : ℕ} (e : p ≡ endAt ends
           first = c .second .tree;
           second = c .test .tree;
           is = refl;
-          left = deep j (c .second .tree-at);
-          right = deep h (c .test .tree-at);
+          left = deep j (c .second .there);
+          right = deep h (c .test .there);
         };
-        rightStands = deep i (c .whole .tree-at);
+        rightStands = deep i (c .whole .there);
         size = c .size;
         few = c .few;
       }

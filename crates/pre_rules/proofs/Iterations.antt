@@ -17,8 +17,8 @@ use Rattle.ends.specs.Ends.{EndsOf}
 use Rattle.goals.specs.Conditions.{conditionOf}
 use Rattle.goals.specs.Goals.{CanTry, StepOf, pre-stands}
 use Rattle.goals.specs.declared.Goal.the-variants.{Pre}
-use Rattle.goals.specs.Places.{CommandAt, PartKnown}
-use Rattle.goals.proofs.Places.{command-known}
+use Rattle.ends.specs.Places.{CommandAt, PartKnown}
+use Rattle.ends.proofs.Places.{node-known}
 use Rattle.goals.proofs.Evidence.{Placed}
 use Rattle.goals.proofs.Comes.{comes, one-child, PreComes, pre-rule}
 use Rattle.rule_laws.specs.Sameness.{CanMean, MeaningAt}
@@ -41,9 +41,9 @@ module _ {file ends : List ℕ} {Γ : Context} {f c g at : ℕ} (can : CanTry fi
           size = can .can .size;
           few = can .can .few;
           first = first-carried can pre21;
-          test = record { tree = _; tree-at = is-while (can .can .ends-of) (x .command-at) h .test-at };
-          second = record { tree = x .φ′; tree-at = x .second-at };
-          whole = record { tree = x .φ; tree-at = x .first-at };
+          test = record { tree = _; there = is-while (can .can .ends-of) (x .command-at) h .test-at };
+          second = record { tree = x .φ′; there = x .second-at };
+          whole = record { tree = x .φ; there = x .first-at };
         }
 
     pub while-rule : {r : Condition} → RepeatsAt file ends (Γ .limits .comparisons) (at + 1) (c + 1) g f r →
@@ -61,7 +61,7 @@ module _ {file ends : List ℕ} {Γ : Context} {f c g at : ℕ} (can : CanTry fi
 -- the command that is carried is in the list of ends
 carried-known : (Γ : Context) (file ends : List ℕ) (d at end : ℕ) → EndsOf file ends → (t : Parts (row pre30 .after)) →
     Placed Γ file ends d t at end → PartKnown file ends at
-carried-known Γ file ends d at end o (command e & t) (a, x) = command-known o a
+carried-known Γ file ends d at end o (command e & t) (a, x) = node-known o a
 
 module _ {file ends : List ℕ} {Γ : Context} {f c g at : ℕ} (can : CanTry file ends Γ 30 (Pre f c g) at) where
   pub for-fails : (kindAt file c ≡ 31 → ⊥) → StepOf file ends Γ (Pre f c g) at Fails
@@ -77,7 +77,7 @@ module _ {file ends : List ℕ} {Γ : Context} {f c g at : ℕ} (can : CanTry fi
           ends-of = o;
           command = carried-known Γ file ends (x .levels) (at + 1) (x .end) o (x .parts) (x .parts-placed);
           head = command-head can;
-          body = command-known o (is-for o (here can .command-at) h .parts .body-at);
+          body = node-known o (is-for o (here can .command-at) h .parts .body-at);
         }
 
     pub for-rule : {b : Bool} → MeaningAt file ends (at + 1) c b → {r : Condition} → r ≡ conditionOf b →

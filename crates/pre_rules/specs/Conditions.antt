@@ -21,8 +21,7 @@ use Rattle.ends.specs.Ends.{EndsOf}
 use Rattle.compare.specs.Places.{ExpressionAt}
 use Rattle.implication.specs.Sides.{resultOf}
 use Rattle.implication.specs.declared.Condition.{Condition}
-use Rattle.rule_laws.specs.Implications.{AssertionAt}
-use Rattle.goals.specs.Places.{WrittenAt, PartKnown}
+use Rattle.ends.specs.Places.{WrittenAt, PartKnown}
 
 module _ (file ends : List ℕ) where
   -- φ at f, the test at b, φ1 at p, φ2 at q
@@ -69,10 +68,10 @@ module _ (file ends : List ℕ) where
     pub ends-of : EndsOf file ends
     pub size : length file ≤ 8192
     pub few : limit ≤ 16
-    pub first : AssertionAt file ends a
-    pub test : AssertionAt file ends b
-    pub second : AssertionAt file ends g
-    pub whole : AssertionAt file ends f
+    pub first : ExpressionAt file ends Boolean a
+    pub test : ExpressionAt file ends Boolean b
+    pub second : ExpressionAt file ends Boolean g
+    pub whole : ExpressionAt file ends Boolean f
 
   pub record RepeatsAt (limit a b g f : ℕ) (r : Condition) : Type 0 where
     pub is : (φ₀ t φ′ φ : Expr Boolean) → WrittenAt file ends φ₀ a → WrittenAt file ends t b →

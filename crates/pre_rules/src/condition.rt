@@ -2,7 +2,7 @@ use compare::antecedent::Antecedent;
 use compare::antecedent::same_formed;
 use compare::cursor::Put;
 use ends::end_at;
-ghost use Rattle.goals.specs.Places.{PartKnown};
+ghost use Rattle.ends.specs.Places.{PartKnown};
 ghost use Rattle.pre_rules.specs.Conditions.{CanSplit, SplitAt, CanJoin, JoinAt, CanReplace, ReplacedAt, TrueAt};
 
 // Rule 20: whether φ at f is (φ1 ∧ B) ∨ (φ2 ∧ ¬B), with B at b, φ1 at p and φ2 at q.

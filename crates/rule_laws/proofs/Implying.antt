@@ -8,30 +8,31 @@ use mathlib.Core.Path.{_≡_, refl, sym, subst}
 use mathlib.Core.List.{List}
 use Prim.Native.Nat.{ℕ}
 use native.Mathlib.Omega.{arith}
-use Rattle.language.specs.Syntax.{Sort, Expr}
+use Rattle.language.specs.Syntax.{Sort, Boolean, Expr}
 use Rattle.rules.specs.Context.{Context}
 use Rattle.layout.specs.EvidenceWords.{expressionPart}
+use Rattle.layout.specs.Nodes.{expressionNode}
 use Rattle.layout.specs.Standing.{PartStands}
+use Rattle.layout.proofs.Nodes.{node-deeper}
 use Rattle.ends.specs.Ends.{EndsOf}
-use Rattle.compare.specs.Places.{endAt}
+use Rattle.ends.specs.Places.{endAt, WrittenAt, PartKnown}
+use Rattle.compare.specs.Places.{ExpressionAt}
 use Rattle.implication.specs.Sides.{CanImply, Implied}
 use Rattle.implication.specs.declared.Condition.{Condition}
-use Rattle.implication.proofs.Levels.{stands-deeper}
 use Rattle.implication.specs.declared.Side.the-variants.{One}
-use Rattle.goals.specs.Places.{WrittenAt, PartKnown}
-use Rattle.rule_laws.specs.Implications.{AssertionAt, CanImplyAt, ImpliesAt}
-use Rattle.goals.proofs.Places.{written-known}
+use Rattle.rule_laws.specs.Implications.{CanImplyAt, ImpliesAt}
+use Rattle.ends.proofs.Places.{node-known}
 
 module _ {file ends : List ℕ} where
   -- up to a place that is its end
   pub deep : {k : Sort} {e : Expr k} {at p : ℕ} → p ≡ endAt ends at → WrittenAt file ends e at →
       PartStands file (expressionPart e) 256 at p
   deep {e = e} {at} h x =
-      subst (λ p. PartStands file (expressionPart e) 256 at p) (sym h)
-      (stands-deeper file e (x .levels) 256 at (endAt ends at) (x .low) (x .stands))
+      let fits = node-deeper (x .levels) 256 (x .low) (expressionNode e) (x .stands .fit) in
+      subst (λ p. PartStands file (expressionPart e) 256 at p) (sym h) (record { stand = x .stands .stand; fit = fits })
 
-  pub assertion-known : {at : ℕ} → EndsOf file ends → AssertionAt file ends at → PartKnown file ends at
-  assertion-known o x = written-known o (x .tree-at)
+  pub assertion-known : {at : ℕ} → EndsOf file ends → ExpressionAt file ends Boolean at → PartKnown file ends at
+  assertion-known o x = node-known o (x .there)
 
   module _ {Γ : Context} {a b p q : ℕ} (e : p ≡ endAt ends a) (h : q ≡ endAt ends b) where
     pub can-imply : CanImplyAt file ends Γ a b →
@@ -41,8 +42,8 @@ module _ {file ends : List ℕ} where
       ψ = c .right .tree;
       levels = 256;
       low = omega arith;
-      leftStands = deep e (c .left .tree-at);
-      rightStands = deep h (c .right .tree-at);
+      leftStands = deep e (c .left .there);
+      rightStands = deep h (c .right .there);
       size = c .size;
       few = c .few;
     }

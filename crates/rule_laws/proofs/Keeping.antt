@@ -6,7 +6,7 @@ use mathlib.Core.Bool.{Bool}
 use mathlib.Core.List.{List}
 use Prim.Native.Nat.{ℕ}
 use Rattle.scan.specs.Scan.{Modified, Unmarked}
-use Rattle.compare.specs.Places.{endAt}
+use Rattle.ends.specs.Places.{endAt}
 use Rattle.rule_laws.specs.Sameness.{KeptAt}
 
 pub kept-at : {file ends : List ℕ} {e c past to mask : ℕ} {r : Bool} → past ≡ endAt ends c → Modified file c past mask →

@@ -12,16 +12,17 @@ use Rattle.language.specs.Syntax.{Command}
 use Rattle.language.specs.Runs.{meaning}
 use Rattle.rules.specs.Words.{Word, word, words, commandWords}
 use Rattle.layout.specs.Bytes.{payloadAt, wordOf}
+use Rattle.layout.specs.Nodes.{commandNode, InRange, AllInRange}
+use Rattle.layout.proofs.Nodes.{in-range-append, node-range}
 use Rattle.ends.specs.Ends.{EndsOf}
 use Rattle.compare.specs.Matching.{numbers, matchedWord, matched, came}
-use Rattle.compare.specs.Places.{endAt}
+use Rattle.ends.specs.Places.{endAt}
 use Rattle.compare.specs.Forms.{part}
 use Rattle.compare.specs.declared.cursor.Match.{Match}
 use Rattle.compare.proofs.Whole.{cursor}
 use Rattle.rule_laws.specs.Sameness.{startNumbers, nextNumbers, MeaningAt}
 use Rattle.rule_laws.proofs.Commands.{ForParts, parts-of-for}
-use Rattle.rule_laws.proofs.Passing.{Passes, then, passes-command, InRange, AllInRange, in-range-append}
-use Rattle.rule_laws.proofs.Passing.{command-range, same-command}
+use Rattle.rule_laws.proofs.Passing.{Passes, then, passes-command, same-command}
 
 module _ (file : List ℕ) (m : Match) where
   pub start-matched : (q n : ℕ) (m₁ m₂ m₃ m₄ m₅ m₆ m₇ r : Match) → m₁ ≡ matchedWord file m (wordOf 25 0) →
@@ -61,27 +62,24 @@ meaning-words : (q m : ℕ) (c : Command) →
 unfolding words commandWords
 meaning-words q m c = refl
 
-low-word : (k n : ℕ) → k < 31 → n ≤ 31 → InRange (word k (pos n))
-low-word k n h l = (omega arith, λ e. omega arith)
-
 start-in-range : (q m : ℕ) → q ≤ 31 → m ≤ 31 → AllInRange (startWords q m)
 start-in-range q m g h =
-    let sequence = low-word 25 0 (omega arith) (omega arith) in
-    let start = low-word 27 q (omega arith) (omega arith) in
-    let one = low-word 1 1 (omega arith) (omega arith) in
-    let repeat = low-word 30 0 (omega arith) (omega arith) in
-    let compares = low-word 8 2 (omega arith) (omega arith) in
-    let counter = low-word 2 q (omega arith) (omega arith) in
-    let bound = low-word 2 m (omega arith) (omega arith) in
-    (sequence, (start, (one, (repeat, (compares, (counter, (bound, (sequence, tt))))))))
+    let counter : InRange (word 27 (pos q)) = (omega arith, refl, refl) in
+    let read : InRange (word 2 (pos q)) = (omega arith, refl, refl) in
+    let bound : InRange (word 2 (pos m)) = (omega arith, refl, refl) in (
+      (omega arith, refl, refl),
+      (
+        counter,
+        (
+          (omega arith, refl, refl),
+          ((omega arith, refl, refl), ((omega arith, refl, refl), (read, (bound, ((omega arith, refl, refl), tt))))),
+        ),
+      ),
+    )
 
 next-in-range : (q : ℕ) → q ≤ 31 → AllInRange (nextWords q)
 next-in-range q g =
-    let next = low-word 27 q (omega arith) (omega arith) in
-    let sum = low-word 3 0 (omega arith) (omega arith) in
-    let counter = low-word 2 q (omega arith) (omega arith) in
-    let one = low-word 1 1 (omega arith) (omega arith) in
-    (next, (sum, (counter, (one, tt))))
+    ((omega arith, refl, refl), ((omega arith, refl, refl), ((omega arith, refl, refl), ((omega arith, refl, refl), tt))))
 
 low : (p q m : ℕ) → p ≡ q + 32 * m → q ≤ 31 → p % 32 ≡ q
 low p q m e h = omega arith
@@ -96,7 +94,7 @@ in-range q m e x =
     rw meaning-words
     (in-range-append (startWords q m) (commandWords e ++ nextWords q)
     (start-in-range q m (x .counter-small) (x .bound-small))
-    (in-range-append (commandWords e) (nextWords q) (command-range (y .levels) e (y .stands .fit))
+    (in-range-append (commandWords e) (nextWords q) (node-range (y .levels) (commandNode e) (y .stands .fit))
     (next-in-range q (x .counter-small))))
 
 module _ {file ends : List ℕ} {d c : ℕ} (o : EndsOf file ends) where

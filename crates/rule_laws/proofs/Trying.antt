@@ -23,7 +23,7 @@ use Rattle.rules.specs.Evidence.{Judgement, Item, Rule, Row, row, rules, by, Ev
 use Rattle.layout.specs.Bytes.{payloadAt}
 use Rattle.layout.proofs.SpelledEvidence.{TreeAt, head-inside}
 use Rattle.layout.proofs.BackEvidence.{rule-row}
-use Rattle.compare.proofs.Operands.{Inside}
+use Rattle.layout.proofs.Nodes.{Inside}
 use Rattle.implication.specs.Sides.{resultOf}
 use Rattle.implication.specs.declared.Condition.{Condition}
 use Rattle.goals.specs.Children.{judgementOf}

@@ -1,6 +1,5 @@
 -- Implications between assertions that stand at places (document 01, "Rules").
 -- Working: `implies-at` of proofs/Implying ties it to the rules' `implication`. Assumes nothing.
---     AssertionAt                 an assertion stands at a place
 --     CanImplyAt, ImpliesAt       one implies another: what a test of them asks for and promises
 use mathlib.Core.Path.{_≡_}
 use mathlib.Core.List.{List}
@@ -10,21 +9,18 @@ use Rattle.language.specs.Syntax.{Boolean, Expr}
 use Rattle.rules.specs.Context.{Context}
 use Rattle.rules.specs.Condition.{implication}
 use Rattle.ends.specs.Ends.{EndsOf}
+use Rattle.compare.specs.Places.{ExpressionAt}
 use Rattle.implication.specs.Sides.{resultOf}
 use Rattle.implication.specs.declared.Condition.{Condition}
-use Rattle.goals.specs.Places.{WrittenAt}
+use Rattle.ends.specs.Places.{WrittenAt}
 
 module _ (file ends : List ℕ) where
-  pub record AssertionAt (at : ℕ) : Type 0 where
-    pub tree : Expr Boolean
-    pub tree-at : WrittenAt file ends tree at
-
   pub record CanImplyAt (Γ : Context) (a b : ℕ) : Type 0 where
     pub ends-of : EndsOf file ends
     pub size : length file ≤ 8192
     pub few : Γ .limits .comparisons ≤ 16
-    pub left : AssertionAt a
-    pub right : AssertionAt b
+    pub left : ExpressionAt file ends Boolean a
+    pub right : ExpressionAt file ends Boolean b
 
   pub record ImpliesAt (Γ : Context) (a b : ℕ) (r : Condition) : Type 0 where
     pub is : (φ ψ : Expr Boolean) → WrittenAt file ends φ a → WrittenAt file ends ψ b →

@@ -22,7 +22,7 @@ use Rattle.rules.specs.Tests.{sameAntecedent, sameConsequent, unmodified}
 use Rattle.rules.specs.Words.{commandWords, sameWords}
 use Rattle.layout.specs.Bytes.{wordOf}
 use Rattle.ends.specs.Ends.{EndsOf}
-use Rattle.goals.specs.Places.{WrittenAt, CommandAt, SetAt, PartKnown}
+use Rattle.ends.specs.Places.{WrittenAt, CommandAt, SetAt, PartKnown}
 
 -- 25:0 27:q 1:1 30:0 8:2 2:q 2:m 25:0
 unfoldable pub startNumbers : ℕ → ℕ → List ℕ

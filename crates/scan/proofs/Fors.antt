@@ -2,56 +2,31 @@
 -- Assumes nothing.
 --     ForAt, Fors    a `for` stands at a place; at each word of kind 31 between two places one does
 --     file-fors      the law
-use mathlib.Core.Path.{_≡_, refl, sym, ap, subst, _∙_}
-use mathlib.Core.Bool.{Bool, false}
-use mathlib.Core.List.{List, [], _∷_, _++_}
+use mathlib.Core.Path.{_≡_, sym, ap, subst, _∙_}
+use mathlib.Core.List.{List, [], _∷_, map}
 use mathlib.Core.Logic.{inl, inr}
 use Prim.Native.Nat.{ℕ, zero, suc, _+_, _*_, _/_, _<_, _≤_}
 use native.Mathlib.Omega.{arith}
 use native.Mathlib.Nat.{eq-or-lt-of-le}
 use borrow.Author.Tests.{eq-eqb}
-use lib.Dec.{eqb}
-use Rattle.laws.proofs.Bools.{or-left, or-right, clash}
-use Rattle.language.specs.Syntax.{Sort, Expr, toScalar, toArray}
-use Rattle.language.specs.Syntax.{Command, skip, sequence, assert, assign, ifElse, while, for}
-use Rattle.rules.specs.Words.{Word, words, commandWords}
-use Rattle.rules.specs.Assertion.{Members}
+use lib.IntN.{pos}
+use Rattle.laws.proofs.Bools.{clash}
+use Rattle.language.specs.Syntax.{Command, for}
+use Rattle.rules.specs.Words.{word}
 use Rattle.rules.specs.Context.{Context}
-use Rattle.rules.specs.Evidence.{Judgement, flow, implication, precondition, Standing, Tree, by, assertion, command}
-use Rattle.rules.specs.Evidence.{members, child, done, _&_}
+use Rattle.rules.specs.Evidence.{Standing, Tree, by, assertion, command, members, child, done, _&_}
 use Rattle.layout.specs.Bytes.{wordCount, numberAt, kindAt, payloads}
-use Rattle.layout.specs.Spelling.{FitsCommand, memberWords, membersWords, setWords}
 use Rattle.layout.specs.ReadEvidence.{evidenceKind}
-use Rattle.layout.specs.EvidenceWords.{expressionPart, commandPart, setPart, spelledTree, FitsTree}
-use Rattle.layout.specs.Standing.{StandsTo, Stands, PartStands}
-use Rattle.layout.proofs.Stands.{parted}
+use Rattle.layout.specs.EvidenceWords.{commandPart, spelledTree, FitsTree}
+use Rattle.layout.specs.Nodes.{Node, expressionNode, commandNode, setNode, nodePart, partsOf}
+use Rattle.layout.specs.Standing.{PartStands, Chain}
 use Rattle.layout.proofs.SpelledEvidence.{TreeAt, parted-trees}
-use Rattle.layout.proofs.BackEvidence.{rule-row}
+use Rattle.layout.proofs.BackEvidence.{rule-range}
 use Rattle.layout.proofs.WholeFile.{parts-stood}
+use Rattle.layout.proofs.Nodes.{kind-at, no-level, opened}
+use Rattle.layout.proofs.Forms.{Form, form-expression, form-for, form}
 use Rattle.ends.proofs.Sizes.{lt-or-le}
-use Rattle.layout.proofs.Small.{Small, AllSmall, kindOf, kind-at, expression-small, command-small, set-small}
-use Rattle.ends.proofs.Ends.{rest, less-fit}
 use Rattle.scan.specs.Steady.{WholeFile}
-use Rattle.scan.proofs.Trees.{anyOf, appended, Quiet, expression-quiet}
-
-abbrev isFor : ℕ → ℕ → Bool
-isFor k p = eqb k 31
-
-quiet : Quiet isFor
-quiet = record { none = λ p. (refl, refl, refl, refl, refl, refl, refl, refl, refl, refl, refl, refl) }
-
-members-quiet : (m : Members) → anyOf isFor (membersWords m) ≡ false
-members-quiet [] = refl
-members-quiet (m ∷ p) =
-    appended isFor (memberWords m) (membersWords p)
-    (appended isFor (words (m .antecedent)) (words (m .consequent)) (expression-quiet isFor quiet (m .antecedent))
-    (expression-quiet isFor quiet (m .consequent)))
-    (members-quiet p)
-
-kind-other : (j : Judgement) → eqb (evidenceKind j) 31 ≡ false
-kind-other flow = refl
-kind-other implication = refl
-kind-other precondition = refl
 
 -- of a file in which at most n levels are left
 module _ (file : List ℕ) (n : ℕ) where
@@ -83,65 +58,34 @@ module _ (file : List ℕ) (n : ℕ) where
     ];
   }
 
-  -- a word of another kind
-  other : {w : Word} {l : List Word} {F : Type 0} {at p : ℕ} → Stands file (w ∷ l) F at p → Small w →
-      eqb (kindOf w) 31 ≡ false → Fors (at + 1) p → Fors at p
-  other {w} {at} s h e g =
-      first (λ k. clash (eq-eqb (kindOf w) 31 (sym (kind-at file at w (s .stand .1) h) ∙ k)) e) g
+  for-at : (d : ℕ) {x : Node} {at p : ℕ} → suc d ≤ n → Form 31 x → PartStands file (nodePart x) (suc d) at p → ForAt at
+  for-at d l (form-expression h) s = absurd (omega arith)
+  for-at d {p = p} l (form-for {q} {m} {c}) s =
+      record { q = q; m = m; body = c; levels = d; past = p; within = l; stands = s }
 
-  without : (at : ℕ) (l : List Word) (p : ℕ) → StandsTo file at l p → AllSmall l → anyOf isFor l ≡ false → Fors at p
-  without at [] p s h e = ended s
-  without at (w ∷ l) p s h e =
-      other {w = w} {l = l} {F = Unit {0}} (record { stand = s; fit = tt }) (h .0)
-      (or-left (eqb (kindOf w) 31) (anyOf isFor l) e)
-      (without (at + 1) l p (s .2) (h .1) (or-right (eqb (kindOf w) 31) (anyOf isFor l) e))
+  parts-fors : {d : ℕ} → ((x : Node) (at p : ℕ) → PartStands file (nodePart x) d at p → Fors at p) → (l : List Node)
+      (at p : ℕ) → Chain file (map nodePart l) d at p → Fors at p
+  parts-fors f [] at p c = ended c
+  parts-fors f (x ∷ l) at p c = both (f x at (c .0) (c .1)) (parts-fors f l (c .0) p (c .2))
 
-  expression-fors : {j : Sort} (d : ℕ) (e : Expr j) (at p : ℕ) → PartStands file (expressionPart e) d at p → Fors at p
-  expression-fors d e at p s =
-      without at (words e) p (s .stand) (expression-small d e (s .fit)) (expression-quiet isFor quiet e)
-
-  set-fors : (Γ : Context) (d : ℕ) (m : Members) (at p : ℕ) → PartStands file (setPart Γ m) d at p → Fors at p
-  set-fors Γ d m at p s = without at (setWords m) p (s .stand) (set-small Γ d m (s .fit)) (members-quiet m)
-
-  command-fors : (d : ℕ) → d ≤ n → (c : Command) (at p : ℕ) → Stands file (commandWords c) (FitsCommand c d) at p →
-      Fors at p
-  unfolding commandWords FitsCommand
-  command-fors zero l c at p s = absurd (s .fit)
-  command-fors (suc d) l skip at p s = other s (omega arith) refl (ended (s .stand .2))
-  command-fors (suc d) l (sequence c₁ c₂) at p s =
-      other s (omega arith) refl (parted (commandWords c₁) (commandWords c₂) (rest s) λ q x y.
-      both (command-fors d (omega arith) c₁ (at + 1) q x) (command-fors d (omega arith) c₂ q p y))
-  command-fors (suc d) l (assert b) at p s =
-      other s (omega arith) refl (expression-fors d b (at + 1) p (rest s))
-  command-fors (suc d) l (assign (toScalar x e)) at p s =
-      other s (command-small (suc d) (assign (toScalar x e)) (s .fit) .0) refl
-      (expression-fors d e (at + 1) p (less-fit (rest s)))
-  command-fors (suc d) l (assign (toArray a e)) at p s =
-      other s (command-small (suc d) (assign (toArray a e)) (s .fit) .0) refl
-      (expression-fors d e (at + 1) p (less-fit (rest s)))
-  command-fors (suc d) l (ifElse b c₁ c₂) at p s =
-      other s (omega arith) refl (parted (words b) (commandWords c₁ ++ commandWords c₂) (rest s) λ q x t.
-      parted (commandWords c₁) (commandWords c₂) t λ r y z.
-      both (expression-fors d b (at + 1) q x)
-      (both (command-fors d (omega arith) c₁ q r y) (command-fors d (omega arith) c₂ r p z)))
-  command-fors (suc d) l (while b c) at p s =
-      other s (omega arith) refl (parted (words b) (commandWords c) (rest s) λ q x y.
-      both (expression-fors d b (at + 1) q x) (command-fors d (omega arith) c q p y))
-  command-fors (suc d) l (for q m c) at p s =
-      first (λ k. record { q = q; m = m; body = c; levels = d; past = p; within = l; stands = s })
-      (command-fors d (omega arith) c (at + 1) p (less-fit (rest s)))
+  node-fors : (d : ℕ) → d ≤ n → (x : Node) (at p : ℕ) → PartStands file (nodePart x) d at p → Fors at p
+  node-fors zero l x at p s = absurd (no-level x (s .fit))
+  node-fors (suc d) l x at p s =
+      let o = opened x d s in
+      first (λ k. for-at d l (subst (λ i. Form i x) (sym (o .kind) ∙ k) (form x)) s)
+      (parts-fors (λ y i q t. node-fors d (omega arith) y i q t) (partsOf x) (at + 1) p (o .parts-at))
 
   -- evidence: no evidence word is of kind 31
   tree-fors : (Γ : Context) {s : Standing} (t : Tree s) (d at p : ℕ) → d ≤ n → TreeAt Γ file d at t p → Fors at p
   unfolding spelledTree FitsTree
   tree-fors Γ (by r i t) zero at p l s = absurd (s .fit)
   tree-fors Γ (by {j = j} {n = m} r i t) (suc d) at p l s =
-      let low = rule-row r .1 in
-      other s (omega arith) (kind-other j)
+      let h = rule-range r in
+      first (λ k. clash (eq-eqb _ 31 (sym (kind-at file at (word (evidenceKind j) (pos m)) (s .stand .1) h) ∙ k)) (h .2))
       (tree-fors Γ t d (at + 1) p (omega arith) (record { stand = s .stand .2; fit = s .fit .1 }))
-  tree-fors Γ (assertion φ) d at p l s = expression-fors d φ at p s
-  tree-fors Γ (command c) d at p l s = command-fors d l c at p s
-  tree-fors Γ (members m) d at p l s = set-fors Γ d m at p s
+  tree-fors Γ (assertion φ) d at p l s = node-fors d l (expressionNode φ) at p s
+  tree-fors Γ (command c) d at p l s = node-fors d l (commandNode c) at p s
+  tree-fors Γ (members m) d at p l s = node-fors d l (setNode Γ m) at p s
   tree-fors Γ (child k) d at p l s = tree-fors Γ k d at p l s
   tree-fors Γ done d at p l s = ended (s .stand)
   tree-fors Γ (x & t) d at p l s =
@@ -162,7 +106,7 @@ module _ (Γ : Context) (file : List ℕ) (h : WholeFile Γ file) where
       let f = h .tree in
       let s = parts-stood Γ file f (wordCount file) (h .all) in
       first file d not-first
-      (both file d (command-fors file d d (omega arith) (f .program) 1 (f .preAt) (s .program))
-      (both file d (set-fors file d Γ d (f .pre) (f .preAt) (f .postAt) (s .pre))
-      (both file d (set-fors file d Γ d (f .post) (f .postAt) (f .evidenceAt) (s .post))
+      (both file d (node-fors file d d (omega arith) (commandNode (f .program)) 1 (f .preAt) (s .program))
+      (both file d (node-fors file d d (omega arith) (setNode Γ (f .pre)) (f .preAt) (f .postAt) (s .pre))
+      (both file d (node-fors file d d (omega arith) (setNode Γ (f .post)) (f .postAt) (f .evidenceAt) (s .post))
       (tree-fors file d Γ (f .evidence) d (f .evidenceAt) (wordCount file) (omega arith) (s .evidence)))))

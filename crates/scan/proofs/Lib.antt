@@ -3,13 +3,11 @@
 --     Trees    what the scans find where an expression, a command or a set stands
 --     Places   the same up to the end that a list of ends has
 --     Files    the parts of a file that was read stand in it
---     Deeper   what fits with some levels left fits with more
 --     Fors     each word of kind 31 of a file that was read is the first of a `for`
 --     Tests    the test of a place and the scan for the first
 pub mod Ranges
 pub mod Trees
 pub mod Places
 pub mod Files
-pub mod Deeper
 pub mod Fors
 pub mod Tests

@@ -28,14 +28,14 @@ use Rattle.layout.specs.Standing.{PartStands}
 use Rattle.layout.specs.For.{steady, unsteady, unsteadyAt, firstUnsteady}
 use Rattle.layout.proofs.Back.{command-stands}
 use Rattle.ends.specs.Ends.{EndsOf}
-use Rattle.layout.proofs.Small.{content-at}
-use Rattle.ends.proofs.Ends.{rest, less-fit}
+use Rattle.layout.specs.Nodes.{commandNode}
+use Rattle.layout.proofs.Stands.{rest, less-fit}
+use Rattle.layout.proofs.Nodes.{content-at, node-deeper}
 use Rattle.ends.specs.Mask.{bit, ModifiedBy}
 use Rattle.scan.specs.Scan.{Modified}
 use Rattle.scan.specs.Steady.{WholeFile, steadinessOf, Tested, FirstFound}
 use Rattle.scan.specs.declared.steady.Steadiness.the-variants.{Steady, At}
-use Rattle.scan.proofs.Places.{command-starts}
-use Rattle.scan.proofs.Deeper.{command-deeper}
+use Rattle.scan.proofs.Places.{node-starts}
 use Rattle.scan.proofs.Fors.{ForAt, file-fors}
 
 -- a `for` over q up to m with body c stands at the place
@@ -79,7 +79,7 @@ module _ (file : List ℕ) (at : ℕ) where
   read-for n x =
       let c = for (x .q) (x .m) (x .body) in
       command-stands file n c at (x .past)
-      (record { stand = x .stands .stand; fit = command-deeper (suc (x .levels)) n (x .within) c (x .stands .fit) })
+      (record { stand = x .stands .stand; fit = node-deeper (suc (x .levels)) n (x .within) (commandNode c) (x .stands .fit) })
       .back
 
   tested-for : at < wordCount file → kindAt file at ≡ 31 → (b : Bool) →
@@ -111,7 +111,7 @@ module _ (file : List ℕ) (at : ℕ) where
     body-mask {q} {m} {c} o =
         let s = o .stands in
         let f = e .command-end (for q m c) (suc (o .levels)) at (o .past) s in
-        let i = command-starts file ends e (for q m c) (suc (o .levels)) at (o .past) s .past-inside in
+        let i = node-starts e (commandNode (for q m c)) (suc (o .levels)) at (o .past) s .past-inside in
         b .command c (o .levels)
         (subst (λ p. PartStands file (commandPart c) (o .levels) (at + 1) p) (sym (near i ∙ f)) (less-fit (rest s)))
 

@@ -1,7 +1,6 @@
 -- What the scans find where an expression, a command or a set stands.
 -- Assumes nothing.
 --     anyOf, any-stands                        a test passes at one of some words; a scan of where they stand
---     expression-quiet                         a test of no expression's kinds passes at none
 --     modified-tree, unmarked-tree, closed-tree
 --                                              the contracts of the scans
 use mathlib.Core.Path.{_≡_, refl, sym, ap, ap₂, _∙_}
@@ -20,10 +19,10 @@ use Rattle.rules.specs.Sets.{setIdentifiers}
 use Rattle.rules.specs.Tests.{unmodified, isEmpty}
 use Rattle.layout.specs.Spelling.{FitsExpression, FitsCommand}
 use Rattle.layout.specs.Spelling.{memberWords, membersWords, setWords, FitsMembers, FitsSet}
+use Rattle.layout.specs.Nodes.{expressionNode, commandNode, setNode, kindOf, contentOf, AllInRange}
 use Rattle.layout.specs.Standing.{StandsTo}
 use Rattle.layout.proofs.Stands.{stands-end}
-use Rattle.layout.proofs.Small.{AllSmall, kindOf, contentOf, kind-at, content-at}
-use Rattle.layout.proofs.Small.{expression-small, command-small, set-small}
+use Rattle.layout.proofs.Nodes.{kind-at, content-at, node-range}
 use Rattle.ends.specs.Mask.{bit, Low, slot}
 use Rattle.ends.specs.Blocks.{written, ifAny, anyIn, assigns, Marks}
 use Rattle.scan.specs.Scan.{mentioned, marked, Modified, Unmarked, Closed}
@@ -45,7 +44,7 @@ module _ (t : ℕ → ℕ → Bool) where
   pub appended : (l m : List Word) {a b : Bool} → anyOf l ≡ a → anyOf m ≡ b → anyOf (l ++ m) ≡ (a || b)
   appended l m h k = any-append l m ∙ ap₂ (λ a b. a || b) h k
 
-  pub any-stands : (file : List ℕ) (at : ℕ) (l : List Word) (p : ℕ) → StandsTo file at l p → AllSmall l →
+  pub any-stands : (file : List ℕ) (at : ℕ) (l : List Word) (p : ℕ) → StandsTo file at l p → AllInRange l →
       anyIn t file (p - at) at ≡ anyOf l
   any-stands file at [] p h k = any-none t file at p (omega arith)
   any-stands file at (w ∷ l) p h k =
@@ -53,39 +52,6 @@ module _ (t : ℕ → ℕ → Bool) where
       any-next t file at p (omega arith)
       ∙ ap₂ (λ a b. a || b) (ap₂ t (kind-at file at w (h .1) (k .0)) (content-at file at w (h .1) (k .0)))
       (any-stands file (at + 1) l p (h .2) (k .1))
-
-  -- the kinds of expressions' words
-  pub record Quiet : Type 0 where
-    pub none : (p : ℕ) →
-        (t 1 p ≡ false) × (t 2 p ≡ false) × (t 3 p ≡ false) × (t 4 p ≡ false) × (t 8 p ≡ false) × (t 9 p ≡ false)
-        × (t 10 p ≡ false) × (t 11 p ≡ false) × (t 12 p ≡ false) × (t 16 p ≡ false) × (t 17 p ≡ false)
-        × (t 18 p ≡ false)
-
-  both : {a b : Bool} → a ≡ false → b ≡ false → (a || b) ≡ false
-  both h k = cc
-
-  pub expression-quiet : Quiet → {j : Sort} (e : Expr j) → anyOf (words e) ≡ false
-  unfolding words
-  expression-quiet q (constant z) = both (q .none _ .0) refl
-  expression-quiet q (scalar x) = both (q .none _ .1) refl
-  expression-quiet q (operation o a b) =
-      both (q .none _ .2) (appended (words a) (words b) (expression-quiet q a) (expression-quiet q b))
-  expression-quiet q (select a i) =
-      both (q .none _ .3) (appended (words a) (words i) (expression-quiet q a) (expression-quiet q i))
-  expression-quiet q (compare r a b) =
-      both (q .none _ .4) (appended (words a) (words b) (expression-quiet q a) (expression-quiet q b))
-  expression-quiet q (truth v) = both (q .none _ .5) refl
-  expression-quiet q (and a b) =
-      both (q .none _ .6) (appended (words a) (words b) (expression-quiet q a) (expression-quiet q b))
-  expression-quiet q (or a b) =
-      both (q .none _ .7) (appended (words a) (words b) (expression-quiet q a) (expression-quiet q b))
-  expression-quiet q (neg b) = both (q .none _ .8) (expression-quiet q b)
-  expression-quiet q (array a) = both (q .none _ .9) refl
-  expression-quiet q zeros = both (q .none _ .10) refl
-  expression-quiet q (update a i b) =
-      both (q .none _ .11)
-      (appended (words a) (words i ++ words b) (expression-quiet q a)
-      (appended (words i) (words b) (expression-quiet q i) (expression-quiet q b)))
 
 -- a number below 32 is its own remainder
 low-number : (x : ℕ) → x ≤ 31 → x % 32 ≡ x
@@ -95,10 +61,23 @@ for-number : (q m : ℕ) → q ≤ 31 → (q + 32 * m) % 32 ≡ q
 for-number q m h = omega arith
 
 module _ (x : Identifier) where
-  written-quiet : Quiet (assigns x)
-  unfolding written
-  written-quiet =
-      record { none = λ p. (refl, refl, refl, refl, refl, refl, refl, refl, refl, refl, refl, refl) }
+  -- no word of an expression assigns
+  expression-quiet : {j : Sort} (e : Expr j) → anyOf (assigns x) (words e) ≡ false
+  unfolding words written
+  expression-quiet (constant z) = refl
+  expression-quiet (scalar y) = refl
+  expression-quiet (operation o a b) = appended (assigns x) (words a) (words b) (expression-quiet a) (expression-quiet b)
+  expression-quiet (select a i) = appended (assigns x) (words a) (words i) (expression-quiet a) (expression-quiet i)
+  expression-quiet (compare r a b) = appended (assigns x) (words a) (words b) (expression-quiet a) (expression-quiet b)
+  expression-quiet (truth v) = refl
+  expression-quiet (and a b) = appended (assigns x) (words a) (words b) (expression-quiet a) (expression-quiet b)
+  expression-quiet (or a b) = appended (assigns x) (words a) (words b) (expression-quiet a) (expression-quiet b)
+  expression-quiet (neg b) = expression-quiet b
+  expression-quiet (array a) = refl
+  expression-quiet zeros = refl
+  expression-quiet (update a i b) =
+      appended (assigns x) (words a) (words i ++ words b) (expression-quiet a)
+      (appended (assigns x) (words i) (words b) (expression-quiet i) (expression-quiet b))
 
   -- a word that assigns y, before words that assign nothing
   assigned : (y : Identifier) {b : Bool} → b ≡ false → (sameIdentifier y x || b) ≡ sameIdentifier y x
@@ -111,17 +90,17 @@ module _ (x : Identifier) where
   command-assigns (suc d) (sequence c₁ c₂) h =
       appended (assigns x) (commandWords c₁) (commandWords c₂) (command-assigns d c₁ (h .0))
       (command-assigns d c₂ (h .1))
-  command-assigns (suc d) (assert b) h = expression-quiet (assigns x) written-quiet b
+  command-assigns (suc d) (assert b) h = expression-quiet b
   command-assigns (suc d) (assign (toScalar y e)) h =
-      rw (low-number y (h .0)) (assigned (scalarOf y) (expression-quiet (assigns x) written-quiet e))
+      rw (low-number y (h .0)) (assigned (scalarOf y) (expression-quiet e))
   command-assigns (suc d) (assign (toArray y e)) h =
-      rw (low-number y (h .0)) (assigned (arrayOf y) (expression-quiet (assigns x) written-quiet e))
+      rw (low-number y (h .0)) (assigned (arrayOf y) (expression-quiet e))
   command-assigns (suc d) (ifElse b c₁ c₂) h =
-      appended (assigns x) (words b) (commandWords c₁ ++ commandWords c₂) (expression-quiet (assigns x) written-quiet b)
+      appended (assigns x) (words b) (commandWords c₁ ++ commandWords c₂) (expression-quiet b)
       (appended (assigns x) (commandWords c₁) (commandWords c₂) (command-assigns d c₁ (h .1 .0))
       (command-assigns d c₂ (h .1 .1)))
   command-assigns (suc d) (while b c) h =
-      appended (assigns x) (words b) (commandWords c) (expression-quiet (assigns x) written-quiet b)
+      appended (assigns x) (words b) (commandWords c) (expression-quiet b)
       (command-assigns d c (h .1))
   command-assigns (suc d) (for q m c) h =
       rw (for-number q m (h .0 .0)) (ap (λ b. sameIdentifier (scalarOf q) x || b) (command-assigns d c (h .1)))
@@ -130,7 +109,7 @@ pub modified-tree : (file : List ℕ) {from to r : ℕ} → Marks file (to - fro
 modified-tree file {from} {to} m = record {
   command = λ c d s. record {
     marks = λ x l.
-        m .marks x l ∙ any-stands (assigns x) file from (commandWords c) to (s .stand) (command-small d c (s .fit))
+        m .marks x l ∙ any-stands (assigns x) file from (commandWords c) to (s .stand) (node-range d (commandNode c) (s .fit))
         ∙ command-assigns x d c (s .fit);
   };
 }
@@ -225,12 +204,12 @@ pub unmarked-tree : (file : List ℕ) (from to mask : ℕ) (b : Bool) → b ≡ 
 unmarked-tree file from to mask b e = record {
   expression = λ x d s c m.
       ap not
-      (e ∙ any-stands (marked mask) file from (words x) to (s .stand) (expression-small d x (s .fit))
+      (e ∙ any-stands (marked mask) file from (words x) to (s .stand) (node-range d (expressionNode x) (s .fit))
       ∙ expression-mentions (λ i. bit mask (slot i)) (modifies c) (m .marks) d x (s .fit))
       ∙ none-modified c (identifiers x);
   set = λ Γ q d s c m.
       ap not
-      (e ∙ any-stands (marked mask) file from (setWords q) to (s .stand) (set-small Γ d q (s .fit))
+      (e ∙ any-stands (marked mask) file from (setWords q) to (s .stand) (node-range d (setNode Γ q) (s .fit))
       ∙ set-mentions (λ i. bit mask (slot i)) (modifies c) (m .marks) Γ d q (s .fit))
       ∙ none-modified c (setIdentifiers q);
 }
@@ -244,7 +223,7 @@ pub closed-tree : (file : List ℕ) (from to : ℕ) (b : Bool) →
 closed-tree file from to b e = record {
   expression = λ x d s.
       ap not
-      (e ∙ any-stands (marked 18446744073709551615) file from (words x) to (s .stand) (expression-small d x (s .fit))
+      (e ∙ any-stands (marked 18446744073709551615) file from (words x) to (s .stand) (node-range d (expressionNode x) (s .fit))
       ∙ expression-mentions (λ i. bit 18446744073709551615 (slot i)) (λ i. true)
       (λ i l. bit-ones (slot i) (slot-small i l)) d x (s .fit))
       ∙ none-there (identifiers x);

@@ -1,6 +1,6 @@
 -- The scan of what starts at a place, up to the end that a list of ends has for it.
--- Working: `expression-starts` and `command-starts` of proofs/Places say that what stands at a place starts there so,
--- `closed-place` of proofs/Places what the scan says of it. Assumes nothing.
+-- Working: `node-starts` of proofs/Places says that what stands at a place starts there so, `closed-place` of proofs/Places what
+-- the scan says of it. Assumes nothing.
 --     StartsAt    something starts at the place and ends inside the file
 --     ClosedAt    what the scan says of trees
 use mathlib.Core.Path.{_≡_}

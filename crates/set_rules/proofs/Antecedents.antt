@@ -12,14 +12,13 @@ use Rattle.rules.specs.Context.{Context}
 use Rattle.rules.specs.Condition.{test, _then_, implication, onOne}
 use Rattle.rules.specs.Evidence.{set18}
 use Rattle.rules.specs.Judge.{misfit, leaf, setRule}
-use Rattle.compare.specs.Places.{endAt}
+use Rattle.ends.specs.Places.{endAt, WrittenAt}
 use Rattle.implication.specs.Sides.{resultOf}
 use Rattle.implication.specs.declared.Condition.{Condition}
 use Rattle.implication.specs.declared.Condition.the-variants.{Fails}
 use Rattle.goals.specs.Goals.{CanTry, StepOf}
 use Rattle.goals.specs.declared.Goal.the-variants.{Set}
-use Rattle.goals.specs.Places.{WrittenAt}
-use Rattle.goals.proofs.Places.{written-to, written-known}
+use Rattle.ends.proofs.Places.{at-place, node-known}
 use Rattle.goals.proofs.Comes.{then-passes, then-fails}
 use Rattle.rule_laws.specs.Implications.{CanImplyAt, ImpliesAt}
 use Rattle.rule_laws.specs.Sameness.{CanSame, SameAt}
@@ -46,15 +45,15 @@ module _ {file ends : List ℕ} {Γ : Context} {p q at : ℕ} (can : CanTry file
         ends-of = can .can .ends-of;
         size = can .can .size;
         few = can .can .few;
-        left = record { tree = _; tree-at = right-one can n g .only-at .antecedent-at };
-        right = record { tree = _; tree-at = left-one can m h .only-at .antecedent-at };
+        left = record { tree = _; there = right-one can n g .only-at .antecedent-at };
+        right = record { tree = _; there = left-one can m h .only-at .antecedent-at };
       }
 
       module _ {e f : ℕ} (i : e ≡ endAt ends (p + 1)) (l : f ≡ endAt ends (q + 1)) where
         pub can-same : CanSame file ends e f
         can-same = record {
-          first = written-known (can .can .ends-of) (written-to i (left-one can m h .only-at .consequent-at));
-          second = written-known (can .can .ends-of) (written-to l (right-one can n g .only-at .consequent-at));
+          first = node-known (can .can .ends-of) (at-place i (left-one can m h .only-at .consequent-at));
+          second = node-known (can .can .ends-of) (at-place l (right-one can n g .only-at .consequent-at));
         }
 
         module _ {b : Bool} (same : SameAt file ends e f b) where
@@ -67,7 +66,7 @@ module _ {file ends : List ℕ} {Γ : Context} {p q at : ℕ} (can : CanTry file
               let z = is-one a (can .can .ends-of) (sym m ∙ h) in
               let u = is-one v (can .can .ends-of) (sym n ∙ g) in
               let is = same .is (z .only .consequent) (u .only .consequent)
-              (written-to i (z .only-at .consequent-at)) (written-to l (u .only-at .consequent-at)) in
+              (at-place i (z .only-at .consequent-at)) (at-place l (u .only-at .consequent-at)) in
               ap₂ (setRule Γ set18) (z .is) (u .is)
               ∙ ap leaf
               (ap (λ t. test t then implication Γ (u .only .antecedent) (z .only .antecedent)) (sym is)

@@ -17,11 +17,12 @@ use Rattle.rules.specs.Condition.{Result, passes, _then_, eachImpliesFalse, onE
 use Rattle.rules.specs.Evidence.{set14, set15}
 use Rattle.rules.specs.Judge.{misfit, leaf, setRule}
 use Rattle.layout.specs.EvidenceWords.{expressionPart}
+use Rattle.layout.specs.Nodes.{expressionNode}
 use Rattle.layout.specs.Standing.{PartStands}
 use Rattle.ends.specs.Ends.{EndsOf}
 use Rattle.scan.specs.Place.{StartsAt, ClosedAt}
-use Rattle.scan.proofs.Places.{expression-starts}
-use Rattle.compare.specs.Places.{endAt}
+use Rattle.scan.proofs.Places.{node-starts}
+use Rattle.ends.specs.Places.{endAt, WrittenAt}
 use Rattle.implication.specs.Sides.{resultOf, CanImply, Implied}
 use Rattle.implication.specs.declared.Condition.{Condition}
 use Rattle.implication.specs.declared.Condition.the-variants.{Passes, Fails, TooLarge}
@@ -29,14 +30,14 @@ use Rattle.implication.specs.declared.Side.the-variants.{One, False}
 use Rattle.goals.specs.Conditions.{conditionOf}
 use Rattle.goals.specs.Goals.{CanTry, StepOf}
 use Rattle.goals.specs.declared.Goal.the-variants.{Set}
-use Rattle.goals.specs.Places.{WrittenAt}
-use Rattle.goals.proofs.Places.{written-known, written-to}
+use Rattle.ends.proofs.Places.{node-known, at-place}
 use Rattle.rule_laws.proofs.Trying.{tested}
 use Rattle.sets.specs.Items.{pastMember}
 use Rattle.sets.specs.Standing.{CanPass}
 use Rattle.sets.specs.Piles.{countAt}
-use Rattle.set_laws.specs.Members.{MemberWritten, MembersWritten}
-use Rattle.set_laws.proofs.Sets.{set-count, set-written, is-empty, not-empty, is-one, not-one}
+use Rattle.sets.specs.Trees.{MemberWritten, MembersWritten}
+use Rattle.sets.proofs.Trees.{set-count, set-written}
+use Rattle.set_laws.proofs.Sets.{is-empty, not-empty, is-one, not-one}
 use Rattle.set_rules.specs.Conditions.{CanTryEach, EachAt}
 use Rattle.set_rules.proofs.Goal.{here, right-one, leaf-rule}
 
@@ -99,8 +100,8 @@ module _ {file ends : List ℕ} {limit k from : ℕ} where
 
       pub can-pass : EndsOf file ends → CanPass ends i
       can-pass o = record {
-        first = written-known o (first-member .first-at .antecedent-at) .listed;
-        second = written-known o (first-member .first-at .consequent-at) .listed;
+        first = node-known o (first-member .first-at .antecedent-at) .listed;
+        second = node-known o (first-member .first-at .consequent-at) .listed;
       }
 
       module _ {to : ℕ} (t : to ≡ endAt ends i) where
@@ -201,15 +202,14 @@ module _ {file ends : List ℕ} {Γ : Context} {p q at : ℕ} where
         pub one-starts : StartsAt file ends e
         one-starts =
             let z = right-one can n g in
-            let t = written-to i (z .only-at .consequent-at) in
-            expression-starts file ends (can .can .ends-of) (z .only .consequent) (t .levels) e (endAt ends e)
-            (t .stands)
+            let t = at-place i (z .only-at .consequent-at) in
+            node-starts (can .can .ends-of) (expressionNode (z .only .consequent)) (t .levels) e (endAt ends e) (t .stands)
 
         pub closed-rule : {b : Bool} → ClosedAt file e b → {c : Condition} → c ≡ conditionOf b →
             StepOf file ends Γ (Set p q) at c
         unfolding setRule onEmpty onOne
         closed-rule closed d = leaf-rule can set15 refl λ x y a b.
             let z = is-one b (can .can .ends-of) (sym n ∙ g) in
-            let t = written-to i (z .only-at .consequent-at) in
+            let t = at-place i (z .only-at .consequent-at) in
             ap₂ (setRule Γ set15) (is-empty a (sym m ∙ h)) (z .is)
             ∙ ap leaf (sym (tested d (closed .expression (z .only .consequent) (t .levels) (endAt ends e) (t .stands))))

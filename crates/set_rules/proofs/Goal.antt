@@ -19,8 +19,8 @@ use Rattle.implication.specs.declared.Condition.{Condition}
 use Rattle.goals.specs.Children.{childrenAt}
 use Rattle.goals.specs.Goals.{TreeGoal, GoalStands, set-stands, ChildrenOf, CanTry, StepOf}
 use Rattle.goals.specs.declared.Goal.the-variants.{Set}
-use Rattle.goals.specs.Places.{SetAt}
-use Rattle.goals.proofs.Places.{set-inside}
+use Rattle.ends.specs.Places.{SetAt}
+use Rattle.ends.proofs.Places.{node-inside}
 use Rattle.goals.proofs.Comes.{no-children, comes, SetComes, set-rule}
 use Rattle.rule_laws.proofs.Trying.{first-word}
 use Rattle.sets.specs.Piles.{countAt}
@@ -43,10 +43,10 @@ module _ {file ends : List ℕ} {Γ : Context} {p q at : ℕ} where
     here = trees (can .can .goal-stands)
 
     pub left-in : p < length file
-    left-in = first-word (set-inside (here .left-at))
+    left-in = first-word (node-inside (here .left-at))
 
     pub right-in : q < length file
-    right-in = first-word (set-inside (here .right-at))
+    right-in = first-word (node-inside (here .right-at))
 
     pub low-left : p < 8192
     low-left = let h = left-in in let s = can .can .size in omega arith

@@ -18,12 +18,13 @@ use Rattle.rule_laws.proofs.Trying.{tested}
 use Rattle.sets.specs.Lists.{seenAll, withinAll}
 use Rattle.sets.specs.Standing.{ViewAt, CanHold}
 use Rattle.sets.specs.Piles.{countAt, pileNumbers}
-use Rattle.sets.specs.Trees.{SetStands, stands-plain}
+use Rattle.ends.specs.Places.{SetAt}
+use Rattle.sets.specs.Trees.{stands-plain}
 use Rattle.sets.specs.declared.item.View.the-variants.{Plain}
 use Rattle.sets.proofs.Piles.{set-members}
 use Rattle.sets.proofs.Tests.{within-numbers}
-use Rattle.sets.proofs.Trees.{AllShown, set-is, set-place, pile-is}
-use Rattle.set_laws.proofs.Sets.{set-stands, has-set}
+use Rattle.sets.proofs.Trees.{AllShown, set-place, pile-is}
+use Rattle.set_laws.proofs.Sets.{has-set}
 use Rattle.set_rules.specs.Conditions.{CanInclude, WithinAt}
 use Rattle.set_rules.proofs.Goal.{here, leaf-rule}
 
@@ -33,15 +34,15 @@ module _ {file ends : List ℕ} {q p j k : ℕ} (can : CanInclude file ends q p)
   unfolding ViewAt
   can-see = record {
     ends-of = can .ends-of;
-    part = set-members (set-place (set-is (can .ends-of) (can .part .stands))) h;
+    part = set-members (set-place (can .ends-of) (can .part .there)) h;
     view-at = tt;
-    members = set-members (set-place (set-is (can .ends-of) (can .whole .stands))) i;
+    members = set-members (set-place (can .ends-of) (can .whole .there)) i;
   }
 
-  shown : {x : Members} {at n : ℕ} → SetStands file x at → n ≡ countAt file at →
+  shown : {Γ : Context} {x : Members} {at n : ℕ} → SetAt file ends Γ x at → n ≡ countAt file at →
       AllShown file ends (seenAll file ends Plain n (at + 1)) x
   unfolding pileNumbers
-  shown {x} {at} s e =
+  shown {x = x} {at} s e =
       subst (λ n. AllShown file ends (seenAll file ends Plain n (at + 1)) x) (sym e)
       (pile-is (can .ends-of) (stands-plain s) .shown)
 
@@ -49,8 +50,8 @@ module _ {file ends : List ℕ} {q p j k : ℕ} (can : CanInclude file ends q p)
       WithinAt file ends q p r
   within-at e = record {
     is = λ Γ x y a b.
-        let u = shown (set-stands a) h in
-        let v = shown (set-stands b) i in
+        let u = shown a h in
+        let v = shown b i in
         e ∙ ap₂ withinAll (u .numbers-are) (v .numbers-are) ∙ sym (within-numbers x y (u .fit-all) (v .fit-all));
   }
 

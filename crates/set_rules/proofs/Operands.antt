@@ -24,29 +24,22 @@ use Rattle.rules.specs.Evidence.{set19}
 use Rattle.rules.specs.Judge.{misfit, leaf, setRule}
 use Rattle.rules.specs.Sets.{operands}
 use Rattle.rules.specs.Tests.{same}
-use Rattle.rules.specs.Words.{words, operatorPayload, comparisonPayload, truthPayload}
 use Rattle.layout.specs.Bytes.{kindAt}
-use Rattle.layout.specs.Spelling.{FitsExpression}
-use Rattle.layout.specs.EvidenceWords.{expressionPart}
-use Rattle.layout.specs.Standing.{Stands, PartStands}
-use Rattle.layout.proofs.Stands.{parted}
-use Rattle.layout.proofs.Words.{kind-of-word, payload-small}
+use Rattle.layout.specs.Nodes.{expressionNode, headOf, partsOf, kindOf}
 use Rattle.ends.specs.Ends.{EndsOf}
-use Rattle.compare.specs.Places.{endAt}
-use Rattle.compare.proofs.Operands.{operator-small, comparison-small, truth-small}
+use Rattle.ends.specs.Places.{endAt, WrittenAt, NodesAt, PartKnown}
 use Rattle.implication.specs.declared.Condition.{Condition}
 use Rattle.implication.specs.declared.Condition.the-variants.{Fails}
 use Rattle.goals.specs.Conditions.{conditionOf}
 use Rattle.goals.specs.Goals.{CanTry, StepOf}
 use Rattle.goals.specs.declared.Goal.the-variants.{Set}
-use Rattle.goals.specs.Places.{WrittenAt, PartKnown}
-use Rattle.goals.proofs.Places.{expression-past, written, written-to, written-inside, written-known}
+use Rattle.ends.proofs.Places.{node-head, parts-at, at-place, node-inside, node-known}
 use Rattle.rule_laws.proofs.Trying.{tested}
-use Rattle.sets.specs.Trees.{ExpressionStands, stands-empty, stands-one, HasPile, CanSameSet, SameSet}
+use Rattle.sets.specs.Trees.{stands-empty, stands-one, HasPile, CanSameSet, SameSet}
 use Rattle.sets.specs.declared.pile.Pile.the-variants.{Empty, One}
 use Rattle.sets.specs.declared.pile.Piles.{Piles}
 use Rattle.sets.specs.Piles.{countAt}
-use Rattle.set_laws.proofs.Sets.{set-stands, has-set, is-one, not-one}
+use Rattle.set_laws.proofs.Sets.{has-set, is-one, not-one}
 use Rattle.set_rules.specs.Conditions.{hasTwo, CanSplit, SplitAt}
 use Rattle.set_rules.proofs.Goal.{here, right-one, leaf-rule}
 
@@ -79,74 +72,39 @@ module _ (file ends : List ℕ) {k : Sort} (d : Expr k) (at : ℕ) where
     split-none : hasTwo (kindAt file at) ≡ false → (kindAt file at ≡ 12 → ⊥) →
         ((φ : Expr Boolean) → operands φ d ≡ none) → Split
 
-module _ {file ends : List ℕ} (o : EndsOf file ends) where
-  -- an expression with two operands
-  module _ {i j k : Sort} {d : Expr k} {a : Expr i} {b : Expr j} {at p : ℕ} (n : ℕ) (l : n ≤ 256) where
-    two-at : ((φ : Expr Boolean) → operands φ d ≡ some (member φ a ∷ (member φ b ∷ []))) →
-        Stands file (words a ++ words b) (FitsExpression a n × FitsExpression b n) (at + 1) p → TwoAt file ends d at
-    two-at e s =
-        parted (words a) (words b) s λ q x y. record {
-          first-sort = i;
-          second-sort = j;
-          first = a;
-          second = b;
-          is = e;
-          first-at = written o a n (at + 1) q l x;
-          second-at = subst (λ z. WrittenAt file ends b z) (expression-past o a n (at + 1) q x) (written o b n q p l y);
-        }
+-- by the kind of its first word, and its parts at their places up to p
+module _ (file ends : List ℕ) (at p : ℕ) where
+  -- an expression with two operands, or none
+  two-kind : {i j k : Sort} {d : Expr k} {a : Expr i} {b : Expr j} {n : ℕ} → kindAt file at ≡ n → hasTwo n ≡ true →
+      (n ≡ 12 → ⊥) → ((φ : Expr Boolean) → operands φ d ≡ some (member φ a ∷ (member φ b ∷ []))) →
+      NodesAt file ends (expressionNode a ∷ expressionNode b ∷ []) (at + 1) p → Split file ends d at
+  two-kind {a = a} {b = b} e h g t y =
+      split-two (ap hasTwo e ∙ h) (λ i. g (sym e ∙ i))
+      (record { first-sort = _; second-sort = _; first = a; second = b; is = t; first-at = y .0; second-at = y .1 .0 })
 
-  two-kind : {k : Sort} {d : Expr k} {at : ℕ} (n : ℕ) → kindAt file at ≡ n → hasTwo n ≡ true → (n ≡ 12 → ⊥) →
-      TwoAt file ends d at → Split file ends d at
-  two-kind n e h g t = split-two (ap hasTwo e ∙ h) (λ i. g (sym e ∙ i)) t
-
-  none-kind : {k : Sort} {d : Expr k} {at : ℕ} (n : ℕ) → kindAt file at ≡ n → hasTwo n ≡ false → (n ≡ 12 → ⊥) →
+  none-kind : {k : Sort} {d : Expr k} {n : ℕ} → kindAt file at ≡ n → hasTwo n ≡ false → (n ≡ 12 → ⊥) →
       ((φ : Expr Boolean) → operands φ d ≡ none) → Split file ends d at
-  none-kind n e h g t = split-none (ap hasTwo e ∙ h) (λ i. g (sym e ∙ i)) t
+  none-kind e h g t = split-none (ap hasTwo e ∙ h) (λ i. g (sym e ∙ i)) t
 
-  split-to : {k : Sort} (n : ℕ) (d : Expr k) (at p : ℕ) → n ≤ 256 → PartStands file (expressionPart d) n at p →
-      Split file ends d at
-  unfolding words FitsExpression hasTwo
-  split-to zero d at p l s = absurd (s .fit)
-  split-to (suc n) (constant z) at p l s =
-      let small = payload-small z (s .fit) in
-      none-kind 1 (kind-of-word file at 1 z (s .stand .1) small) refl (λ i. omega arith) λ φ. refl
-  split-to (suc n) (scalar x) at p l s =
-      let f : x ≤ 31 = s .fit in
-      none-kind 2 (kind-of-word file at 2 (pos x) (s .stand .1) (omega arith)) refl (λ i. omega arith) λ φ. refl
-  split-to (suc n) (operation r a b) at p l s =
-      two-kind 3 (kind-of-word file at 3 (operatorPayload r) (s .stand .1) (operator-small r)) refl (λ i. omega arith)
-      (two-at n (omega arith) (λ φ. refl) (record { stand = s .stand .2; fit = s .fit }))
-  split-to (suc n) (select h i) at p l s =
-      none-kind 4 (kind-of-word file at 4 (pos 0) (s .stand .1) (omega arith)) refl (λ i. omega arith) λ φ. refl
-  split-to (suc n) (compare r a b) at p l s =
-      let small = comparison-small r in
-      two-kind 8 (kind-of-word file at 8 (comparisonPayload r) (s .stand .1) small) refl (λ i. omega arith)
-      (two-at n (omega arith) (λ φ. refl) (record { stand = s .stand .2; fit = s .fit }))
-  split-to (suc n) (truth t) at p l s =
-      let small = truth-small t in
-      none-kind 9 (kind-of-word file at 9 (truthPayload t) (s .stand .1) small) refl (λ i. omega arith) λ φ. refl
-  split-to (suc n) (and b c) at p l s =
-      two-kind 10 (kind-of-word file at 10 (pos 0) (s .stand .1) (omega arith)) refl (λ i. omega arith)
-      (two-at n (omega arith) (λ φ. refl) (record { stand = s .stand .2; fit = s .fit }))
-  split-to (suc n) (or b c) at p l s =
-      two-kind 11 (kind-of-word file at 11 (pos 0) (s .stand .1) (omega arith)) refl (λ i. omega arith)
-      (two-at n (omega arith) (λ φ. refl) (record { stand = s .stand .2; fit = s .fit }))
-  split-to (suc n) (neg b) at p l s =
-      split-one (kind-of-word file at 12 (pos 0) (s .stand .1) (omega arith)) (record {
-        only = b;
-        is = λ φ. refl;
-        only-at = written o b n (at + 1) p (omega arith) (record { stand = s .stand .2; fit = s .fit });
-      })
-  split-to (suc n) (array a) at p l s =
-      let f : a ≤ 31 = s .fit in
-      none-kind 16 (kind-of-word file at 16 (pos a) (s .stand .1) (omega arith)) refl (λ i. omega arith) λ φ. refl
-  split-to (suc n) zeros at p l s =
-      none-kind 17 (kind-of-word file at 17 (pos 0) (s .stand .1) (omega arith)) refl (λ i. omega arith) λ φ. refl
-  split-to (suc n) (update h i a) at p l s =
-      none-kind 18 (kind-of-word file at 18 (pos 0) (s .stand .1) (omega arith)) refl (λ i. omega arith) λ φ. refl
+  split-by : {k : Sort} (d : Expr k) → kindAt file at ≡ kindOf (headOf (expressionNode d)) →
+      NodesAt file ends (partsOf (expressionNode d)) (at + 1) p → Split file ends d at
+  unfolding hasTwo
+  split-by (constant z) e y = none-kind e refl (λ i. omega arith) λ φ. refl
+  split-by (scalar x) e y = none-kind e refl (λ i. omega arith) λ φ. refl
+  split-by (operation r a b) e y = two-kind e refl (λ i. omega arith) (λ φ. refl) y
+  split-by (select h i) e y = none-kind e refl (λ i. omega arith) λ φ. refl
+  split-by (compare r a b) e y = two-kind e refl (λ i. omega arith) (λ φ. refl) y
+  split-by (truth t) e y = none-kind e refl (λ i. omega arith) λ φ. refl
+  split-by (and b c) e y = two-kind e refl (λ i. omega arith) (λ φ. refl) y
+  split-by (or b c) e y = two-kind e refl (λ i. omega arith) (λ φ. refl) y
+  split-by (neg b) e y = split-one e (record { only = b; is = λ φ. refl; only-at = y .0 })
+  split-by (array a) e y = none-kind e refl (λ i. omega arith) λ φ. refl
+  split-by zeros e y = none-kind e refl (λ i. omega arith) λ φ. refl
+  split-by (update h i a) e y = none-kind e refl (λ i. omega arith) λ φ. refl
 
-  pub split : {k : Sort} {d : Expr k} {at : ℕ} → WrittenAt file ends d at → Split file ends d at
-  split {d = d} {at} x = split-to (x .levels) d at (endAt ends at) (x .low) (x .stands)
+split : {file ends : List ℕ} {k : Sort} {d : Expr k} {at : ℕ} → EndsOf file ends → WrittenAt file ends d at →
+    Split file ends d at
+split {d = d} o x = split-by _ _ _ _ d (node-head x .kind) (parts-at o x)
 
 -- by the kind
 module _ {file ends : List ℕ} {k : Sort} {d : Expr k} {at : ℕ} where
@@ -172,22 +130,14 @@ onePiles f a = record { first = One f a; second = Empty; third = Empty }
 abbrev twoPiles : ℕ → ℕ → ℕ → Piles
 twoPiles f a b = record { first = One f a; second = One f b; third = Empty }
 
-stands-there : {file ends : List ℕ} {k : Sort} {e : Expr k} {at : ℕ} → WrittenAt file ends e at →
-    ExpressionStands file e at
-stands-there {ends = ends} {at = at} x = record { levels = x .levels; next = endAt ends at; stands = x .stands }
-
-stands-at : {file ends : List ℕ} {k : Sort} {e : Expr k} {at to : ℕ} → to ≡ at → WrittenAt file ends e at →
-    ExpressionStands file e to
-stands-at {file} {e = e} i x = subst (λ z. ExpressionStands file e z) (sym i) (stands-there x)
-
 has-pair : {file ends : List ℕ} {φ : Expr Boolean} {k : Sort} {d : Expr k} {f at to : ℕ} → WrittenAt file ends φ f →
-    to ≡ at → WrittenAt file ends d at → HasPile file (One f to)
-has-pair {φ = φ} {d = d} x i y = record { tree = one φ d; stands = stands-one (stands-there x) (stands-at i y) }
+    to ≡ at → WrittenAt file ends d at → HasPile file ends (One f to)
+has-pair {φ = φ} {d = d} x i y = record { tree = one φ d; stands = stands-one x (at-place i y) }
 
 module _ {file ends : List ℕ} {p f e : ℕ} (can : CanSplit file ends p f e) where
   pub whole-in : e < length file
   whole-in =
-      let i = written-inside (can .whole-at) in
+      let i = node-inside (can .whole-at) in
       let s = i .start in
       let w = i .within in
       omega arith
@@ -208,7 +158,7 @@ module _ {file ends : List ℕ} {p f e : ℕ} (can : CanSplit file ends p f e) w
     both-at = by-two (split (can .ends-of) (can .whole-at)) g h
 
     pub first-known : PartKnown file ends (e + 1)
-    first-known = written-known (can .ends-of) (both-at .first-at)
+    first-known = node-known (can .ends-of) (both-at .first-at)
 
     pub can-two-same : {next : ℕ} → next ≡ endAt ends (e + 1) → CanSameSet file ends p (twoPiles f (e + 1) next)
     can-two-same i = record {
@@ -220,12 +170,12 @@ module _ {file ends : List ℕ} {p f e : ℕ} (can : CanSplit file ends p f e) w
     }
 
 module _ {file ends : List ℕ} {p f e : ℕ} (o : EndsOf file ends) where
-  pub one-split : kindAt file e ≡ 12 → {r : Bool} → SameSet file p (onePiles f (e + 1)) r → SplitAt file ends p f e r
+  pub one-split : kindAt file e ≡ 12 → {r : Bool} → SameSet file ends p (onePiles f (e + 1)) r → SplitAt file ends p f e r
   unfolding onSome
   one-split h same-as = record {
     is = λ Γ l φ d a b c.
         let t = by-one (split o c) h in
-        same-as .does l (one φ (t .only)) [] [] (set-stands a) (stands-one (stands-there b) (stands-there (t .only-at)))
+        same-as .does l (one φ (t .only)) [] [] a (stands-one b (t .only-at))
         stands-empty stands-empty
         ∙ ap (λ m. onSome m false (λ x. same l x)) (sym (t .is φ));
   }
@@ -238,14 +188,14 @@ module _ {file ends : List ℕ} {p f e : ℕ} (o : EndsOf file ends) where
     }
 
     pub two-split : hasTwo (kindAt file e) ≡ true → {next : ℕ} → next ≡ endAt ends (e + 1) → {r : Bool} →
-        SameSet file p (twoPiles f (e + 1) next) r → SplitAt file ends p f e r
+        SameSet file ends p (twoPiles f (e + 1) next) r → SplitAt file ends p f e r
     unfolding onSome
     two-split h i same-as = record {
       is = λ Γ l φ d a b c.
           let t = by-two (split o c) g h in
-          same-as .does l (one φ (t .first)) (one φ (t .second)) [] (set-stands a)
-          (stands-one (stands-there b) (stands-there (t .first-at)))
-          (stands-one (stands-there b) (stands-at i (t .second-at)))
+          same-as .does l (one φ (t .first)) (one φ (t .second)) [] a
+          (stands-one b (t .first-at))
+          (stands-one b (at-place i (t .second-at)))
           stands-empty
           ∙ ap (λ m. onSome m false (λ x. same l x)) (sym (t .is φ));
     }
@@ -275,7 +225,7 @@ module _ {file ends : List ℕ} {Γ : Context} {p q at : ℕ} (can : CanTry file
           antecedent-at = z .only-at .antecedent-at;
           sort = z .only .sort;
           whole = z .only .consequent;
-          whole-at = written-to i (z .only-at .consequent-at);
+          whole-at = at-place i (z .only-at .consequent-at);
         }
 
     pub split-rule : {b : Bool} → SplitAt file ends p (q + 1) e b → {c : Condition} → c ≡ conditionOf b →
@@ -286,4 +236,4 @@ module _ {file ends : List ℕ} {Γ : Context} {p q at : ℕ} (can : CanTry file
         ap (setRule Γ set19 x) (z .is)
         ∙ some-result (operands (z .only .antecedent) (z .only .consequent)) x
         ∙ ap leaf (sym (tested d (splits .is Γ x _ (z .only .consequent) a (z .only-at .antecedent-at)
-        (written-to i (z .only-at .consequent-at)))))
+        (at-place i (z .only-at .consequent-at)))))

@@ -19,7 +19,7 @@ use Rattle.rules.specs.Sets.{without}
 use Rattle.rules.specs.Tests.{same}
 use Rattle.rules.specs.Evidence.{row, Parts, child, members, done, _&_, set16, set17}
 use Rattle.rules.specs.Judge.{setRule, judge}
-use Rattle.compare.specs.Places.{endAt}
+use Rattle.ends.specs.Places.{endAt, SetAt}
 use Rattle.implication.specs.Sides.{resultOf}
 use Rattle.implication.specs.declared.Condition.{Condition}
 use Rattle.implication.specs.declared.Condition.the-variants.{Fails}
@@ -27,8 +27,7 @@ use Rattle.goals.specs.Children.{childrenAt}
 use Rattle.goals.specs.Conditions.{conditionOf}
 use Rattle.goals.specs.Goals.{CanTry, StepOf, set-stands}
 use Rattle.goals.specs.declared.Goal.the-variants.{Set}
-use Rattle.goals.specs.Places.{SetAt}
-use Rattle.goals.proofs.Places.{set-to}
+use Rattle.ends.proofs.Places.{at-place}
 use Rattle.goals.proofs.Evidence.{Placed}
 use Rattle.goals.proofs.Comes.{comes, two-children, then-passes, then-fails, SetComes, set-rule}
 use Rattle.rule_laws.proofs.Trying.{parts-of, up-to, tested, only-rule}
@@ -38,18 +37,17 @@ use Rattle.sets.specs.declared.item.View.the-variants.{Plain}
 use Rattle.sets.specs.declared.pile.Pile.the-variants.{Empty, Without}
 use Rattle.sets.specs.declared.pile.Pile.the-variants as pile
 use Rattle.sets.specs.declared.pile.Piles.{Piles}
-use Rattle.set_laws.proofs.Sets as sets
 use Rattle.set_laws.proofs.Sets.{has-set}
 use Rattle.set_rules.specs.Conditions.{CanRest, RestAt}
 use Rattle.set_rules.proofs.Goal.{here}
 
-has-to : {file : List ℕ} {i j : ℕ} → j ≡ i → HasSet file i → HasSet file j
-has-to {file} e x = subst (HasSet file) (sym e) x
+has-to : {file ends : List ℕ} {i j : ℕ} → j ≡ i → HasSet file ends i → HasSet file ends j
+has-to {file} {ends} e x = subst (HasSet file ends) (sym e) x
 
 -- n written sets one after the other
 abbrev Sets : List ℕ → List ℕ → ℕ → ℕ → Type 0
 Sets file ends zero at = Unit {0}
-Sets file ends (suc n) at = HasSet file at × Sets file ends n (endAt ends at)
+Sets file ends (suc n) at = HasSet file ends at × Sets file ends n (endAt ends at)
 
 module _ (Γ : Context) (file ends : List ℕ) (d at end : ℕ) where
   carried-16 : (t : Parts (row set16 .after)) → Placed Γ file ends d t at end → Sets file ends 4 at
@@ -101,22 +99,22 @@ module _ {file ends : List ℕ} {Γ : Context} {p q at b c : ℕ} where
         go x y (members s & members s′ & members t & members t′ & child k & child l & done) d end px qy
             (s-at, (s′-at, (t-at, (t′-at, (i, k-at, (m, l-at, last)))))) =
             comes _ r refl
-            (h x y s s′ t t′ px qy s-at (set-to eb s′-at) (set-to third t-at) (set-to fourth t′-at))
+            (h x y s s′ t t′ px qy s-at (at-place eb s′-at) (at-place third t-at) (at-place fourth t′-at))
             (two-children (set-stands s-at s′-at k-at)
             (up-to (set-stands t-at t′-at l-at) last))
 
-    module _ {u : Bool} (first : SameUnion file p (at + 1) c u) where
+    module _ {u : Bool} (first : SameUnion file ends p (at + 1) c u) where
       pub first-fails : u ≡ false → StepOf file ends Γ (Set p q) at Fails
       first-fails n = united λ x y s s′ t t′ px qy s-at s′-at t-at t′-at.
-          sym (then-fails _ (sym (first .does x s t (sets.set-stands px) (sets.set-stands s-at) (sets.set-stands t-at))
+          sym (then-fails _ (sym (first .does x s t px s-at t-at)
           ∙ n))
 
-      pub union-rule : u ≡ true → {v : Bool} → SameUnion file q b e v → {r : Condition} → r ≡ conditionOf v →
+      pub union-rule : u ≡ true → {v : Bool} → SameUnion file ends q b e v → {r : Condition} → r ≡ conditionOf v →
           StepOf file ends Γ (Set p q) at r
       union-rule n second d = united λ x y s s′ t t′ px qy s-at s′-at t-at t′-at.
-          tested d (second .does y s′ t′ (sets.set-stands qy) (sets.set-stands s′-at) (sets.set-stands t′-at))
+          tested d (second .does y s′ t′ qy s′-at t′-at)
           ∙ sym (then-passes _
-          (sym (first .does x s t (sets.set-stands px) (sets.set-stands s-at) (sets.set-stands t-at)) ∙ n))
+          (sym (first .does x s t px s-at t-at) ∙ n))
 
   module _ (can : CanTry file ends Γ 17 (Set p q) at) (eb : b ≡ endAt ends (at + 1)) (ec : c ≡ endAt ends b) where
     sets-17 : Sets file ends 3 (at + 1)
@@ -136,7 +134,7 @@ module _ {file ends : List ℕ} {Γ : Context} {p q at b c : ℕ} where
       added = sets-17 .0;
     }
 
-    pub rest-rule : {u : Bool} → RestAt file p c b (at + 1) u → {r : Condition} → r ≡ conditionOf u →
+    pub rest-rule : {u : Bool} → RestAt file ends p c b (at + 1) u → {r : Condition} → r ≡ conditionOf u →
         StepOf file ends Γ (Set p q) at r
     unfolding setRule judge
     rest-rule rest {r} e = set-rule can set17 go
@@ -145,8 +143,8 @@ module _ {file ends : List ℕ} {Γ : Context} {p q at b c : ℕ} where
         go x y (members s & members s′ & members t & child k & child l & done) d end px qy
             (s-at, (s′-at, (t-at, (i, k-at, (m, l-at, last))))) =
             comes _ r refl
-            (tested e (rest .is x t s′ s (sets.set-stands px) (sets.set-stands (set-to third-17 t-at))
-            (sets.set-stands (set-to eb s′-at)) (sets.set-stands s-at)))
+            (tested e (rest .is x t s′ s px (at-place third-17 t-at)
+            (at-place eb s′-at) s-at))
             (two-children (set-stands s-at s′-at k-at)
             (up-to (set-stands t-at qy l-at) last))
 
@@ -154,17 +152,17 @@ module _ {file ends : List ℕ} {Γ : Context} {p q at b c : ℕ} where
 abbrev restPiles : ℕ → ℕ → ℕ → Piles
 restPiles t leave s = record { first = Without t leave; second = pile.Set s Plain; third = Empty }
 
-module _ {file : List ℕ} {p t leave s : ℕ} where
-  pub can-rest-same : {ends : List ℕ} → CanRest file ends p t leave s → CanSameSet file ends p (restPiles t leave s)
+module _ {file ends : List ℕ} {p t leave s : ℕ} where
+  pub can-rest-same : CanRest file ends p t leave s → CanSameSet file ends p (restPiles t leave s)
   can-rest-same can = record {
     ends-of = can .ends-of;
     set = can .set;
-    first-pile = record { tree = _; stands = stands-without (can .most .stands) (can .left-out .stands) };
-    second-pile = record { tree = _; stands = stands-plain (can .added .stands) };
+    first-pile = record { tree = _; stands = stands-without (can .most .there) (can .left-out .there) };
+    second-pile = record { tree = _; stands = stands-plain (can .added .there) };
     third-pile = record { tree = _; stands = stands-empty };
   }
 
-  pub rest-at : {r : Bool} → SameSet file p (restPiles t leave s) r → RestAt file p t leave s r
+  pub rest-at : {r : Bool} → SameSet file ends p (restPiles t leave s) r → RestAt file ends p t leave s r
   rest-at h = record {
     is = λ l x y z a b c d.
         h .does l (without x y) z [] a (stands-without b c) (stands-plain d) stands-empty

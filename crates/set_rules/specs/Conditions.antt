@@ -23,9 +23,8 @@ use Rattle.rules.specs.Tests.{within, same}
 use Rattle.ends.specs.Ends.{EndsOf}
 use Rattle.implication.specs.Sides.{resultOf}
 use Rattle.implication.specs.declared.Condition.{Condition}
-use Rattle.goals.specs.Places.{WrittenAt, SetAt}
-use Rattle.sets.specs.Trees.{SetStands, HasSet}
-use Rattle.set_laws.specs.Members.{MembersWritten}
+use Rattle.ends.specs.Places.{WrittenAt, SetAt}
+use Rattle.sets.specs.Trees.{MembersWritten, HasSet}
 
 -- the kinds of rule 19 that have two operands
 unfoldable pub hasTwo : ℕ → Bool
@@ -34,8 +33,8 @@ hasTwo k = eqb k 3 || (eqb k 8 || (eqb k 10 || eqb k 11))
 module _ (file ends : List ℕ) where
   pub record CanInclude (q p : ℕ) : Type 0 where
     pub ends-of : EndsOf file ends
-    pub part : HasSet file q
-    pub whole : HasSet file p
+    pub part : HasSet file ends q
+    pub whole : HasSet file ends p
 
   pub record WithinAt (q p : ℕ) (r : Bool) : Type 0 where
     pub is : (Γ : Context) (x y : Members) → SetAt file ends Γ x q → SetAt file ends Γ y p →
@@ -57,16 +56,16 @@ module _ (file ends : List ℕ) where
   -- T at t, S' at `leave`, S at s
   pub record CanRest (p t leave s : ℕ) : Type 0 where
     pub ends-of : EndsOf file ends
-    pub set : HasSet file p
-    pub most : HasSet file t
-    pub left-out : HasSet file leave
-    pub added : HasSet file s
+    pub set : HasSet file ends p
+    pub most : HasSet file ends t
+    pub left-out : HasSet file ends leave
+    pub added : HasSet file ends s
 
   -- φ at f, E at e
   pub record CanSplit (p f e : ℕ) : Type 0 where
     pub ends-of : EndsOf file ends
     pub size : length file ≤ 8192
-    pub set : HasSet file p
+    pub set : HasSet file ends p
     pub φ : Expr Boolean
     pub antecedent-at : WrittenAt file ends φ f
     pub sort : Sort
@@ -77,6 +76,6 @@ module _ (file ends : List ℕ) where
     pub is : (Γ : Context) (l : Members) (φ : Expr Boolean) {k : Sort} (d : Expr k) → SetAt file ends Γ l p →
         WrittenAt file ends φ f → WrittenAt file ends d e → r ≡ onSome (operands φ d) false (λ x. same l x)
 
-pub record RestAt (file : List ℕ) (p t leave s : ℕ) (r : Bool) : Type 0 where
-  pub is : (l x y z : Members) → SetStands file l p → SetStands file x t → SetStands file y leave →
-      SetStands file z s → r ≡ same l (without x y ++ z)
+  pub record RestAt (p t leave s : ℕ) (r : Bool) : Type 0 where
+    pub is : {Γ : Context} (l x y z : Members) → SetAt file ends Γ l p → SetAt file ends Γ x t → SetAt file ends Γ y leave →
+        SetAt file ends Γ z s → r ≡ same l (without x y ++ z)

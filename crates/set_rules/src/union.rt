@@ -57,7 +57,7 @@ pub fn child_16(ends: &[u32], at: usize, p: usize, q: usize, k: usize) -> Goal
 // together.
 fn is_rest_union(w: &[u32], ends: &[u32], p: usize, t: usize, leave: usize, s: usize) -> bool
     requires { ⌜ CanRest (now w) (now ends) p t leave s ⌝ }
-    ensures { λ r. ⌜ RestAt (now (w .entry)) p t leave s r ⌝ }
+    ensures { λ r. ⌜ RestAt (now (w .entry)) (now (ends .entry)) p t leave s r ⌝ }
 {
     let piles = Piles {
         first: Pile::Without(t, leave),

@@ -10,7 +10,8 @@ use mathlib.Core.List.{List}
 use Prim.Native.Nat.{ℕ}
 use Rattle.ends.specs.Ends.{EndsOf}
 use Rattle.compare.specs.Matching.{sameNumbers}
-use Rattle.compare.specs.Places.{endAt, AnyAt}
+use Rattle.ends.specs.Places.{endAt}
+use Rattle.compare.specs.Places.{AnyAt}
 use Rattle.compare.specs.Forms.{part, antecedentNumbers, consequentNumbers, AntecedentAt, ConsequentAt}
 use Rattle.compare.specs.declared.cursor.Put.{Put}
 use Rattle.compare.specs.declared.antecedent.Antecedent.the-variants.{And, AndNot, Replaced as Changed}

@@ -8,8 +8,9 @@ use mathlib.Core.List.{List}
 use Prim.Native.Nat.{ℕ}
 use Rattle.language.specs.Syntax.{Boolean}
 use Rattle.ends.specs.Ends.{EndsOf}
-use Rattle.compare.specs.Places.{endAt, PartKnown, AnyAt}
-use Rattle.compare.proofs.Operands.{expression-inside}
+use Rattle.ends.specs.Places.{endAt, PartKnown}
+use Rattle.ends.proofs.Places.{node-known}
+use Rattle.compare.specs.Places.{AnyAt}
 use Rattle.compare.proofs.Exchange.{any-listed}
 use Rattle.sets.specs.Standing.{CanPass, MemberAt}
 
@@ -22,9 +23,7 @@ module _ {file ends : List ℕ} where
   consequent-any m e = subst (AnyAt file ends) (sym e) (m .consequent)
 
   pub any-known : {at : ℕ} → EndsOf file ends → AnyAt file ends at → PartKnown file ends at
-  any-known o x =
-      let i = expression-inside (x .expression) in
-      record { listed = any-listed o x; start = i .start; inside = i .within }
+  any-known o x = node-known o (x .expression .there)
 
   pub member-pass : {a : ℕ} → EndsOf file ends → MemberAt file ends a → CanPass ends a
   member-pass o m = record { first = any-listed o (antecedent-any m); second = any-listed o (m .consequent) }

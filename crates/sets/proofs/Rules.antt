@@ -31,7 +31,7 @@ use Rattle.sets.specs.declared.pile.Piles.{Piles}
 use Rattle.sets.proofs.Tests.{stands-numbers}
 use Rattle.sets.proofs.Items.{certain-at}
 use Rattle.sets.proofs.Piles.{set-members}
-use Rattle.sets.proofs.Trees.{expression-is, any-place, item-shows, set-is, set-place, written-is, pile-is, same-trees}
+use Rattle.sets.proofs.Trees.{item-shows, set-place, written-is, pile-is, same-trees}
 
 abbrev pub three : Pile → Pile → Pile → Piles
 three a b c = record { first = a; second = b; third = c }
@@ -40,7 +40,7 @@ module _ {file ends : List ℕ} where
   pub can-same : {p : ℕ} {piles : Piles} → CanSameSet file ends p piles → CanSame file ends p piles
   can-same c = record {
     ends-of = c .ends-of;
-    set = set-place (set-is (c .ends-of) (c .set .stands));
+    set = set-place (c .ends-of) (c .set .there);
     piles-at =
         record {
           first-at = pile-is (c .ends-of) (c .first-pile .stands) .pile-place;
@@ -50,17 +50,15 @@ module _ {file ends : List ℕ} where
   }
 
   pub set-does : {p : ℕ} {piles : Piles} {r : Bool} → EndsOf file ends →
-      r ≡ sameAll (writtenSet file ends p) (pilesNumbers file ends piles) → SameSet file p piles r
+      r ≡ sameAll (writtenSet file ends p) (pilesNumbers file ends piles) → SameSet file ends p piles r
   set-does o e = record { does = λ s x y z g h i j. e ∙ same-trees o s x y z g h i j }
 
-module _ {file : List ℕ} where
-  no-pile : HasPile file Empty
+  no-pile : HasPile file ends Empty
   no-pile = record { tree = []; stands = stands-empty }
 
-  plain-pile : {q : ℕ} → HasSet file q → HasPile file (Set q Plain)
-  plain-pile h = record { tree = h .tree; stands = stands-plain (h .stands) }
+  plain-pile : {q : ℕ} → HasSet file ends q → HasPile file ends (Set q Plain)
+  plain-pile h = record { tree = h .tree; stands = stands-plain (h .there) }
 
-module _ {file ends : List ℕ} where
   pub can-written : {p q : ℕ} → CanTwo file ends p q → CanSameSet file ends p (three (Set q Plain) Empty Empty)
   can-written c = record {
     ends-of = c .ends-of;
@@ -75,7 +73,7 @@ module _ {file ends : List ℕ} where
   can-replaced c = record {
     ends-of = c .ends-of;
     set = c .first-set;
-    first-pile = record { tree = _; stands = stands-replaced (c .second-set .stands) (c .right-side .stands) };
+    first-pile = record { tree = _; stands = stands-replaced (c .second-set .there) (c .right-side .stands) };
     second-pile = no-pile;
     third-pile = no-pile;
   }
@@ -84,7 +82,7 @@ module _ {file ends : List ℕ} where
   can-under c = record {
     ends-of = c .ends-of;
     set = c .first-set;
-    first-pile = record { tree = _; stands = stands-under (c .second-set .stands) (c .test .stands) };
+    first-pile = record { tree = _; stands = stands-under (c .second-set .there) (c .test .there) };
     second-pile = no-pile;
     third-pile = no-pile;
   }
@@ -94,9 +92,9 @@ module _ {file ends : List ℕ} where
   can-branches c = record {
     ends-of = c .ends-of;
     set = c .first-set;
-    first-pile = record { tree = _; stands = stands-under (c .then-set .stands) (c .test .stands) };
-    second-pile = record { tree = _; stands = stands-unless (c .else-set .stands) (c .test .stands) };
-    third-pile = record { tree = _; stands = stands-one (c .before .stands) (c .test .stands) };
+    first-pile = record { tree = _; stands = stands-under (c .then-set .there) (c .test .there) };
+    second-pile = record { tree = _; stands = stands-unless (c .else-set .there) (c .test .there) };
+    third-pile = record { tree = _; stands = stands-one (c .before .there) (c .test .there) };
   }
 
   pub can-union : {p s t : ℕ} → CanThree file ends p s t →
@@ -109,57 +107,57 @@ module _ {file ends : List ℕ} where
     third-pile = no-pile;
   }
 
-module _ {file : List ℕ} {p : ℕ} {r : Bool} where
-  pub rule-written : {q : ℕ} → SameSet file p (three (Set q Plain) Empty Empty) r → SameWritten file p q r
+module _ {file ends : List ℕ} {p : ℕ} {r : Bool} where
+  pub rule-written : {q : ℕ} → SameSet file ends p (three (Set q Plain) Empty Empty) r → SameWritten file ends p q r
   rule-written s = record {
     does = λ x y g h. s .does x y [] [] g (stands-plain h) stands-empty stands-empty ∙ ap (same x) (append-nil y);
   }
 
-  pub rule-replaced : {q : ℕ} {put : Put} → SameSet file p (three (Set q (Replaced put)) Empty Empty) r →
-      SameReplaced file p q put r
+  pub rule-replaced : {q : ℕ} {put : Put} → SameSet file ends p (three (Set q (Replaced put)) Empty Empty) r →
+      SameReplaced file ends p q put r
   rule-replaced s = record {
     does = λ x y a g h t.
         let z = replaceMembers y (replacement a) in
         s .does x z [] [] g (stands-replaced h t) stands-empty stands-empty ∙ ap (same x) (append-nil z);
   }
 
-  pub rule-under : {q b : ℕ} → SameSet file p (three (Set q (Under b)) Empty Empty) r → SameUnder file p q b r
+  pub rule-under : {q b : ℕ} → SameSet file ends p (three (Set q (Under b)) Empty Empty) r → SameUnder file ends p q b r
   rule-under s = record {
     does = λ x y β g h t.
         s .does x (under y β) [] [] g (stands-under h t) stands-empty stands-empty ∙ ap (same x) (append-nil (under y β));
   }
 
-  pub rule-branches : {s t b f : ℕ} → SameSet file p (three (Set s (Under b)) (Set t (Unless b)) (One f b)) r →
-      SameBranches file p s t b f r
+  pub rule-branches : {s t b f : ℕ} → SameSet file ends p (three (Set s (Under b)) (Set t (Unless b)) (One f b)) r →
+      SameBranches file ends p s t b f r
   rule-branches e = record {
     does = λ x y z β φ₀ g h i j k.
         e .does x (under y β) (under z (neg β)) (one φ₀ β) g (stands-under h j) (stands-unless i j) (stands-one k j);
   }
 
-  pub rule-union : {s t : ℕ} → SameSet file p (three (Set s Plain) (Set t Plain) Empty) r → SameUnion file p s t r
+  pub rule-union : {s t : ℕ} → SameSet file ends p (three (Set s Plain) (Set t Plain) Empty) r → SameUnion file ends p s t r
   rule-union e = record {
     does = λ x y z g h i.
         e .does x y z [] g (stands-plain h) (stands-plain i) stands-empty ∙ ap (λ l. same x (y ++ l)) (append-nil z);
   }
 
 module _ {file ends : List ℕ} where
-  pub set-counted : {q k : ℕ} → EndsOf file ends → HasSet file q → k ≡ countAt file q → MembersAt file ends k (q + 1)
-  set-counted o h e = set-members (set-place (set-is o (h .stands))) e
+  pub set-counted : {q k : ℕ} → EndsOf file ends → HasSet file ends q → k ≡ countAt file q → MembersAt file ends k (q + 1)
+  set-counted o h e = set-members (set-place o (h .there)) e
 
   -- rule 13: the word of true is 9:1
   pub find-test : {p b k : ℕ} → CanTest file ends p b → k ≡ countAt file p → CanFind file ends k (p + 1) (certainItem b)
   find-test c e = record {
     ends-of = c .ends-of;
     members = set-counted (c .ends-of) (c .first-set) e;
-    item-at = certain-at (c .ends-of) (any-place (expression-is (c .ends-of) (c .test .stands)));
+    item-at = certain-at (c .ends-of) (record { sort = _; expression = c .test });
   }
 
   pub rule-test : {p b k : ℕ} {r : Bool} → EndsOf file ends → k ≡ countAt file p →
-      r ≡ standsIn (itemHalves file ends (certainItem b)) (written file ends k (p + 1)) → TestStands file p b r
+      r ≡ standsIn (itemHalves file ends (certainItem b)) (written file ends k (p + 1)) → TestStands file ends p b r
   rule-test {p} {b} o e h = record {
     does = λ x β g t.
         let a = written-is o g in
-        let c = item-shows {item = certainItem b} is-true (is-plain (expression-is o t .part-has)) in
+        let c = item-shows {item = certainItem b} is-true (is-plain t) in
         h
         ∙ ap₂ standsIn (c .0) (ap (λ n. written file ends n (p + 1)) e ∙ a .numbers-are)
         ∙ sym (stands-numbers (member (truth true) β) x (c .1) (a .fit-all));

@@ -9,8 +9,9 @@ use Rattle.rules.specs.Words.{words}
 use Rattle.rules.specs.Assertion.{Member, Members}
 use Rattle.rules.specs.Sets.{listed, without}
 use Rattle.rules.specs.Tests.{sameMember, stands, within, same}
+use Rattle.layout.specs.Nodes.{AllInRange}
 use Rattle.compare.specs.Matching.{numbers}
-use Rattle.compare.proofs.Numbers.{FitsWords, numbers-words}
+use Rattle.compare.proofs.Numbers.{numbers-tell}
 use Rattle.compare.proofs.SameNumbers.{numbers-same}
 use Rattle.sets.specs.Items.{Halves, sameHalves}
 use Rattle.sets.specs.Lists.{standsIn, withinAll, sameAll, withoutAll}
@@ -23,7 +24,7 @@ membersNumbers [] = []
 membersNumbers (m ∷ p) = halvesOf m ∷ membersNumbers p
 
 abbrev pub FitsMember : Member → Type 0
-FitsMember m = FitsWords (words (m .antecedent)) × FitsWords (words (m .consequent))
+FitsMember m = AllInRange (words (m .antecedent)) × AllInRange (words (m .consequent))
 
 abbrev pub FitsAll : Members → Type 0
 FitsAll [] = Unit {0}
@@ -46,8 +47,8 @@ member-numbers m n f g =
     let c = words (m .consequent) in
     let d = words (n .consequent) in
     ap₂ _&&_
-    (sym (numbers-same a b (numbers-words a b (f .0) (g .0))))
-    (sym (numbers-same c d (numbers-words c d (f .1) (g .1))))
+    (sym (numbers-same a b (numbers-tell a b (f .0) (g .0))))
+    (sym (numbers-same c d (numbers-tell c d (f .1) (g .1))))
 
 pub stands-numbers : (m : Member) (p : Members) → FitsMember m → FitsAll p →
     stands m p ≡ standsIn (halvesOf m) (membersNumbers p)

@@ -1,15 +1,14 @@
 -- The numbers that are compared are those of the trees that stand there.
 -- Assumes nothing.
---     PartIs, expression-is                  an expression at its place
---     MemberIs, MembersAre, SetIs, set-is    a member; members one after the other; a written set
+--     set-count, set-written, set-place      a written set: its count, its members at their places
 --     Shows, item-shows, plain-shows .. seen-all
 --                                            members as a view shows them
 --     PileIs, pile-is                        a pile is a set that a rule makes
 --     same-trees                             a written set is the same as three piles
 use mathlib.Core.Path.{_≡_, refl, sym, ap, ap₂, subst, _∙_}
 use mathlib.Core.List.{List, [], _∷_, _++_, map}
-use Prim.Native.Nat.{ℕ, zero, suc, _+_, _<_, _≤_}
-use lib.IntN.{pos}
+use Prim.Native.Nat.{ℕ, _+_, _≤_}
+use native.Mathlib.Omega.{arith}
 use lib.ListN.{length}
 use Rattle.language.specs.Syntax.{Sort, Boolean, Expr, and, neg, Assignment}
 use Rattle.rules.specs.Words.{words}
@@ -18,25 +17,22 @@ use Rattle.rules.specs.Context.{Context}
 use Rattle.rules.specs.Replace.{Replacement, replacement, replace, replaceMembers}
 use Rattle.rules.specs.Sets.{under}
 use Rattle.rules.specs.Tests.{same}
-use Rattle.layout.specs.Spelling.{FitsExpression, memberWords, membersWords, FitsMembers, FitsSet}
-use Rattle.layout.specs.EvidenceWords.{expressionPart, setPart}
-use Rattle.layout.specs.Standing.{Stands, PartStands}
-use Rattle.layout.proofs.Stands.{parted}
-use Rattle.layout.proofs.Words.{payload-of-word}
+use Rattle.layout.specs.Nodes.{expressionNode, setNode, halves, AllInRange}
+use Rattle.layout.proofs.Nodes.{node-range}
 use Rattle.ends.specs.Ends.{EndsOf}
+use Rattle.ends.specs.Places.{endAt, NodeAt, WrittenAt, NodesAt}
+use Rattle.ends.proofs.Places.{parts-at, node-head, node-inside}
 use Rattle.compare.specs.Matching.{between, numbers}
-use Rattle.compare.specs.Places.{endAt, ExpressionAt, AnyAt}
 use Rattle.compare.specs.declared.cursor.Put.{Put}
-use Rattle.compare.proofs.Operands.{to-end, expression-inside}
-use Rattle.compare.proofs.Numbers.{stands-between, FitsWords, fits-words}
+use Rattle.compare.proofs.Operands.{written-any}
+use Rattle.compare.proofs.Numbers.{stands-between}
 use Rattle.compare.proofs.Replaced.{Replaces, scalar-replaces, array-replaces}
-use Rattle.compare.proofs.Halves.{PartHas, has, AntecedentIs, is-written, is-and, is-and-not, is-replaced}
-use Rattle.compare.proofs.Halves.{ConsequentIs, is-plain, is-exchanged}
+use Rattle.compare.proofs.Halves.{AntecedentIs, is-written, is-and, is-and-not, is-replaced, ConsequentIs, is-plain, is-exchanged}
 use Rattle.sets.specs.Items.{pastMember, Halves, seenItem, pairItem, itemHalves, seenAs}
 use Rattle.sets.specs.Lists.{seenAll, sameAll, withoutAll}
 use Rattle.sets.specs.Standing.{MemberAt, MembersAt, ViewAt}
 use Rattle.sets.specs.Piles.{countAt, writtenSet, pileNumbers, pilesNumbers, SetAt, PileAt}
-use Rattle.sets.specs.Trees.{ExpressionStands, SetStands, RightSide, PutStands, put-scalar, put-array, PileStands}
+use Rattle.sets.specs.Trees.{MemberWritten, MembersWritten, RightSide, PutStands, put-scalar, put-array, PileStands}
 use Rattle.sets.specs.Trees.{stands-empty, stands-one, stands-plain, stands-under, stands-unless, stands-replaced}
 use Rattle.sets.specs.Trees.{stands-without}
 use Rattle.sets.specs.declared.item.View.{View}
@@ -44,95 +40,50 @@ use Rattle.sets.specs.declared.item.View.the-variants.{Plain, Under, Unl
 use Rattle.sets.specs.declared.item.Item.{Item}
 use Rattle.sets.specs.declared.pile.Pile.{Pile}
 use Rattle.sets.specs.declared.pile.Piles.{Piles}
-use Rattle.sets.proofs.Equal.{halves}
+use Rattle.sets.proofs.Equal as equal
 use Rattle.sets.proofs.Tests.{halvesOf, membersNumbers, FitsMember, FitsAll, fits-all-append, members-append}
 use Rattle.sets.proofs.Tests.{same-numbers, without-numbers, without-fits}
 
--- an expression at its place: where it ends, its numbers, its words in range
-pub record PartIs (file ends : List ℕ) {k : Sort} (e : Expr k) (at : ℕ) : Type 0 where
-  pub place : ExpressionAt file ends k at
-  pub part-has : PartHas file ends e at
-
-pub record MemberIs (file ends : List ℕ) (m : Member) (at : ℕ) : Type 0 where
-  pub antecedent-is : PartIs file ends (m .antecedent) at
-  pub consequent-is : PartIs file ends (m .consequent) (endAt ends at)
-
-abbrev pub MembersAre : List ℕ → List ℕ → Members → ℕ → Type 0
-MembersAre file ends [] at = Unit {0}
-MembersAre file ends (m ∷ p) at = MemberIs file ends m at × MembersAre file ends p (pastMember ends at)
-
-pub record SetIs (file ends : List ℕ) (p : Members) (at : ℕ) : Type 0 where
-  pub inside : at < length file
-  pub count : countAt file at ≡ length p
-  pub members : MembersAre file ends p (at + 1)
-
-module _ {file ends : List ℕ} (ends-of : EndsOf file ends) where
-  part-to : {k : Sort} (e : Expr k) (d at p : ℕ) → PartStands file (expressionPart e) d at p →
-      PartIs file ends e at × (endAt ends at ≡ p)
-  part-to e d at p s =
-      let x = to-end ends-of (record { tree = e; levels = d; stands = s }) in
-      let y = subst (λ i. PartStands file (expressionPart e) d at i) (sym (x .1)) s in
-      (record { place = x .0; part-has = has d y }, x .1)
-
-  pub expression-is : {k : Sort} {e : Expr k} {at : ℕ} → ExpressionStands file e at → PartIs file ends e at
-  expression-is {e = e} {at} x = part-to e (x .levels) at (x .next) (x .stands) .0
-
-  member-to : (m : Member) (d at p : ℕ) →
-      Stands file (memberWords m) (FitsExpression (m .antecedent) d × FitsExpression (m .consequent) d) at p →
-      MemberIs file ends m at × (pastMember ends at ≡ p)
-  member-to m d at p s =
-      parted (words (m .antecedent)) (words (m .consequent)) s λ q x y.
-      let a = part-to (m .antecedent) d at q x in
-      let c = part-to (m .consequent) d q p y in (
-        record {
-          antecedent-is = a .0;
-          consequent-is = subst (λ i. PartIs file ends (m .consequent) i) (sym (a .1)) (c .0);
-        },
-        ap (endAt ends) (a .1) ∙ c .1,
-      )
-
-  members-to : (l : Members) (d at p : ℕ) → Stands file (membersWords l) (FitsMembers l d) at p → MembersAre file ends l at
-  members-to [] d at p s = tt
-  members-to (m ∷ l) d at p s =
-      parted (memberWords m) (membersWords l) s λ q x y.
-      let z = member-to m d at q x in
-      (z .0, subst (MembersAre file ends l) (sym (z .1)) (members-to l d q p y))
-
-  set-to : (Γ : Context) (l : Members) (d at p : ℕ) → PartStands file (setPart Γ l) d at p → SetIs file ends l at
-  unfolding FitsSet
-  set-to Γ l zero at p s = absurd (s .fit)
-  set-to Γ l (suc d) at p s = record {
-    inside = s .stand .0;
-    count = payload-of-word file at 32 (pos (length l)) (s .stand .1) (s .fit .0 .1);
-    members = members-to l d (at + 1) p (record { stand = s .stand .2; fit = s .fit .1 });
-  }
-
-  pub set-is : {l : Members} {at : ℕ} → SetStands file l at → SetIs file ends l at
-  set-is {l} {at} x = set-to (x .Γ) l (x .levels) at (x .next) (x .stands)
+members-to : (file ends : List ℕ) (l : Members) (at p : ℕ) → NodesAt file ends (halves l) at p → MembersWritten file ends l at
+members-to file ends [] at p y = tt
+members-to file ends (m ∷ l) at p y = (
+  record { antecedent-at = y .0; consequent-at = y .1 .0 },
+  members-to file ends l (pastMember ends at) p (y .1 .1),
+)
 
 module _ {file ends : List ℕ} where
-  pub member-place : {m : Member} {at : ℕ} → MemberIs file ends m at → MemberAt file ends at
+  pub set-count : {Γ : Context} {p : Members} {at : ℕ} → NodeAt file ends (setNode Γ p) at → countAt file at ≡ length p
+  set-count x = node-head x .content
+
+  pub set-written : {Γ : Context} {p : Members} {at : ℕ} → EndsOf file ends → NodeAt file ends (setNode Γ p) at →
+      MembersWritten file ends p (at + 1)
+  set-written {p = p} {at} o x = members-to file ends p (at + 1) (endAt ends at) (parts-at o x)
+
+  member-place : {m : Member} {at : ℕ} → MemberWritten file ends m at → MemberAt file ends at
   member-place x =
-      record { antecedent = x .antecedent-is .place; consequent = record { sort = _; expression = x .consequent-is .place } }
+      record { antecedent = record { tree = _; there = x .antecedent-at }; consequent = written-any (x .consequent-at) }
 
-  pub any-place : {k : Sort} {e : Expr k} {at : ℕ} → PartIs file ends e at → AnyAt file ends at
-  any-place {k} x = record { sort = k; expression = x .place }
-
-pub members-place : (file ends : List ℕ) (p : Members) (at : ℕ) → MembersAre file ends p at → MembersAt file ends (length p) at
+members-place : (file ends : List ℕ) (p : Members) (at : ℕ) → MembersWritten file ends p at →
+    MembersAt file ends (length p) at
 unfolding MembersAt
 members-place file ends [] at m = tt
 members-place file ends (x ∷ p) at m = (member-place (m .0), members-place file ends p (pastMember ends at) (m .1))
 
-module _ {file ends : List ℕ} where
-  pub set-place : {p : Members} {at : ℕ} → SetIs file ends p at → SetAt file ends at
-  set-place {p} {at} s = record {
-    inside = s .inside;
-    members = subst (λ k. MembersAt file ends k (at + 1)) (sym (s .count)) (members-place file ends p (at + 1) (s .members));
-  }
+pub set-place : {file ends : List ℕ} {Γ : Context} {p : Members} {at : ℕ} → EndsOf file ends →
+    NodeAt file ends (setNode Γ p) at → SetAt file ends at
+set-place {file} {ends} {p = p} {at} o x =
+    let i = node-inside x in
+    let s = i .start in
+    let w = i .within in
+    record {
+      inside = omega arith;
+      members =
+          subst (λ k. MembersAt file ends k (at + 1)) (sym (set-count x)) (members-place file ends p (at + 1) (set-written o x));
+    }
 
 -- a member as a view shows it is the member that g makes
 pub record Shows (file ends : List ℕ) (view : View) (g : Member → Member) : Type 0 where
-  pub shows : (m : Member) (at : ℕ) → MemberIs file ends m at →
+  pub shows : (m : Member) (at : ℕ) → MemberWritten file ends m at →
       (seenAs file ends view at ≡ halvesOf (g m)) × FitsMember (g m)
 
 pub record AllShown (file ends : List ℕ) (l : List Halves) (p : Members) : Type 0 where
@@ -145,12 +96,12 @@ pub item-shows : {file ends : List ℕ} {item : Item} {φ : Expr Boolean} {k : S
     (itemHalves file ends item ≡ halvesOf (member φ e)) × FitsMember (member φ e)
 unfolding itemHalves
 item-shows x y = (
-  ap₂ halves (x .numbers-are) (y .numbers-are),
+  ap₂ equal.halves (x .numbers-are) (y .numbers-are),
   (x .fits, y .fits),
 )
 
 module _ {file ends : List ℕ} {view : View} {g : Member → Member} (s : Shows file ends view g) where
-  seen-each : (p : Members) (at : ℕ) → MembersAre file ends p at →
+  seen-each : (p : Members) (at : ℕ) → MembersWritten file ends p at →
       AllShown file ends (seenAll file ends view (length p) at) (map g p)
   unfolding seenAll membersNumbers
   seen-each [] at m = record { numbers-are = refl; fit-all = tt }
@@ -159,12 +110,12 @@ module _ {file ends : List ℕ} {view : View} {g : Member → Member} (s : Shows
       let r = seen-each p (pastMember ends at) (m .1) in
       record { numbers-are = ap₂ _∷_ (h .0) (r .numbers-are); fit-all = (h .1, r .fit-all) }
 
-  pub seen-all : {p : Members} {at : ℕ} → SetIs file ends p at →
+  pub seen-all : {Γ : Context} {p : Members} {at : ℕ} → EndsOf file ends → NodeAt file ends (setNode Γ p) at →
       AllShown file ends (seenAll file ends view (countAt file at) (at + 1)) (map g p)
-  seen-all {p} {at} x =
-      let r = seen-each p (at + 1) (x .members) in
+  seen-all {p = p} {at} o x =
+      let r = seen-each p (at + 1) (set-written o x) in
       record {
-        numbers-are = ap (λ k. seenAll file ends view k (at + 1)) (x .count) ∙ r .numbers-are;
+        numbers-are = ap (λ k. seenAll file ends view k (at + 1)) (set-count x) ∙ r .numbers-are;
         fit-all = r .fit-all;
       }
 
@@ -172,10 +123,10 @@ module _ {file ends : List ℕ} where
   pub plain-shows : Shows file ends Plain (λ m. m)
   unfolding seenItem
   plain-shows = record {
-    shows = λ m at x. item-shows (is-written (x .antecedent-is .part-has)) (is-plain (x .consequent-is .part-has));
+    shows = λ m at x. item-shows (is-written (x .antecedent-at)) (is-plain (x .consequent-at));
   }
 
-  module _ {β : Expr Boolean} {b : ℕ} (t : PartIs file ends β b) where
+  module _ {β : Expr Boolean} {b : ℕ} (t : WrittenAt file ends β b) where
     abbrev guarded : Expr Boolean → Member → Member
     guarded γ m = member (and (m .antecedent) γ) (m .consequent)
 
@@ -183,14 +134,14 @@ module _ {file ends : List ℕ} where
     unfolding seenItem
     under-shows = record {
       shows = λ m at x.
-          item-shows (is-and (x .antecedent-is .part-has) (t .part-has)) (is-plain (x .consequent-is .part-has));
+          item-shows (is-and (x .antecedent-at) (t)) (is-plain (x .consequent-at));
     }
 
     pub unless-shows : Shows file ends (Unless b) (guarded (neg β))
     unfolding seenItem
     unless-shows = record {
       shows = λ m at x.
-          item-shows (is-and-not (x .antecedent-is .part-has) (t .part-has)) (is-plain (x .consequent-is .part-has));
+          item-shows (is-and-not (x .antecedent-at) (t)) (is-plain (x .consequent-at));
     }
 
   pub replaced-shows : {put : Put} {f : Replacement} → Replaces file put f →
@@ -198,7 +149,7 @@ module _ {file ends : List ℕ} where
   unfolding seenItem
   replaced-shows r = record {
     shows = λ m at x.
-        item-shows (is-replaced r (x .antecedent-is .part-has)) (is-exchanged r (x .consequent-is .part-has));
+        item-shows (is-replaced r (x .antecedent-at)) (is-exchanged r (x .consequent-at));
   }
 
 -- what a pile names stands there, and its members' numbers are those of a set
@@ -221,16 +172,18 @@ map-replaced [] f = refl
 map-replaced (m ∷ p) f = ap (λ l. member (replace (m .antecedent) f) (replace (m .consequent) f) ∷ l) (map-replaced p f)
 
 module _ {file ends : List ℕ} (ends-of : EndsOf file ends) where
-  side-is : {j : Sort} {put : Put} {k x : ℕ} {e : Expr j} → RightSide file put k x e →
-      (put .to ≤ length file) × (between file (put .from) (put .to) ≡ numbers (words e)) × FitsWords (words e)
+  side-is : {j : Sort} {put : Put} {k x : ℕ} {e : Expr j} → RightSide file ends put k x e →
+      (put .to ≤ length file) × (between file (put .from) (put .to) ≡ numbers (words e)) × AllInRange (words e)
   side-is {put = put} {e = e} r =
-      let i = expression-inside (record { tree = e; levels = r .levels; stands = r .stands }) in (
-        i .within,
-        stands-between file (put .from) (words e) (put .to) (r .stands .stand),
-        fits-words (r .levels) e (r .stands .fit),
+      let y = r .there in
+      let i = node-inside y in (
+        omega (arith, r .end-is, i .within),
+        ap (between file (put .from)) (r .end-is)
+            ∙ stands-between file (put .from) (words e) (endAt ends (put .from)) (y .stands .stand),
+        node-range (y .levels) (expressionNode e) (y .stands .fit),
       )
 
-  put-is : {put : Put} {a : Assignment} → PutStands file put a → (put .to ≤ length file) × Replaces file put (replacement a)
+  put-is : {put : Put} {a : Assignment} → PutStands file ends put a → (put .to ≤ length file) × Replaces file put (replacement a)
   put-is {put} (put-scalar {x = x} {e = e} r) =
       let s = side-is r in
       (s .0, scalar-replaces file put x e (r .small) (r .word-is) (s .1) (s .2))
@@ -238,47 +191,40 @@ module _ {file ends : List ℕ} (ends-of : EndsOf file ends) where
       let s = side-is r in
       (s .0, array-replaces file put x e (r .small) (r .word-is) (s .1) (s .2))
 
-  pub written-is : {p : Members} {at : ℕ} → SetStands file p at → AllShown file ends (writtenSet file ends at) p
-  written-is {p} {at} s = subst (AllShown file ends (writtenSet file ends at)) (map-same p) (seen-all plain-shows (set-is ends-of s))
+  pub written-is : {Γ : Context} {p : Members} {at : ℕ} → NodeAt file ends (setNode Γ p) at →
+      AllShown file ends (writtenSet file ends at) p
+  written-is {p = p} {at} s =
+      subst (AllShown file ends (writtenSet file ends at)) (map-same p) (seen-all plain-shows ends-of s)
 
-  pub pile-is : {pile : Pile} {x : Members} → PileStands file pile x → PileIs file ends pile x
+  pub pile-is : {pile : Pile} {x : Members} → PileStands file ends pile x → PileIs file ends pile x
   unfolding pileNumbers PileAt ViewAt membersNumbers
   pile-is stands-empty = record { pile-place = tt; shown = record { numbers-are = refl; fit-all = tt } }
-  pile-is (stands-one u v) =
-      let a = expression-is ends-of u in
-      let c = expression-is ends-of v in
-      let h = item-shows {item = pairItem _ _} (is-written (a .part-has)) (is-plain (c .part-has)) in
+  pile-is (stands-one a c) =
+      let h = item-shows {item = pairItem _ _} (is-written a) (is-plain c) in
       record {
-        pile-place = (any-place a, any-place c);
+        pile-place = (written-any a, written-any c);
         shown = record { numbers-are = ap (λ l. l ∷ []) (h .0); fit-all = (h .1, tt) };
       }
-  pile-is (stands-plain s) = record { pile-place = (set-place (set-is ends-of s), tt); shown = written-is s }
-  pile-is (stands-under {at} {b} {q} {β} s t) =
-      let x = set-is ends-of s in
-      let c = expression-is ends-of t in
-      record {
-        pile-place = (set-place x, any-place c);
-        shown = subst (AllShown file ends _) (map-under q β) (seen-all (under-shows c) x);
-      }
-  pile-is (stands-unless {at} {b} {q} {β} s t) =
-      let x = set-is ends-of s in
-      let c = expression-is ends-of t in
-      record {
-        pile-place = (set-place x, any-place c);
-        shown = subst (AllShown file ends _) (map-under q (neg β)) (seen-all (unless-shows c) x);
-      }
-  pile-is (stands-replaced {at} {put} {q} {a} s t) =
-      let x = set-is ends-of s in
+  pile-is (stands-plain s) = record { pile-place = (set-place ends-of s, tt); shown = written-is s }
+  pile-is (stands-under {q = q} {β} x c) = record {
+    pile-place = (set-place ends-of x, written-any c);
+    shown = subst (AllShown file ends _) (map-under q β) (seen-all (under-shows c) ends-of x);
+  }
+  pile-is (stands-unless {q = q} {β} x c) = record {
+    pile-place = (set-place ends-of x, written-any c);
+    shown = subst (AllShown file ends _) (map-under q (neg β)) (seen-all (unless-shows c) ends-of x);
+  }
+  pile-is (stands-replaced {q = q} {a} x t) =
       let c = put-is t in
       record {
-        pile-place = (set-place x, c .0);
-        shown = subst (AllShown file ends _) (map-replaced q (replacement a)) (seen-all (replaced-shows (c .1)) x);
+        pile-place = (set-place ends-of x, c .0);
+        shown = subst (AllShown file ends _) (map-replaced q (replacement a)) (seen-all (replaced-shows (c .1)) ends-of x);
       }
   pile-is (stands-without {t = t} {s = s} u v) =
       let x = written-is u in
       let y = written-is v in
       record {
-        pile-place = (set-place (set-is ends-of u), set-place (set-is ends-of v));
+        pile-place = (set-place ends-of u, set-place ends-of v);
         shown =
             record {
               numbers-are = ap₂ withoutAll (x .numbers-are) (y .numbers-are) ∙ sym (without-numbers t s (x .fit-all) (y .fit-all));
@@ -287,11 +233,11 @@ module _ {file ends : List ℕ} (ends-of : EndsOf file ends) where
       }
 
   -- a written set and three piles
-  pub same-trees : {p : ℕ} {piles : Piles} (s x y z : Members) → SetStands file s p → PileStands file (piles .first) x →
-      PileStands file (piles .second) y → PileStands file (piles .third) z →
+  pub same-trees : {Γ : Context} {p : ℕ} {piles : Piles} (s x y z : Members) → NodeAt file ends (setNode Γ s) p →
+      PileStands file ends (piles .first) x → PileStands file ends (piles .second) y → PileStands file ends (piles .third) z →
       sameAll (writtenSet file ends p) (pilesNumbers file ends piles) ≡ same s (x ++ (y ++ z))
   unfolding pilesNumbers
-  same-trees {p} {piles} s x y z g h i j =
+  same-trees {p = p} {piles} s x y z g h i j =
       let w = written-is g in
       let a = pile-is h .shown in
       let b = pile-is i .shown in

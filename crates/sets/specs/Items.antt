@@ -11,7 +11,7 @@ use mathlib.Core.Bool.{Bool, _&&_}
 use mathlib.Core.List.{List}
 use Prim.Native.Nat.{ℕ}
 use Rattle.compare.specs.Matching.{sameNumbers}
-use Rattle.compare.specs.Places.{endAt}
+use Rattle.ends.specs.Places.{endAt}
 use Rattle.compare.specs.Forms.{antecedentNumbers, consequentNumbers}
 use Rattle.compare.specs.declared.antecedent.Antecedent.the-variants.{Written as Alone, And, AndNot, Replaced as Changed, True}
 use Rattle.compare.specs.declared.consequent.Consequent.the-variants.{Written, Replaced as Exchanged}

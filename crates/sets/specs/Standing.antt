@@ -1,6 +1,6 @@
 -- Members, views and items stand in a file: what the functions that compare them ask for.
--- Working: `member-place`, `members-place`, `any-place` and `set-place` of proofs/Trees say that trees that stand in
--- the file stand so. Assumes nothing.
+-- Working: `member-place`, `members-place` and `set-place` of proofs/Trees say that trees that stand in the file stand
+-- so. Assumes nothing.
 --     CanPass                         a member's two places are in the list of ends
 --     MemberAt                        a boolean and an expression of any sort stand there
 --     ViewAt                          what a view names stands there
@@ -13,7 +13,8 @@ use Prim.Native.Nat.{ℕ, zero, suc, _<_, _≤_}
 use lib.ListN.{length}
 use Rattle.language.specs.Syntax.{Boolean}
 use Rattle.ends.specs.Ends.{EndsOf}
-use Rattle.compare.specs.Places.{endAt, ExpressionAt, AnyAt}
+use Rattle.ends.specs.Places.{endAt}
+use Rattle.compare.specs.Places.{ExpressionAt, AnyAt}
 use Rattle.compare.specs.Forms.{AntecedentAt, ConsequentAt}
 use Rattle.sets.specs.Items.{pastMember}
 use Rattle.sets.specs.declared.item.View.{View}

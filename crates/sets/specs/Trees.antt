@@ -1,49 +1,45 @@
 -- The trees that stand where sets are compared, and what the comparisons promise of them.
--- Working: `can-same` and `set-does` of proofs/Rules tie it to the numbers that are compared, `set-stands` and
--- `has-set` of set_laws/proofs/Sets to the sets of a goal. Assumes nothing.
---     ExpressionStands, SetStands      an expression, a written set stands at a place
+-- Working: `can-same` and `set-does` of proofs/Rules tie it to the numbers that are compared. Assumes nothing.
+--     MemberWritten, MembersWritten    a member at its place; members one after the other
 --     PutStands                        the word of an identifier, and its right side between two places
 --     PileStands                       a pile is a set that a rule makes of written ones
---     HasExpression, HasSet, HasPile   some such tree is there
+--     HasSet, HasPut, HasPile          some such tree is there
 --     CanSameSet, SameSet              a written set is the same as three piles together
 use mathlib.Core.Path.{_≡_}
 use mathlib.Core.Bool.{Bool}
-use mathlib.Core.List.{List, [], _++_}
+use mathlib.Core.List.{List, [], _∷_, _++_}
 use Prim.Native.Nat.{ℕ, _+_, _*_, _≤_}
 use Rattle.language.specs.Syntax.{Sort, Arithmetic, Boolean, Array, Expr, neg, Assignment, toScalar, toArray}
-use Rattle.rules.specs.Assertion.{Members, one}
+use Rattle.rules.specs.Assertion.{Member, Members, one}
 use Rattle.rules.specs.Context.{Context}
 use Rattle.rules.specs.Replace.{replacement, replaceMembers}
 use Rattle.rules.specs.Sets.{under, without}
 use Rattle.rules.specs.Tests.{same}
-use Rattle.layout.specs.EvidenceWords.{expressionPart, setPart}
-use Rattle.layout.specs.Standing.{PartStands}
 use Rattle.layout.specs.Bytes.{payloads}
 use Rattle.ends.specs.Ends.{EndsOf}
+use Rattle.ends.specs.Places.{endAt, WrittenAt, SetAt}
 use Rattle.compare.specs.declared.cursor.Put.{Put}
+use Rattle.sets.specs.Items.{pastMember}
 use Rattle.sets.specs.declared.item.View.the-variants.{Plain, Under, Unless, Replaced}
 use Rattle.sets.specs.declared.pile.Pile.{Pile}
 use Rattle.sets.specs.declared.pile.Pile.the-variants.{Empty, One, Set, Without}
 use Rattle.sets.specs.declared.pile.Piles.{Piles}
 
-module _ (file : List ℕ) where
-  pub record ExpressionStands {k : Sort} (e : Expr k) (at : ℕ) : Type 0 where
-    pub levels : ℕ
-    pub next : ℕ
-    pub stands : PartStands file (expressionPart e) levels at next
+module _ (file ends : List ℕ) where
+  pub record MemberWritten (m : Member) (at : ℕ) : Type 0 where
+    pub antecedent-at : WrittenAt file ends (m .antecedent) at
+    pub consequent-at : WrittenAt file ends (m .consequent) (endAt ends at)
 
-  pub record SetStands (p : Members) (at : ℕ) : Type 0 where
-    pub Γ : Context
-    pub levels : ℕ
-    pub next : ℕ
-    pub stands : PartStands file (setPart Γ p) levels at next
+  abbrev pub MembersWritten : Members → ℕ → Type 0
+  MembersWritten [] at = Unit {0}
+  MembersWritten (m ∷ l) at = MemberWritten m at × MembersWritten l (pastMember ends at)
 
   -- the word k:x, and a right side between the two places
   pub record RightSide {j : Sort} (put : Put) (k x : ℕ) (e : Expr j) : Type 0 where
     pub small : x ≤ 31
     pub word-is : put .word ≡ k * payloads + x
-    pub levels : ℕ
-    pub stands : PartStands file (expressionPart e) levels (put .from) (put .to)
+    pub there : WrittenAt file ends e (put .from)
+    pub end-is : put .to ≡ endAt ends (put .from)
 
   -- rules 3 and 4
   pub data PutStands (put : Put) : Assignment → Type 0 where
@@ -52,25 +48,22 @@ module _ (file : List ℕ) where
 
   pub data PileStands : Pile → Members → Type 0 where
     stands-empty : PileStands Empty []
-    stands-one : {f b : ℕ} {φ : Expr Boolean} {k : Sort} {e : Expr k} → ExpressionStands φ f → ExpressionStands e b →
+    stands-one : {f b : ℕ} {φ : Expr Boolean} {k : Sort} {e : Expr k} → WrittenAt file ends φ f → WrittenAt file ends e b →
         PileStands (One f b) (one φ e)
-    stands-plain : {at : ℕ} {q : Members} → SetStands q at → PileStands (Set at Plain) q
-    stands-under : {at b : ℕ} {q : Members} {β : Expr Boolean} → SetStands q at → ExpressionStands β b →
-        PileStands (Set at (Under b)) (under q β)
-    stands-unless : {at b : ℕ} {q : Members} {β : Expr Boolean} → SetStands q at → ExpressionStands β b →
-        PileStands (Set at (Unless b)) (under q (neg β))
-    stands-replaced : {at : ℕ} {put : Put} {q : Members} {a : Assignment} → SetStands q at → PutStands put a →
-        PileStands (Set at (Replaced put)) (replaceMembers q (replacement a))
-    stands-without : {at from : ℕ} {t s : Members} → SetStands t at → SetStands s from →
+    stands-plain : {Γ : Context} {at : ℕ} {q : Members} → SetAt file ends Γ q at → PileStands (Set at Plain) q
+    stands-under : {Γ : Context} {at b : ℕ} {q : Members} {β : Expr Boolean} → SetAt file ends Γ q at →
+        WrittenAt file ends β b → PileStands (Set at (Under b)) (under q β)
+    stands-unless : {Γ : Context} {at b : ℕ} {q : Members} {β : Expr Boolean} → SetAt file ends Γ q at →
+        WrittenAt file ends β b → PileStands (Set at (Unless b)) (under q (neg β))
+    stands-replaced : {Γ : Context} {at : ℕ} {put : Put} {q : Members} {a : Assignment} → SetAt file ends Γ q at →
+        PutStands put a → PileStands (Set at (Replaced put)) (replaceMembers q (replacement a))
+    stands-without : {Γ Δ : Context} {at from : ℕ} {t s : Members} → SetAt file ends Γ t at → SetAt file ends Δ s from →
         PileStands (Without at from) (without t s)
 
-  pub record HasExpression (k : Sort) (at : ℕ) : Type 0 where
-    pub tree : Expr k
-    pub stands : ExpressionStands tree at
-
   pub record HasSet (at : ℕ) : Type 0 where
+    pub Γ : Context
     pub tree : Members
-    pub stands : SetStands tree at
+    pub there : SetAt file ends Γ tree at
 
   pub record HasPut (put : Put) : Type 0 where
     pub tree : Assignment
@@ -80,14 +73,14 @@ module _ (file : List ℕ) where
     pub tree : Members
     pub stands : PileStands pile tree
 
-pub record CanSameSet (file ends : List ℕ) (p : ℕ) (piles : Piles) : Type 0 where
-  pub ends-of : EndsOf file ends
-  pub set : HasSet file p
-  pub first-pile : HasPile file (piles .first)
-  pub second-pile : HasPile file (piles .second)
-  pub third-pile : HasPile file (piles .third)
+  pub record CanSameSet (p : ℕ) (piles : Piles) : Type 0 where
+    pub ends-of : EndsOf file ends
+    pub set : HasSet p
+    pub first-pile : HasPile (piles .first)
+    pub second-pile : HasPile (piles .second)
+    pub third-pile : HasPile (piles .third)
 
--- the written set is the same as the three piles together
-pub record SameSet (file : List ℕ) (p : ℕ) (piles : Piles) (r : Bool) : Type 0 where
-  pub does : (s x y z : Members) → SetStands file s p → PileStands file (piles .first) x →
-      PileStands file (piles .second) y → PileStands file (piles .third) z → r ≡ same s (x ++ (y ++ z))
+  -- the written set is the same as the three piles together
+  pub record SameSet (p : ℕ) (piles : Piles) (r : Bool) : Type 0 where
+    pub does : {Γ : Context} (s x y z : Members) → SetAt file ends Γ s p → PileStands (piles .first) x →
+        PileStands (piles .second) y → PileStands (piles .third) z → r ≡ same s (x ++ (y ++ z))

@@ -14,7 +14,7 @@ ghost use Rattle.sets.specs.Rules.{CanBranches, SameBranches, CanThree, 
 // Rules 1, 10 and 13: P same as Q.
 pub fn same_written(w: &[u32], ends: &[u32], p: usize, q: usize) -> bool
     requires { ⌜ CanTwo (now w) (now ends) p q ⌝ }
-    ensures { λ r. ⌜ SameWritten (now (w .entry)) p q r ⌝ }
+    ensures { λ r. ⌜ SameWritten (now (w .entry)) (now (ends .entry)) p q r ⌝ }
 {
     same_set(
         w,
@@ -31,7 +31,7 @@ pub fn same_written(w: &[u32], ends: &[u32], p: usize, q: usize) -> bool
 // Rules 3 and 4: P same as Q with the right side for the identifier.
 pub fn same_replaced(w: &[u32], ends: &[u32], p: usize, q: usize, put: Put) -> bool
     requires { ⌜ CanReplaced (now w) (now ends) p q put ⌝ }
-    ensures { λ r. ⌜ SameReplaced (now (w .entry)) p q put r ⌝ }
+    ensures { λ r. ⌜ SameReplaced (now (w .entry)) (now (ends .entry)) p q put r ⌝ }
 {
     same_set(
         w,
@@ -48,7 +48,7 @@ pub fn same_replaced(w: &[u32], ends: &[u32], p: usize, q: usize, put: Put) -> b
 // Rules 5 and 12: P same as Q under B.
 pub fn same_under(w: &[u32], ends: &[u32], p: usize, q: usize, b: usize) -> bool
     requires { ⌜ CanUnder (now w) (now ends) p q b ⌝ }
-    ensures { λ r. ⌜ SameUnder (now (w .entry)) p q b r ⌝ }
+    ensures { λ r. ⌜ SameUnder (now (w .entry)) (now (ends .entry)) p q b r ⌝ }
 {
     same_set(
         w,
@@ -73,7 +73,7 @@ pub fn same_branches(
     f: usize,
 ) -> bool
     requires { ⌜ CanBranches (now w) (now ends) p s t b f ⌝ }
-    ensures { λ r. ⌜ SameBranches (now (w .entry)) p s t b f r ⌝ }
+    ensures { λ r. ⌜ SameBranches (now (w .entry)) (now (ends .entry)) p s t b f r ⌝ }
 {
     same_set(
         w,
@@ -90,7 +90,7 @@ pub fn same_branches(
 // Rules 9 and 16: P same as S ∪ T.
 pub fn same_union(w: &[u32], ends: &[u32], p: usize, s: usize, t: usize) -> bool
     requires { ⌜ CanThree (now w) (now ends) p s t ⌝ }
-    ensures { λ r. ⌜ SameUnion (now (w .entry)) p s t r ⌝ }
+    ensures { λ r. ⌜ SameUnion (now (w .entry)) (now (ends .entry)) p s t r ⌝ }
 {
     same_set(
         w,
@@ -107,7 +107,7 @@ pub fn same_union(w: &[u32], ends: &[u32], p: usize, s: usize, t: usize) -> bool
 // Rule 13: true ⇒ B stands in P.
 pub fn test_stands(w: &[u32], ends: &[u32], p: usize, b: usize) -> bool
     requires { ⌜ CanTest (now w) (now ends) p b ⌝ }
-    ensures { λ r. ⌜ TestStands (now (w .entry)) p b r ⌝ }
+    ensures { λ r. ⌜ TestStands (now (w .entry)) (now (ends .entry)) p b r ⌝ }
 {
     let k = count(w, p);
     let item = Item {

@@ -28,7 +28,7 @@ fn same_members(w: &[u32], ends: &[u32], p: usize, piles: Piles) -> bool
 // Whether the written set at p is the same as the piles together.
 pub fn same_set(w: &[u32], ends: &[u32], p: usize, piles: Piles) -> bool
     requires { ⌜ CanSameSet (now w) (now ends) p piles ⌝ }
-    ensures { λ r. ⌜ SameSet (now (w .entry)) p piles r ⌝ }
+    ensures { λ r. ⌜ SameSet (now (w .entry)) (now (ends .entry)) p piles r ⌝ }
 {
     same_members(w, ends, p, piles)
 }

@@ -3,7 +3,7 @@
 use mathlib.Core.Path.{sym}
 use borrow.Author.Needs.{needs}
 use Rattle.ends.proofs.Sizes.{counted, uncounted}
-use Rattle.ends.specs.Sizes.{countOf}
+use Rattle.layout.specs.Nodes.{countOf}
 use Rattle.ends.proofs.parts.Statement.{statement}
 use Rattle.ends.proofs.parts.Tie as tie
 

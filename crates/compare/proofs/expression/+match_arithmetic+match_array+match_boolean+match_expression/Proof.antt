@@ -11,7 +11,7 @@ use Rattle.compare.specs.Places.{AnyAt}
 use Rattle.compare.proofs.Operands.{arithmetic-none, arithmetic-two, boolean-none, boolean-one, boolean-two}
 use Rattle.compare.proofs.Operands.{array-none, array-three, is-arithmetic, is-boolean, is-array}
 use Rattle.compare.proofs.Exchange.{none-matched, one-matched, two-matched, three-matched, left}
-use Rattle.compare.proofs.Exchange.{can-inside, any-listed, can-first, can-second, can-third, can-sort, any-inside}
+use Rattle.compare.proofs.Exchange.{can-inside, any-listed, can-first, can-second, can-third, can-sort, any-first}
 use Rattle.compare.proofs.expression.match_arithmetic.Reads as match-arithmetic
 use Rattle.compare.proofs.expression.match_arithmetic.Kinds as match-arithmetic-kinds
 use Rattle.compare.proofs.expression.+match_arithmetic+match_array+match_boolean+match_expression.Lts-match_arithmetic as match-arithmetic-lts
@@ -257,8 +257,8 @@ pub +match-arithmetic+match-array+match-boolean+match-expression-spec : {M : Typ
     )
     (match-expression-at t)
     match-expression.Post
-    (λ c. let s = c .before .before in let p = s .pre .1 in let i = any-inside (p .any) in omega arith)
-    (λ c. let s = c .before .before .before in let p = s .pre .1 in any-inside (p .any))
+    (λ c. let s = c .before .before in let p = s .pre .1 in let i = any-first (p .any) in omega arith)
+    (λ c. let s = c .before .before .before in let p = s .pre .1 in any-first (p .any))
     (λ c κs.
     let s = c .before .before .before .before in
     let p = s .pre .1 in
