@@ -40,9 +40,8 @@ module _ (Γ : Context) (bytes : List ℕ) where
   counted : (r : Reading File) → fileOf Γ bytes ≡ r → (n : ℕ) → judged Γ r ≡ accepted n →
       n ≡ countEvidence (wordsOf bytes)
   counted (read f end) e n h =
-      file-counts Γ f .counted n h
-      ∙ sym (file-counted Γ (wordsOf bytes) f
-      (file-spelled Γ (wordsOf bytes) f end (file-words Γ bytes f end e) .spelled))
+      let s = file-spelled Γ (wordsOf bytes) f end (file-words Γ bytes f end e) .spelled in
+      file-counts Γ f (s .fits) .counted n h ∙ sym (file-counted Γ (wordsOf bytes) f s)
   counted (fault k p) e n h = absurd (let z : _≡_ {A = ℕ} 0 1 = cc in omega arith)
 
   pub demand-2 : Demand2 Γ bytes

@@ -1,6 +1,5 @@
 -- Antecedents and consequents compared, by the trees that stand there (document 01, "Rules").
 -- Assumes nothing.
---     PartHas, has, in-range                     an expression stands at a place: its numbers, its words in range
 --     part-is, in-range                          an expression at its place: its numbers, its words are in range
 --     AntecedentIs, antecedent-same              a form is a tree's; the comparison is `sameAntecedent`
 --     is-written, is-and, is-and-not, is-split, is-replaced, is-true

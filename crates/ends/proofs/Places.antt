@@ -13,7 +13,7 @@ use native.Mathlib.Omega.{arith}
 use Rattle.layout.specs.Bytes.{kindAt, payloadAt}
 use Rattle.layout.specs.Nodes.{Node, expressionNode, commandNode, setNode, nodePart, headOf, partsOf, kindOf, contentOf, InRange}
 use Rattle.layout.specs.Standing.{PartStands, Chain}
-use Rattle.layout.proofs.Nodes.{Inside, opened, with-levels}
+use Rattle.layout.proofs.Nodes.{Inside, with-levels}
 use Rattle.layout.proofs.Nodes as nodes
 use Rattle.ends.specs.Ends.{EndsOf}
 use Rattle.ends.specs.Places.{endAt, PartKnown, NodeAt, NodesAt}

@@ -46,7 +46,7 @@ module _ (Γ : Context) (bytes : List ℕ) where
       judged Γ (read f p) ≡ v → SmallBy 8192 v
   read-small f p e (judge.accepted n) h =
       let x = read-bytes Γ bytes f p e in
-      let c = file-counts Γ f .counted n h in
+      let c = file-counts Γ f (x .words-read .spelled .fits) .counted n h in
       let k = count-length (joined (fileParts Γ f)) in
       let l = words-length bytes in
       omega (arith, x .few, x .words-read .spelled .whole)

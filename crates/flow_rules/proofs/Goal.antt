@@ -12,13 +12,13 @@ use mathlib.Core.Bool.{Bool, true, false}
 use mathlib.Core.List.{List, []}
 use Prim.Native.Nat.{ℕ, _+_, _<_}
 use lib.ListN.{length}
-use Rattle.language.specs.Syntax.{Sort, Expr, Command}
+use Rattle.language.specs.Syntax.{Command}
 use Rattle.rules.specs.Assertion.{Members}
 use Rattle.rules.specs.Context.{Context}
 use Rattle.rules.specs.Evidence.{done, Parts}
 use Rattle.rules.specs.Condition.{Result, test, _then_}
 use Rattle.rules.specs.Judge.{Verdict, Step, step}
-use Rattle.ends.specs.Places.{endAt, WrittenAt, CommandAt, SetAt}
+use Rattle.ends.specs.Places.{endAt, CommandAt, SetAt}
 use Rattle.implication.specs.declared.Condition.the-variants.{Fails}
 use Rattle.goals.specs.declared.Goal.{Goal}
 use Rattle.goals.specs.declared.Goal.the-variants.{Flow}

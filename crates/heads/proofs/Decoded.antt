@@ -5,7 +5,7 @@
 --                                                            is what its kind and payload say
 use mathlib.Core.Path.{_≡_, refl, ap, ap₂}
 use mathlib.Core.Bool.{Bool, true, false}
-use Prim.Native.Nat.{ℕ, _+_, _*_, _/_, _%_, _≤_}
+use Prim.Native.Nat.{_+_, _*_}
 use native.Mathlib.Omega.{arith}
 use borrow.Author.Tests.{le-leb}
 use Rattle.language.specs.Syntax as syntax
@@ -16,6 +16,7 @@ use Rattle.language.specs.Syntax.{skip, sequence, assert, assign, ifElse, while
 use Rattle.rules.specs.Words.{operatorPayload, comparisonPayload, truthPayload}
 use Rattle.layout.specs.Spelling.{payloadOf}
 use Rattle.layout.specs.Nodes.{expressionNode, commandNode, headOf, kindOf, contentOf, InRange}
+use Rattle.layout.proofs.Words.{for-first, for-second}
 use Rattle.words.specs.Decode.{arithmeticOf, booleanOf, arrayOf, commandOf}
 use Rattle.words.specs.declared.Operator.{Operator}
 use Rattle.words.specs.declared.Operator.the-variants.{Plus, Minus, Times}
@@ -88,12 +89,6 @@ unfolding booleanOf
 truth-decoded false = refl
 truth-decoded true = refl
 
-for-low : (q m : ℕ) → q ≤ 31 → (q + 32 * m) % 32 ≡ q
-for-low q m h = omega arith
-
-for-high : (q m : ℕ) → q ≤ 31 → (q + 32 * m) / 32 ≡ m
-for-high q m h = omega arith
-
 -- the first word of a node that is in range, decoded
 pub arithmetic-decoded : (e : Expr syntax.Arithmetic) → InRange (headOf (expressionNode e)) →
     arithmeticOf (kindOf (headOf (expressionNode e))) (contentOf (headOf (expressionNode e))) ≡ arithmeticHead e
@@ -130,4 +125,4 @@ command-decoded (assign (toArray a e)) h = rw (le-leb a 31 (omega (arith, h .0))
 command-decoded (ifElse b c₁ c₂) h = refl
 command-decoded (while b c) h = refl
 command-decoded (for q m c) h =
-    rw (le-leb (q + 32 * m) 1023 (omega (arith, h .0, h .1))) (ap₂ For (for-low q m (h .0)) (for-high q m (h .0)))
+    rw (le-leb (q + 32 * m) 1023 (omega (arith, h .0, h .1))) (ap₂ For (for-first q m (h .0)) (for-second q m (h .0)))

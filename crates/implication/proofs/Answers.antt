@@ -10,11 +10,11 @@
 use mathlib.Core.Path.{_≡_, refl, sym, ap, _∙_}
 use mathlib.Core.Bool.{Bool, true, false}
 use mathlib.Core.List.{List, [], _∷_, _++_}
-use Prim.Native.Nat.{ℕ, _+_, _*_, _^_, _<_, _≤_}
+use Prim.Native.Nat.{ℕ, _+_, _*_, _^_, _≤_}
 use native.Mathlib.Omega.{arith}
 use lib.ListN.{length, take, set, length-set}
-use Rattle.language.specs.Syntax.{Boolean, Expr, compare, truth, and, or, neg}
-use Rattle.rules.specs.Words.{Word, words}
+use Rattle.language.specs.Syntax.{Boolean, Expr}
+use Rattle.rules.specs.Words.{Word}
 use Rattle.rules.specs.Implies.{comparisons, distinct}
 use Rattle.rules.specs.Condition.{test}
 use Rattle.layout.specs.EvidenceWords.{expressionPart}

@@ -30,7 +30,7 @@ module _ (Γ : Context) (file ends : List ℕ) where
       let x = stands-end file at (spelledTree k) end (s .stand) in
       let y = h .counted n e in
       let z = count-length (spelledTree k) in
-      let u = tree-tally k in
+      let u = tree-tally Γ k d at (s .fit) in
       omega (arith, x, y, z, u)
 
   pub goal-counts : {goal : Goal} {g : TreeGoal} {d at end : ℕ} → GoalStands Γ file ends goal g d at end →

@@ -9,27 +9,26 @@ use mathlib.Core.Path.{_≡_, refl, sym, _∙_, ap, ap₂, subst}
 use mathlib.Core.Bool.{Bool, true, false}
 use mathlib.Core.List.{List, [], _∷_, _++_}
 use mathlib.Core.Option.{Option, some}
-use Prim.Native.Nat.{ℕ, zero, suc, _+_, _*_, _/_, _%_, _<_, _≤_}
+use Prim.Native.Nat.{ℕ, zero, suc, _+_, _*_, _<_, _≤_}
 use native.Mathlib.Omega.{arith}
 use borrow.Author.Tests.{lt-ltb, le-leb, lt-leb}
-use lib.IntN.{ℤ}
 use lib.ListN.{length}
 use Rattle.language.specs.Syntax.{Operator, plus, minus, times, Comparison, equal, less, atMost}
 use Rattle.language.specs.Syntax.{Sort, Arithmetic, Boolean, Array, Expr, constant, scalar, operation, select}
 use Rattle.language.specs.Syntax.{compare, truth, and, or, neg, array, zeros, update, toScalar, toArray}
 use Rattle.language.specs.Syntax.{Command, skip, sequence, assert, assign, ifElse, while, for}
-use Rattle.rules.specs.Words.{Word, word, forWord, words, commandWords}
+use Rattle.rules.specs.Words.{Word, words, commandWords}
 use Rattle.rules.specs.Words.{operatorPayload, comparisonPayload, truthPayload}
 use Rattle.rules.specs.Assertion.{Member, Members, member}
 use Rattle.rules.specs.Context.{Context}
-use Rattle.layout.specs.Bytes.{wordCount, numberAt, kindAt, payloadAt, payloads}
+use Rattle.layout.specs.Bytes.{wordCount, kindAt, payloadAt}
 use Rattle.layout.specs.Reading.{read, Reader, leaf, _⊛_, several, allowed, wordDue, upTo, onOption}
 use Rattle.layout.specs.Read.{operatorOf, comparisonOf, truthOf}
 use Rattle.layout.specs.Read.{expression, command, sortOf, consequentAt, memberAt, set}
 use Rattle.layout.specs.Spelling.{payloadOf, SpelledAt, FitsExpression, FitsCommand}
 use Rattle.layout.specs.Spelling.{memberWords, membersWords, setWords, FitsMembers, FitsSet}
-use Rattle.layout.proofs.Words.{signed-payload}
-use Rattle.layout.specs.Nodes.{expressionNode, headOf, kindOf, contentOf, InRange}
+use Rattle.layout.proofs.Words.{for-first, for-second, signed-payload}
+use Rattle.layout.specs.Nodes.{expressionNode, kindOf, contentOf, InRange}
 use Rattle.layout.specs.Standing.{Stands}
 use Rattle.layout.proofs.Stands.{rest, less-fit, parted, spelled-stands}
 use Rattle.layout.proofs.Forms.{SortKind, sort-kind}
@@ -91,12 +90,6 @@ pub word-back : {A : Type 0} {file : List ℕ} {w : Word} {l : List Word} {F : T
 word-back {file} {w} {at} step s h y =
     due-back file at (kindOf w) (contentOf w) step (s .stand .0) (kind-at file at w (s .stand .1) h)
     (content-at file at w (s .stand .1) h) y
-
-for-first : (q m : ℕ) → q ≤ 31 → (q + 32 * m) % 32 ≡ q
-for-first q m h = omega arith
-
-for-second : (q m : ℕ) → q ≤ 31 → (q + 32 * m) / 32 ≡ m
-for-second q m h = omega arith
 
 sort-of : (j : Sort) (k : ℕ) → SortKind j k → sortOf k ≡ j
 sort-of Arithmetic k h = rw (lt-leb 8 k h, lt-leb 16 k (omega arith))

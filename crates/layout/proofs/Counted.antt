@@ -1,41 +1,40 @@
 -- The count that acceptance reports is the count of the file's words of kinds 33 to 35: only evidence has such words.
 -- Assumes nothing.
 --     isEvidenceWord, evidenceIn, count-length   words of these kinds among those of trees
---     expression-none, command-none, set-none    expressions, commands and sets have none
+--     node-none                                  expressions, commands and sets have none
 --     Counts, tree-tally                         a verdict with this count; the count of evidence by its words
 --     pre-counts, set-counts, flow-counts        evidence, as it is judged
 --     file-counts                                a file, as it is judged, by the words of its parts
 --     count-spelled, file-counted                the same by the words of the file
 use mathlib.Core.Path.{_≡_, refl, sym, _∙_, ap, ap₂}
 use mathlib.Core.Bool.{Bool, true, false, _&&_, cond}
-use mathlib.Core.List.{List, [], _∷_, _++_}
-use Prim.Native.Nat.{ℕ, suc, _+_, _*_, _/_, _<_, _≤_}
+use mathlib.Core.List.{List, [], _∷_, _++_, map}
+use Prim.Native.Nat.{ℕ, zero, suc, _+_, _*_, _/_, _<_, _≤_}
 use native.Mathlib.Omega.{arith}
 use native.Mathlib.Numerals.{add-one}
 use borrow.Author.Tests.{le-leb, lt-leb}
 use lib.Dec.{leb}
 use lib.ListN.{length, drop}
 use lib.Seq.{drop-cons, drop-length}
-use Rattle.language.specs.Syntax.{Sort, Boolean, Expr, constant, scalar, operation, select}
-use Rattle.language.specs.Syntax.{compare, truth, and, or, neg, array, zeros, update, toScalar, toArray}
+use Rattle.language.specs.Syntax.{Boolean, Expr, toScalar, toArray}
 use Rattle.language.specs.Syntax.{Command, skip, sequence, assert, assign, ifElse, while, for}
-use Rattle.rules.specs.Words.{Word, word, forWord, words, commandWords}
+use Rattle.rules.specs.Words.{Word, word, forWord}
 use Rattle.rules.specs.Assertion.{Members}
 use Rattle.rules.specs.Context.{Context}
 use Rattle.rules.specs.Evidence.{flow, implication, precondition, Standing, Tree, by, assertion, command, members}
 use Rattle.rules.specs.Evidence.{child, done, _&_, FlowEvidence, SetEvidence, PreEvidence}
 use Rattle.rules.specs.Judge.{Verdict, accepted, refused, oneMore, _also_, judgePre, judgeSet, judgeFlow}
 use Rattle.rules.proofs.Holds.{tally, Everywhere, Holding, pre-holds, set-holds, flow-holds}
-use Rattle.layout.specs.Spelling.{membersWords, setWords}
-use Rattle.layout.specs.EvidenceWords.{Part, joined, spelledTree}
-use Rattle.layout.specs.File.{File}
-use Rattle.layout.specs.FileWords.{fileParts}
 use Rattle.layout.specs.Bytes.{wordCount, numberAt, payloads}
 use Rattle.layout.specs.Spelling.{SpelledAt}
-use Rattle.layout.specs.FileWords.{FileSpelled}
-use Rattle.layout.specs.Counted.{isEvidence, countEvidence}
+use Rattle.layout.specs.EvidenceWords.{Part, joined, EachFits, spelledTree, FitsTree}
+use Rattle.layout.specs.Nodes.{Node, expressionNode, commandNode, setNode, nodeWords, FitsNode, nodePart, headOf, partsOf}
 use Rattle.layout.specs.Nodes.{kindOf, AllInRange}
-use Rattle.layout.proofs.Nodes.{kind-at}
+use Rattle.layout.specs.File.{File}
+use Rattle.layout.specs.FileWords.{fileParts, FileSpelled}
+use Rattle.layout.specs.Counted.{isEvidence, countEvidence}
+use Rattle.layout.proofs.Nodes.{law, no-level, kind-at}
+use Rattle.layout.proofs.Forms.{sort-kind, low-kind}
 use Rattle.layout.proofs.Range.{parts-range}
 
 abbrev isEvidenceWord : Word → Bool
@@ -66,52 +65,36 @@ count-append (w ∷ l) m = go (isEvidenceWord w) (count-append l m)
     go true e = omega (arith, e)
     go false e = e
 
--- words that have none, one after the other
-two : (l m : List Word) → evidenceIn l ≡ 0 → evidenceIn m ≡ 0 → evidenceIn (l ++ m) ≡ 0
-two l m g h = let e = count-append l m in omega (arith, e, g, h)
+-- expressions, commands and sets have none
+low-none : (w : Word) → kindOf w < 24 → isEvidenceWord w ≡ false
+low-none (word k z) h = rw (lt-leb 33 k (omega arith))
+low-none (forWord q m) h = refl
 
-expression-none : {k : Sort} (e : Expr k) → evidenceIn (words e) ≡ 0
-unfolding words evidenceIn
-expression-none (constant z) = refl
-expression-none (scalar x) = refl
-expression-none (operation o a b) = two (words a) (words b) (expression-none a) (expression-none b)
-expression-none (select h i) = two (words h) (words i) (expression-none h) (expression-none i)
-expression-none (compare r a b) = two (words a) (words b) (expression-none a) (expression-none b)
-expression-none (truth t) = refl
-expression-none (and b c) = two (words b) (words c) (expression-none b) (expression-none c)
-expression-none (or b c) = two (words b) (words c) (expression-none b) (expression-none c)
-expression-none (neg b) = expression-none b
-expression-none (array a) = refl
-expression-none zeros = refl
-expression-none (update h i a) =
-    two (words h) (words i ++ words a) (expression-none h)
-    (two (words i) (words a) (expression-none i) (expression-none a))
+head-none : (x : Node) → isEvidenceWord (headOf x) ≡ false
+head-none (expressionNode {k = j} e) = low-none (headOf (expressionNode e)) (low-kind j (sort-kind e))
+head-none (commandNode skip) = refl
+head-none (commandNode (sequence c d)) = refl
+head-none (commandNode (assert b)) = refl
+head-none (commandNode (assign (toScalar x e))) = refl
+head-none (commandNode (assign (toArray a e))) = refl
+head-none (commandNode (ifElse b c d)) = refl
+head-none (commandNode (while b c)) = refl
+head-none (commandNode (for q m c)) = refl
+head-none (setNode Γ p) = refl
 
-command-none : (c : Command) → evidenceIn (commandWords c) ≡ 0
-unfolding commandWords evidenceIn
-command-none skip = refl
-command-none (sequence c d) = two (commandWords c) (commandWords d) (command-none c) (command-none d)
-command-none (assert b) = expression-none b
-command-none (assign (toScalar x e)) = expression-none e
-command-none (assign (toArray a e)) = expression-none e
-command-none (ifElse b c d) =
-    two (words b) (commandWords c ++ commandWords d) (expression-none b)
-    (two (commandWords c) (commandWords d) (command-none c) (command-none d))
-command-none (while b c) = two (words b) (commandWords c) (expression-none b) (command-none c)
-command-none (for q m c) = command-none c
+parts-none : {d : ℕ} → ((x : Node) → FitsNode x d → evidenceIn (nodeWords x) ≡ 0) → (l : List Node) (at : ℕ) →
+    EachFits (map nodePart l) d at → evidenceIn (joined (map nodePart l)) ≡ 0
+unfolding joined EachFits evidenceIn
+parts-none f [] at h = refl
+parts-none f (x ∷ l) at h =
+    let e = count-append (nodeWords x) (joined (map nodePart l)) in
+    omega (arith, e, f x (h .0), parts-none f l _ (h .1))
 
-members-none : (p : Members) → evidenceIn (membersWords p) ≡ 0
+node-none : (d : ℕ) (x : Node) → FitsNode x d → evidenceIn (nodeWords x) ≡ 0
 unfolding evidenceIn
-members-none [] = refl
-members-none (m ∷ p) =
-    two (words (m .antecedent) ++ words (m .consequent)) (membersWords p)
-    (two (words (m .antecedent)) (words (m .consequent)) (expression-none (m .antecedent))
-    (expression-none (m .consequent)))
-    (members-none p)
-
-set-none : (p : Members) → evidenceIn (setWords p) ≡ 0
-unfolding evidenceIn
-set-none p = members-none p
+node-none zero x h = absurd (no-level x h)
+node-none (suc d) x h =
+    rw (law x .spelling, head-none x) (parts-none (λ y g. node-none d y g) (partsOf x) 0 (law x .fits d 0 h .1))
 
 -- the count of parts, one after the other
 abbrev counts : List Part → ℕ
@@ -140,17 +123,20 @@ also-counts (accepted a) (accepted b) g h =
 also-counts (accepted a) (refused k i) g h = refused-counts k i _
 also-counts (refused k i) w g h = refused-counts k i _
 
-pub tree-tally : {s : Standing} (t : Tree s) → evidenceIn (spelledTree t) ≡ tally t
-unfolding spelledTree evidenceIn
-tree-tally (by {j = flow} r i t) = ap suc (tree-tally t)
-tree-tally (by {j = implication} r i t) = ap suc (tree-tally t)
-tree-tally (by {j = precondition} r i t) = ap suc (tree-tally t)
-tree-tally (assertion φ) = expression-none φ
-tree-tally (command c) = command-none c
-tree-tally (members p) = set-none p
-tree-tally (child k) = tree-tally k
-tree-tally done = refl
-tree-tally (x & t) = count-append (spelledTree x) (spelledTree t) ∙ ap₂ (λ m n. m + n) (tree-tally x) (tree-tally t)
+pub tree-tally : (Γ : Context) {s : Standing} (t : Tree s) (d at : ℕ) → FitsTree Γ t d at → evidenceIn (spelledTree t) ≡ tally t
+unfolding spelledTree FitsTree evidenceIn
+tree-tally Γ (by r i t) zero at h = absurd h
+tree-tally Γ (by {j = flow} r i t) (suc d) at h = ap suc (tree-tally Γ t d (at + 1) (h .1))
+tree-tally Γ (by {j = implication} r i t) (suc d) at h = ap suc (tree-tally Γ t d (at + 1) (h .1))
+tree-tally Γ (by {j = precondition} r i t) (suc d) at h = ap suc (tree-tally Γ t d (at + 1) (h .1))
+tree-tally Γ (assertion φ) d at h = node-none d (expressionNode φ) h
+tree-tally Γ (command c) d at h = node-none d (commandNode c) h
+tree-tally Γ (members p) d at h = node-none d (setNode Γ p) h
+tree-tally Γ (child k) d at h = tree-tally Γ k d at h
+tree-tally Γ done d at h = refl
+tree-tally Γ (x & t) d at h =
+    count-append (spelledTree x) (spelledTree t)
+    ∙ ap₂ (λ m n. m + n) (tree-tally Γ x d at (h .0)) (tree-tally Γ t d (at + length (spelledTree x)) (h .1))
 
 counting : Holding (λ i. Unit {0}) Counts
 unfolding oneMore
@@ -190,15 +176,17 @@ module _ (Γ : Context) where
   flow-counts k p c q = flow-holds counting Γ k p c q (anywhere k)
 
 -- the parts of a file: its evidence has all of them
-pub file-counts : (Γ : Context) (f : File) →
+pub file-counts : (Γ : Context) (f : File) → EachFits (fileParts Γ f) (Γ .limits .depth) 1 →
     Counts (judgeFlow Γ (f .evidence) (f .pre) (f .program) (f .post)) (evidenceIn (joined (fileParts Γ f)))
-file-counts Γ f =
-    let x = command-none (f .program) in
-    let y = set-none (f .pre) in
-    let z = set-none (f .post) in
+unfolding EachFits
+file-counts Γ f g =
+    let d = Γ .limits .depth in
+    let x = node-none d (commandNode (f .program)) (g .0) in
+    let y = node-none d (setNode Γ (f .pre)) (g .1 .0) in
+    let z = node-none d (setNode Γ (f .post)) (g .1 .1 .0) in
     let e = joined-counts (fileParts Γ f) in
     let h = flow-counts Γ (f .evidence) (f .pre) (f .program) (f .post) in
-    let t = tree-tally (f .evidence) in
+    let t = tree-tally Γ (f .evidence) d _ (g .1 .1 .1 .0) in
     record { counted = λ n k. let u = h .counted n k in omega (arith, x, y, z, e, u, t) }
 
 -- ---- the same by the words of the file

@@ -1,14 +1,13 @@
 -- What stands at a place has the kind and the payload of its first word there, and its parts stand one after the other from the
 -- next place on (document 01, "Layout"). One law for each form of expression, command and set, and what follows for all.
 -- Assumes nothing.
---     Law, law                           the words of a node are its first word and its parts'; so is what fits
---     kind-at, content-at                the kind and the payload of a word that stands there
---     encode-tells                       a word in range is told by its number
---     Opened, opened                     a node that stands there, by its first word and its parts
---     one-part, two-parts, three-parts    parts one after the other
---     node-deeper                        what fits with some levels left fits with more
---     node-range                         each of its words is in range
---     Inside, words-inside, node-inside    it has a word, and ends within the file
+--     Law, law                             the words of a node are its first word and its parts'; so is what fits
+--     node-deeper                          what fits with some levels left fits with more
+--     encode-tells                         a word in range is told by its number
+--     kind-at, content-at                  the kind and the payload of a word that stands there
+--     Inside, words-inside, node-inside    what stands there has a word, and ends within the file
+--     Opened, opened, with-levels          a node that stands there, by its first word and its parts
+--     node-range                           each of its words is in range
 use mathlib.Core.Path.{_≡_, refl, sym, ap, ap₂, subst, _∙_}
 use mathlib.Core.Bool.{Bool, true, false, _||_, cond}
 use mathlib.Core.List.{List, [], _∷_, _++_, map, append-nil, append-assoc}
@@ -255,20 +254,9 @@ module _ {file : List ℕ} where
   with-levels x zero s f = absurd (no-level x (s .fit))
   with-levels x (suc d) s f = f d refl (opened x d s)
 
-  -- so many parts, one after the other
+  -- the last of some parts
   pub one-part : {l : List Word} {F : Type 0} {at p : ℕ} → (q : ℕ) × Stands file l F at q × (q ≡ p) → Stands file l F at p
   one-part {l} {F} {at} c = subst (λ q. Stands file l F at q) (c .2) (c .1)
-
-  pub two-parts : {l m : List Word} {F G C : Type 0} {at p : ℕ} →
-      (q : ℕ) × Stands file l F at q × ((r : ℕ) × Stands file m G q r × (r ≡ p)) →
-      ((q : ℕ) → Stands file l F at q → Stands file m G q p → C) → C
-  two-parts c f = f (c .0) (c .1) (one-part (c .2))
-
-  pub three-parts : {l m n : List Word} {F G H C : Type 0} {at p : ℕ} →
-      (q : ℕ) × Stands file l F at q
-      × ((r : ℕ) × Stands file m G q r × ((i : ℕ) × Stands file n H r i × (i ≡ p))) →
-      ((q r : ℕ) → Stands file l F at q → Stands file m G q r → Stands file n H r p → C) → C
-  three-parts c f = two-parts (c .2) λ r y z. f (c .0) r (c .1) y z
 
   pub node-inside : (x : Node) {F : Type 0} {at p : ℕ} → Stands file (nodeWords x) F at p → Inside file at p
   node-inside x {at = at} {p = p} s = words-inside file at (headOf x) (joined (map nodePart (partsOf x))) p (spelled-at x s)

@@ -2,10 +2,10 @@
 -- Assumes nothing.
 --     ExpressionAt, CommandAt, SetAt                      it stands from a place up to another and fits
 --     expression-past, command-past, set-past             by cases on the reading, refusals too
---     past-read, spelled                                  of what was read, by any reader
-use mathlib.Core.Path.{_≡_, refl, sym, subst}
+--     spelled                                             of what was read, by any reader
+use mathlib.Core.Path.{_≡_, refl, sym}
 use mathlib.Core.List.{List, [], _∷_}
-use Prim.Native.Nat.{ℕ, zero, suc, _+_, _/_, _%_, _<_, _≤_}
+use Prim.Native.Nat.{ℕ, zero, suc, _+_, _/_, _%_, _≤_}
 use native.Mathlib.Omega.{arith}
 use lib.IntN.{ℤ}
 use lib.ListN.{length}
@@ -13,8 +13,8 @@ use Rattle.language.specs.Syntax.{Sort, Arithmetic, Boolean, Array, Expr, Comma
 use Rattle.rules.specs.Words.{Word, word, words, commandWords, operatorPayload, comparisonPayload, truthPayload}
 use Rattle.rules.specs.Assertion.{Member, Members}
 use Rattle.rules.specs.Context.{Context}
-use Rattle.layout.specs.Bytes.{wordCount, kindAt}
-use Rattle.layout.specs.Reading.{read, Reader, several}
+use Rattle.layout.specs.Bytes.{kindAt}
+use Rattle.layout.specs.Reading.{Reader, several}
 use Rattle.layout.specs.Read.{operatorOf, comparisonOf, truthOf}
 use Rattle.layout.specs.Read.{arithmeticWord, booleanWord, arrayWord, expressionWord}
 use Rattle.layout.specs.Read.{expression, commandWord, command, sortOf, consequentAt, memberAt, set}
@@ -24,7 +24,7 @@ use Rattle.layout.proofs.Words.{Found, word-found, for-found, payload-s
 use Rattle.layout.specs.Standing.{Stands}
 use Rattle.layout.proofs.Stands.{first, both, stands-spelled, stands-end}
 use Rattle.layout.proofs.Yields.{Optional, nothing, something, entry, up-to, on-option}
-use Rattle.layout.proofs.Yields.{Yields, Past, PastBy, past-yields, yields-map, start, _▹_}
+use Rattle.layout.proofs.Yields.{Yields, Past, past-yields, yields-map, start, _▹_}
 use Rattle.layout.proofs.Yields.{several-yields, level-past, due-past}
 
 -- what a payload's table allows has that payload
@@ -193,11 +193,7 @@ module _ (file : List ℕ) where
       entry k 32 (λ e. up-to (Γ .limits .members) p _ λ h.
       yields-map (set-after Γ d at k p f e h) (members-yields d p (at + 1))) nothing
 
--- the laws of what was read
-pub past-read : {A : Type 0} (file : List ℕ) {at : ℕ} {T : A → ℕ → Type 0} (r : Reader A) (a : A) (p : ℕ) →
-    Past file at T r → r at ≡ read a p → (at < p) × (p ≤ wordCount file) × T a p
-past-read file {at} {T} r a p h e = subst (λ x. PastBy file at T x) e (h .past)
-
+-- of what was read, by any reader
 pub spelled : {file : List ℕ} {l : List Word} {F : Type 0} {at p : ℕ} → Stands file l F at p →
     SpelledAt file at l × (p ≡ at + length l) × F
 spelled {file} {l} {at} {p} s = (stands-spelled file at l p (s .stand), stands-end file at l p (s .stand), s .fit)

@@ -2,8 +2,8 @@
 -- Assumes nothing.
 --     Found, found-at                 the kind and the payload of the word at a place
 --     quotient, remainder             of a number by its kind and payload
---     kind-of-word, payload-of-word   the kind and the payload of an encoded word
 --     word-found, for-found           a word by its kind and payload
+--     for-first, for-second           the scalars of a `for` by its payload
 --     payload-signed, signed-fits     the payload of a signed payload is that payload; it is in range
 --     signed-payload                  a constant in range is its signed payload
 --     payload-small                   its payload has 26 bits
@@ -40,15 +40,6 @@ quotient k p n e h = omega arith
 pub remainder : (k p n : ℕ) → n ≡ k * payloads + p → p < payloads → n % payloads ≡ p
 remainder k p n e h = omega arith
 
-pub kind-of-word : (file : List ℕ) (at k : ℕ) (z : ℤ) → numberAt file at ≡ encode (word k z) → payloadOf z < payloads →
-    kindAt file at ≡ k
-kind-of-word file at k z e h = quotient k (payloadOf z) (numberAt file at) e h
-
-pub payload-of-word :
-    (file : List ℕ) (at k : ℕ) (z : ℤ) → numberAt file at ≡ encode (word k z) → payloadOf z < payloads →
-    payloadAt file at ≡ payloadOf z
-payload-of-word file at k z e h = remainder k (payloadOf z) (numberAt file at) e h
-
 -- a word is known by its kind and its payload
 pub word-found : {file : List ℕ} {at k p : ℕ} (n : ℕ) (z : ℤ) → Found file at k p → k ≡ n → payloadOf z ≡ p →
     numberAt file at ≡ encode (word n z)
@@ -60,6 +51,13 @@ for-found {file} {at} {k} {p} f e = f .number ∙ ap (λ i. i * payloads + p) e 
   where
     parts : (n : ℕ) → n ≡ n % 32 + 32 * (n / 32)
     parts n = omega arith
+
+-- the scalars of a `for` by its payload
+pub for-first : (q m : ℕ) → q ≤ 31 → (q + 32 * m) % 32 ≡ q
+for-first q m h = omega arith
+
+pub for-second : (q m : ℕ) → q ≤ 31 → (q + 32 * m) / 32 ≡ m
+for-second q m h = omega arith
 
 pub payload-signed : (p : ℕ) → p < payloads → payloadOf (signed p) ≡ p
 payload-signed p h = go (ltb p 33554432)

@@ -5,7 +5,7 @@
 use mathlib.Core.Path.{_≡_, refl, ap, ap₂, _∙_}
 use mathlib.Core.Bool.{Bool, true}
 use mathlib.Core.List.{List, [], _∷_, _++_}
-use Prim.Native.Nat.{ℕ, _+_, _*_, _/_, _%_, _<_, _≤_}
+use Prim.Native.Nat.{ℕ, _+_, _/_, _%_, _≤_}
 use native.Mathlib.Omega.{arith}
 use lib.IntN.{pos}
 use Rattle.language.specs.Syntax.{Command}
@@ -13,6 +13,7 @@ use Rattle.language.specs.Runs.{meaning}
 use Rattle.rules.specs.Words.{Word, word, words, commandWords}
 use Rattle.layout.specs.Bytes.{payloadAt, wordOf}
 use Rattle.layout.specs.Nodes.{commandNode, InRange, AllInRange}
+use Rattle.layout.proofs.Words.{for-first, for-second}
 use Rattle.layout.proofs.Nodes.{in-range-append, node-range}
 use Rattle.ends.specs.Ends.{EndsOf}
 use Rattle.compare.specs.Matching.{numbers, matchedWord, matched, came}
@@ -81,12 +82,6 @@ next-in-range : (q : ℕ) → q ≤ 31 → AllInRange (nextWords q)
 next-in-range q g =
     ((omega arith, refl, refl), ((omega arith, refl, refl), ((omega arith, refl, refl), ((omega arith, refl, refl), tt))))
 
-low : (p q m : ℕ) → p ≡ q + 32 * m → q ≤ 31 → p % 32 ≡ q
-low p q m e h = omega arith
-
-high : (p q m : ℕ) → p ≡ q + 32 * m → q ≤ 31 → p / 32 ≡ m
-high p q m e h = omega arith
-
 in-range : {file ends : List ℕ} {c : ℕ} (q m : ℕ) (e : Command) → ForParts file ends c q m e →
     AllInRange (commandWords (meaning q m e))
 in-range q m e x =
@@ -105,8 +100,8 @@ module _ {file ends : List ℕ} {d c : ℕ} (o : EndsOf file ends) where
     means : (q m : ℕ) (e : Command) → ForParts file ends c q m e →
         Passes file (cursor true d) (commandWords (meaning q m e)) next
     means q m e x =
-        let i = low (payloadAt file c) q m (x .payload) (x .counter-small) in
-        let j = high (payloadAt file c) q m (x .payload) (x .counter-small) in
+        let i = ap (λ n. n % 32) (x .payload) ∙ for-first q m (x .counter-small) in
+        let j = ap (λ n. n / 32) (x .payload) ∙ for-second q m (x .counter-small) in
         let first : Passes file (cursor true d) (startWords q m) start = record {
           is =
               s

@@ -2,7 +2,7 @@
 -- Assumes nothing.
 --     node-starts     of an expression, a command or a set
 --     closed-place    the scan up to that end
-use mathlib.Core.Path.{_≡_, sym, subst}
+use mathlib.Core.Path.{sym, subst}
 use mathlib.Core.Bool.{Bool}
 use mathlib.Core.List.{List}
 use Prim.Native.Nat.{ℕ}

@@ -6,7 +6,7 @@
 use mathlib.Core.Path.{_≡_, refl, sym, ap, ap₂, _∙_}
 use mathlib.Core.Bool.{Bool, true, false, not, _&&_, _||_, or-assoc, or-false}
 use mathlib.Core.List.{List, [], _∷_, _++_, append-assoc}
-use Prim.Native.Nat.{ℕ, zero, suc, _+_, _*_, _-_, _%_, _<_, _≤_}
+use Prim.Native.Nat.{ℕ, zero, suc, _+_, _-_, _%_, _<_, _≤_}
 use native.Mathlib.Omega.{arith}
 use Rattle.language.specs.Syntax.{Sort, Expr, constant, scalar, operation, select, compare, truth, and, or, neg}
 use Rattle.language.specs.Syntax.{array, zeros, update, toScalar, toArray}
@@ -22,6 +22,7 @@ use Rattle.layout.specs.Spelling.{memberWords, membersWords, setWords, FitsMemb
 use Rattle.layout.specs.Nodes.{expressionNode, commandNode, setNode, kindOf, contentOf, AllInRange}
 use Rattle.layout.specs.Standing.{StandsTo}
 use Rattle.layout.proofs.Stands.{stands-end}
+use Rattle.layout.proofs.Words.{for-first}
 use Rattle.layout.proofs.Nodes.{kind-at, content-at, node-range}
 use Rattle.ends.specs.Mask.{bit, Low, slot}
 use Rattle.ends.specs.Blocks.{written, ifAny, anyIn, assigns, Marks}
@@ -56,9 +57,6 @@ module _ (t : ℕ → ℕ → Bool) where
 -- a number below 32 is its own remainder
 low-number : (x : ℕ) → x ≤ 31 → x % 32 ≡ x
 low-number x h = omega arith
-
-for-number : (q m : ℕ) → q ≤ 31 → (q + 32 * m) % 32 ≡ q
-for-number q m h = omega arith
 
 module _ (x : Identifier) where
   -- no word of an expression assigns
@@ -103,7 +101,7 @@ module _ (x : Identifier) where
       appended (assigns x) (words b) (commandWords c) (expression-quiet b)
       (command-assigns d c (h .1))
   command-assigns (suc d) (for q m c) h =
-      rw (for-number q m (h .0 .0)) (ap (λ b. sameIdentifier (scalarOf q) x || b) (command-assigns d c (h .1)))
+      rw (for-first q m (h .0 .0)) (ap (λ b. sameIdentifier (scalarOf q) x || b) (command-assigns d c (h .1)))
 
 pub modified-tree : (file : List ℕ) {from to r : ℕ} → Marks file (to - from) from r → Modified file from to r
 modified-tree file {from} {to} m = record {

@@ -5,14 +5,13 @@
 --     can-one-same, can-two-same, first-known   what the code asks for
 --     one-split, two-split, none-split          the written set compared with φ ⇒ each operand
 --     can-split, apart-fails, split-rule        rule 19
-use mathlib.Core.Path.{_≡_, refl, sym, ap, subst, _∙_}
+use mathlib.Core.Path.{_≡_, refl, sym, ap, _∙_}
 use mathlib.Core.Bool.{Bool, true, false}
-use mathlib.Core.List.{List, [], _∷_, _++_}
+use mathlib.Core.List.{List, [], _∷_}
 use mathlib.Core.Option.{Option, none, some}
-use Prim.Native.Nat.{ℕ, zero, suc, _+_, _<_, _≤_}
+use Prim.Native.Nat.{ℕ, _+_, _<_}
 use native.Mathlib.Omega.{arith}
 use borrow.Author.Tests.{ne-eqb}
-use lib.IntN.{pos}
 use lib.ListN.{length}
 use Rattle.laws.proofs.Bools.{clash}
 use Rattle.language.specs.Syntax.{Sort, Boolean, Expr, constant, scalar, operation, select, compare, truth, and, or}
