@@ -1,10 +1,10 @@
--- `flowcheck::line::put_number` meets its contract: the digits, then the bytes.
+-- `line::put_number` meets its contract: the digits, then the bytes.
 -- Assumes nothing.
 use borrow.Author.Needs.{needs}
 use native.Mathlib.Omega.{arith}
-use Rattle.flowcheck.proofs.Lines.{decimal-short, put-both}
-use Rattle.flowcheck.proofs.line.put_number.Statement.{statement}
-use Rattle.flowcheck.proofs.line.put_number.Tie as tie
+use Rattle.line.proofs.Lines.{decimal-short, put-both}
+use Rattle.line.proofs.put_number.Statement.{statement}
+use Rattle.line.proofs.put_number.Tie as tie
 
 pub put-number-spec : {M : Type 1} → statement M
 put-number-spec =

@@ -1,11 +1,11 @@
--- `flowcheck::line::put_decimal` meets its contract: the digits of crate io are those of the definition.
+-- `line::put_decimal` meets its contract: the digits of crate io are those of the definition.
 -- Assumes nothing.
 use borrow.Author.Needs.{needs}
 use native.Mathlib.Omega.{arith}
 use lib.ListN.{length-take}
-use Rattle.flowcheck.proofs.Lines.{fewest-short, put-digits}
-use Rattle.flowcheck.proofs.line.put_decimal.Statement.{statement}
-use Rattle.flowcheck.proofs.line.put_decimal.Tie as tie
+use Rattle.line.proofs.Lines.{fewest-short, put-digits}
+use Rattle.line.proofs.put_decimal.Statement.{statement}
+use Rattle.line.proofs.put_decimal.Tie as tie
 
 pub put-decimal-spec : {M : Type 1} → statement M
 put-decimal-spec =

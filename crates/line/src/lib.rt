@@ -1,13 +1,10 @@
-// The line of an answer: `accepted `, the count; or `refused `, number, space, place.
-use flow::Verdict;
+// The line of a verdict: `accepted `, the count; or `refused `, number, space, place.
 ghost use mathlib.Core.List.{_++_};
 ghost use Prim.Native.Nat.{_+_};
 ghost use lib.ListN.{length};
-ghost use Rattle.rules.specs.Context.{standard};
-ghost use Rattle.layout.specs.Verdict.{verdictOf};
-ghost use Rattle.flow.specs.Checked.{answerOf};
-ghost use Rattle.flowcheck.specs.Line.{decimal, Written};
-ghost use Rattle.flowcheck.specs.Putting.{Room, Put};
+ghost use Rattle.rules.specs.Judge.{accepted, refused};
+ghost use Rattle.line.specs.Line.{decimal, Written};
+ghost use Rattle.line.specs.Putting.{Room, Put};
 
 // Puts bytes at a place, and answers the place past them.
 fn put(out: &mut [u8], at: usize, text: &[u8]) -> usize
@@ -41,29 +38,21 @@ fn put_number(out: &mut [u8], at: usize, n: u64, end: &[u8]) -> usize
     put(out, next, end)
 }
 
-// Puts the line of an answer in front, and answers how many bytes it has.
-fn write_line(verdict: Verdict, out: &mut [u8]) -> usize
+// Puts the line of an accepted file in front, and answers how many bytes it has.
+pub fn accepted_line(count: u64, out: &mut [u8]) -> usize
     requires { ⌜ Room (now out) 0 64 ⌝ }
-    ensures { λ r. ⌜ Written verdict (now (out .exit)) r ⌝ }
+    ensures { λ r. ⌜ Written (accepted count) (now (out .exit)) r ⌝ }
 {
-    match verdict {
-        Verdict::Accepted(count) => {
-            let next = put(out, 0, b"accepted ");
-            put_number(out, next, count as u64, b"\n")
-        }
-        Verdict::Refused(refusal) => {
-            let next = put(out, 0, b"refused ");
-            let last = put_number(out, next, refusal.number as u64, b" ");
-            put_number(out, last, refusal.place as u64, b"\n")
-        }
-    }
+    let next = put(out, 0, b"accepted ");
+    put_number(out, next, count, b"\n")
 }
 
-// The check of a file, and its line.
-pub fn answer(file: &[u8], out: &mut [u8]) -> usize
+// The line of a refused file, alike.
+pub fn refused_line(number: u64, place: u64, out: &mut [u8]) -> usize
     requires { ⌜ Room (now out) 0 64 ⌝ }
-    ensures { λ r. ⌜ Written (answerOf (verdictOf standard (now (file .entry)))) (now (out .exit)) r ⌝ }
+    ensures { λ r. ⌜ Written (refused number place) (now (out .exit)) r ⌝ }
 {
-    let verdict = flow::check(file);
-    write_line(verdict, out)
+    let next = put(out, 0, b"refused ");
+    let last = put_number(out, next, number, b" ");
+    put_number(out, last, place, b"\n")
 }

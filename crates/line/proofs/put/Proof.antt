@@ -1,4 +1,4 @@
--- `flowcheck::line::put` meets its contract: after i turns the first i bytes stand there. The measure is what is left.
+-- `line::put` meets its contract: after i turns the first i bytes stand there. The measure is what is left.
 -- Assumes nothing.
 use native.Mathlib.Omega.{arith}
 use native.Mathlib.Numerals.{add-one}
@@ -6,9 +6,9 @@ use mathlib.Core.Path.{_≡_, refl}
 use Prim.Native.Nat.{_+_, _-_, _<_, _≤_}
 use lib.ListN.{length, length-set}
 use lib.Seq.{paste, paste-zero, paste-suc}
-use Rattle.flowcheck.proofs.Lines.{put-done}
-use Rattle.flowcheck.proofs.line.put.Statement.{statement}
-use Rattle.flowcheck.proofs.line.put.Tie as tie
+use Rattle.line.proofs.Lines.{put-done}
+use Rattle.line.proofs.put.Statement.{statement}
+use Rattle.line.proofs.put.Tie as tie
 
 abbrev Inv-loop : tie.InvT-loop
 Inv-loop out₀ at text i₀ out i =

@@ -18,11 +18,9 @@ use lib.Dec.{ltb, leb}
 use lib.ListN.{length, take, length-append}
 use lib.Seq.{paste, take-paste, take-all, length-take-le}
 use Rattle.io.specs.Digits.{glyph, digits, Fewest}
-use Rattle.context.specs.declared.Refusal.{Refusal}
-use Rattle.flow.specs.declared.Verdict.{Verdict}
-use Rattle.flow.specs.declared.Verdict.the-variants.{Accepted, Refused}
-use Rattle.flowcheck.specs.Line.{decimalBy, decimal, acceptedText, refusedText, lineOf, Written}
-use Rattle.flowcheck.specs.Putting.{Put}
+use Rattle.rules.specs.Judge.{accepted, refused}
+use Rattle.line.specs.Line.{decimalBy, decimal, acceptedText, refusedText, lineOf, Written}
+use Rattle.line.specs.Putting.{Put}
 
 pub put-done : (before : List ℕ) (at : ℕ) (text after : List ℕ) (i : ℕ) → i ≤ length text → length text ≤ i →
     at + length text ≤ length before → length after ≡ length before → after ≡ paste before at text i →
@@ -133,29 +131,20 @@ put-both {a} {s = s} {t} {at} p q =
 pub number-short : (n x : ℕ) → length (decimal n ++ (x ∷ [])) ≤ 21
 number-short n x = let h = decimal-short n in let l = length-append (decimal n) (x ∷ []) in omega arith
 
-pub accepted-line : (v : Verdict) {o₀ o₁ o₂ : List ℕ} {a r : ℕ} (n : ℕ) → v ≡ Accepted n → 64 ≤ length o₀ →
-    Put o₀ 0 acceptedText o₁ a → Put o₁ a (decimal n ++ (10 ∷ [])) o₂ r → Written v o₂ r
+pub accepted-line : {o₀ o₁ o₂ : List ℕ} {a r : ℕ} (n : ℕ) → 64 ≤ length o₀ →
+    Put o₀ 0 acceptedText o₁ a → Put o₁ a (decimal n ++ (10 ∷ [])) o₂ r → Written (accepted n) o₂ r
 unfolding lineOf
-accepted-line v {o₂ = o₂} {r = r} n e h p q =
+accepted-line {o₂ = o₂} {r = r} n h p q =
     let l = number-short n 10 in
     let inside : r ≤ length o₂ = omega (arith, p .end, p .size, q .end, q .size) in
-    record {
-      inside = inside;
-      count = sym (length-take-le _ _ inside);
-      content = more q (more p refl) ∙ ap lineOf (sym e);
-    }
+    record { inside = inside; count = sym (length-take-le _ _ inside); content = more q (more p refl) }
 
-pub refused-line : (v : Verdict) {o₀ o₁ o₂ o₃ : List ℕ} {a b r : ℕ} (x : Refusal) → v ≡ Refused x → 64 ≤ length o₀ →
-    Put o₀ 0 refusedText o₁ a → Put o₁ a (decimal (x .number) ++ (32 ∷ [])) o₂ b →
-    Put o₂ b (decimal (x .place) ++ (10 ∷ [])) o₃ r →
-    Written v o₃ r
+pub refused-line : {o₀ o₁ o₂ o₃ : List ℕ} {a b r : ℕ} (k i : ℕ) → 64 ≤ length o₀ →
+    Put o₀ 0 refusedText o₁ a → Put o₁ a (decimal k ++ (32 ∷ [])) o₂ b → Put o₂ b (decimal i ++ (10 ∷ [])) o₃ r →
+    Written (refused k i) o₃ r
 unfolding lineOf
-refused-line v {o₃ = o₃} {r = r} x e h p q s =
-    let l = number-short (x .number) 32 in
-    let m = number-short (x .place) 10 in
+refused-line {o₃ = o₃} {r = r} k i h p q s =
+    let l = number-short k 32 in
+    let m = number-short i 10 in
     let inside : r ≤ length o₃ = omega (arith, p .end, p .size, q .end, q .size, s .end, s .size) in
-    record {
-      inside = inside;
-      count = sym (length-take-le _ _ inside);
-      content = more s (more q (more p refl)) ∙ ap lineOf (sym e);
-    }
+    record { inside = inside; count = sym (length-take-le _ _ inside); content = more s (more q (more p refl)) }
