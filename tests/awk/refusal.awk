@@ -63,10 +63,14 @@ function count(n, one, more) { return n == 1 ? "1 " one : n " " more }
     showing = 1
 }
 # what is expected and what was found, and not the advice that follows
-showing && /^  (computed|expected|but this|\(expected|\(found|and the other|≟|does not hold|`simp`|is none)/ {
+showing && /^  ≟/ && before != "" { print "    " plain(substr(before, 3)) }
+showing && /^  (computed|expected|but this|\(expected|\(found|and the other|≟|does not hold|`(simp|rw)` has|`cc`: |is none)/ {
     sub(/ \(this comparison, made at.*/, "")
+    sub(/, by congruence, computation .*/, "")
     print "    " plain(substr($0, 3))
 }
+# the left side of `≟` stands in the line before it
+showing { before = /^  `/ ? $0 : "" }
 
 # of a function that has no proof of its own: the fact in words, and the goal that was left
 /^note: .*: it is not proved that / && ++notes <= 3 { print "  " substr($0, length("note: " folder) + 2) }
