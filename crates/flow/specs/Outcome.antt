@@ -10,7 +10,7 @@ use mathlib.Core.List.{List}
 use Prim.Native.Nat.{ℕ, _*_, _≤_}
 use lib.ListN.{length}
 use Rattle.rules.specs.Context as rules
-use Rattle.rules.specs.Judge.{Verdict, accepted, refused, judgeFlow}
+use Rattle.rules.specs.Judge.{Verdict, accepted, refused, judge}
 use Rattle.layout.specs.Reading.{Reading, read, fault}
 use Rattle.layout.specs.File.{badLength, File, wordsRead}
 use Rattle.ends.specs.Ends.{EndsOf}
@@ -28,7 +28,7 @@ withPlaces (refused k i) s = Refused (refusal k i)
 
 abbrev pub outcomeOf : rules.Context → Reading File → Outcome
 outcomeOf Γ (read f p) =
-    withPlaces (judgeFlow Γ (f .evidence) (f .pre) (f .program) (f .post))
+    withPlaces (judge Γ (f .evidence) (f .pre) (f .program) (f .post))
     (places (f .preAt) (f .postAt) (f .evidenceAt) p)
 outcomeOf Γ (fault n p) = Refused (refusal n p)
 

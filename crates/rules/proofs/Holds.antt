@@ -24,7 +24,6 @@ use Rattle.rules.specs.Condition.{Result, passes, fails, tooLarge, byFor
 use Rattle.rules.specs.Condition.{onArray, onIf, onWhile, onFor, onEmpty, onOne, onSome}
 use Rattle.rules.specs.Judge.{Verdict, accepted, refused, oneMore, _also_, Step, step, misfit, leaf, judgeWord}
 use Rattle.rules.specs.Judge.{Judge, GivenItem, GivenItems, Given, applied, preRule, setRule, flowRule, judge}
-use Rattle.rules.specs.Judge.{judgePre, judgeSet, judgeFlow}
 
 -- the count of evidence: what is carried has none
 abbrev pub tally : {s : Standing} → Tree s → ℕ
@@ -271,12 +270,12 @@ module _ {H : ℕ → Type 0} {P : Verdict → ℕ → Type 0} (holding : Holdin
     tree-holds (x & t) (a, b) = (tree-holds x a, tree-holds t b)
 
     pub pre-holds : (k : PreEvidence) (φ : Expr Boolean) (c : Command) (φ′ : Expr Boolean) → Everywhere H k →
-        P (judgePre Γ k φ c φ′) (tally k)
+        P (judge Γ k φ c φ′) (tally k)
     pre-holds k φ c φ′ a = tree-holds k a φ c φ′
 
-    pub set-holds : (k : SetEvidence) (p q : Members) → Everywhere H k → P (judgeSet Γ k p q) (tally k)
+    pub set-holds : (k : SetEvidence) (p q : Members) → Everywhere H k → P (judge Γ k p q) (tally k)
     set-holds k p q a = tree-holds k a p q
 
     pub flow-holds : (k : FlowEvidence) (p : Members) (c : Command) (q : Members) → Everywhere H k →
-        P (judgeFlow Γ k p c q) (tally k)
+        P (judge Γ k p c q) (tally k)
     flow-holds k p c q a = tree-holds k a p c q
