@@ -33,7 +33,7 @@ function source_line(place,    part, i, line) {
     sub(/^ +/, "", line)
     return line
 }
-# a function by its path, as `flow::rooms::outcome`: its place, signature and contract
+# a function by its path, as `outcomes::rooms::outcome`: its place, signature and contract
 function tell(path,    n, part, i, file, line, number, found) {
     n = split(path, part, "::")
     file = "crates/" part[1] "/src"

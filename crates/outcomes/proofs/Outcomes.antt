@@ -1,24 +1,20 @@
--- Outcomes: from words and from bytes, and the answer of the check.
+-- Outcomes, from words and from bytes.
 -- Assumes nothing.
 --     outcomeFrom, can-judge, judged-outcome    8 and 9: the goal that the evidence is judged against, and the outcome
 --     can-load                                  room for so many words
 --     found-judge, found-outcome, refused-outcome
 --                                               refusals 1 to 7
---     standard-within, outcome-answer           document 01's limits; the answer
 use mathlib.Core.Path.{_≡_, refl, sym, _∙_, ap, subst}
 use mathlib.Core.List.{List}
 use Prim.Native.Nat.{ℕ, _+_, _*_, _/_, _≤_}
 use native.Mathlib.Omega.{arith}
 use lib.ListN.{length, take}
-use Rattle.rules.specs.Context as rules
 use Rattle.rules.specs.Judge as judge
-use Rattle.layout.specs.Reading.{Reading, read, fault}
+use Rattle.layout.specs.Reading.{Reading}
 use Rattle.layout.specs.File.{File, fileOf, wordsRead}
-use Rattle.layout.specs.Verdict.{judged, verdictOf}
 use Rattle.context.specs.Contexts.{contextOf}
 use Rattle.context.specs.declared.Context.{Context}
 use Rattle.context.specs.declared.Refusal.{Refusal}
-use Rattle.reader.specs.File.{places}
 use Rattle.reader.specs.declared.Places.{Places}
 use Rattle.reader.specs.declared.Layout.{Layout}
 use Rattle.reader.specs.declared.Layout.the-variants as Layout
@@ -31,12 +27,9 @@ use Rattle.goals.proofs.Places.{member-set, commanded}
 use Rattle.goals.specs.declared.Goal.the-variants as Goal
 use Rattle.goals.specs.declared.Judged.{Judged}
 use Rattle.goals.specs.declared.Judged.the-variants as Judged
-use Rattle.flow.specs.Checked.{answerOf}
-use Rattle.flow.specs.Outcome.{withPlaces, outcomeOf, WithinLimits, CanJudgeFile, Within}
-use Rattle.flow.specs.declared.Verdict.{Verdict}
-use Rattle.flow.specs.declared.Verdict.the-variants as Verdict
-use Rattle.flow.specs.declared.Outcome.{Outcome}
-use Rattle.flow.specs.declared.Outcome.the-variants.{Accepted, Refused}
+use Rattle.outcomes.specs.Outcome.{withPlaces, outcomeOf, WithinLimits, CanJudgeFile, Within}
+use Rattle.outcomes.specs.declared.Outcome.{Outcome}
+use Rattle.outcomes.specs.declared.Outcome.the-variants.{Accepted, Refused}
 
 -- ---- refusals 8 and 9
 -- what the code makes of evidence judged
@@ -120,33 +113,3 @@ module _ {context : Context} {bytes words table : List ℕ} {r : Layout} (f : Fi
   refused-outcome x e =
       sym (ap (λ (z : Reading File). outcomeOf (contextOf context) z)
       (refused-file (fileOf (contextOf context) bytes) x (sym e ∙ f .layout)))
-
--- ---- the answer
--- document 01's limits are small enough
-pub standard-within : (context : Context) → contextOf context ≡ rules.standard → WithinLimits context
-unfolding rules.standard
-standard-within context e = record {
-  few = subst (λ (Γ : rules.Context). Γ .limits .comparisons ≤ 16) (sym e) (omega arith);
-  low = subst (λ (Γ : rules.Context). Γ .limits .depth ≤ 256) (sym e) (omega arith);
-}
-
-abbrev pub answerFrom : Outcome → Verdict
-answerFrom (Accepted n s) = Verdict.Accepted n
-answerFrom (Refused x) = Verdict.Refused x
-
-answer-places : (v : judge.Verdict) (s : Places) → answerFrom (withPlaces v s) ≡ answerOf v
-answer-places (judge.accepted n) s = refl
-answer-places (judge.refused k i) s = refl
-
-answer-read : (Γ : rules.Context) (x : Reading File) →
-    answerFrom (outcomeOf Γ x) ≡ answerOf (judged Γ x)
-answer-read Γ (read f p) =
-    answer-places (judged Γ (read f p))
-    (places (f .preAt) (f .postAt) (f .evidenceAt) p)
-answer-read Γ (fault n p) = refl
-
-pub outcome-answer : (Γ : rules.Context) (bytes : List ℕ) (r q : Outcome) →
-    r ≡ outcomeOf Γ (fileOf Γ bytes) → r ≡ q → answerFrom q ≡ answerOf (verdictOf Γ bytes)
-unfolding verdictOf
-outcome-answer Γ bytes r q e h =
-    ap (λ (z : Outcome). answerFrom z) (sym h ∙ e) ∙ answer-read Γ (fileOf Γ bytes)

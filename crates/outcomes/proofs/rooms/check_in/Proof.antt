@@ -1,10 +1,10 @@
--- `flow::rooms::check_in` meets its contract: refusals 1 to 7, then the judge over the words that were read.
+-- `outcomes::rooms::check_in` meets its contract: refusals 1 to 7, then the judge over the words that were read.
 -- Assumes nothing.
 use borrow.Author.Needs.{needs}
 use Rattle.file.proofs.Files.{file-words}
-use Rattle.flow.proofs.Outcomes.{found-judge, found-outcome, refused-outcome}
-use Rattle.flow.proofs.rooms.check_in.Statement.{statement}
-use Rattle.flow.proofs.rooms.check_in.Tie as tie
+use Rattle.outcomes.proofs.Outcomes.{found-judge, found-outcome, refused-outcome}
+use Rattle.outcomes.proofs.rooms.check_in.Statement.{statement}
+use Rattle.outcomes.proofs.rooms.check_in.Tie as tie
 
 -- where the file was read, seen from where its places are known
 abbrev read : tie.After-known-told → tie.After-read-file

@@ -1,10 +1,10 @@
--- `flow::rooms::outcome` meets its contract: the room that is chosen has place for the words of a file whose byte count is good.
+-- `outcomes::rooms::outcome` meets its contract: the room that is chosen has place for the words of a file whose byte count is good.
 -- Assumes nothing.
 use borrow.Author.Needs.{needs}
 use native.Mathlib.Omega.{arith}
 use Rattle.words.proofs.Lengths.{good-length}
-use Rattle.flow.proofs.rooms.outcome.Statement.{statement}
-use Rattle.flow.proofs.rooms.outcome.Tie as tie
+use Rattle.outcomes.proofs.rooms.outcome.Statement.{statement}
+use Rattle.outcomes.proofs.rooms.outcome.Tie as tie
 
 pub outcome-spec : {M : Type 1} → statement M
 outcome-spec =

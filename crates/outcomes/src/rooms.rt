@@ -10,7 +10,7 @@ ghost use mathlib.Core.Path.{_≡_};
 ghost use Rattle.layout.specs.File.{fileOf, wordsRead};
 ghost use Rattle.context.specs.Contexts.{contextOf};
 ghost use Rattle.file.specs.Found.{CanLoad};
-ghost use Rattle.flow.specs.Outcome.{outcomeOf, WithinLimits, Within, CanJudgeFile};
+ghost use Rattle.outcomes.specs.Outcome.{outcomeOf, WithinLimits, Within, CanJudgeFile};
 
 // Refusals 8 and 9: the evidence is judged with every level left.
 fn judge_file(w: &[u32], ends: &[u32], context: Context, places: Places) -> Outcome
@@ -102,7 +102,7 @@ fn check_8192(file: &[u8], context: Context) -> Outcome
 
 // Refusals 1 to 9. Clearing room for 8,192 words would be most of a small file's cost, so a file gets the least of these
 // rooms that it fits.
-pub(crate) fn outcome(file: &[u8], context: Context) -> Outcome
+pub fn outcome(file: &[u8], context: Context) -> Outcome
     requires { ⌜ WithinLimits context ⌝ }
     ensures { λ r. ⌜ r ≡ outcomeOf (contextOf context) (fileOf (contextOf context) (now (file .entry))) ⌝ }
 {

@@ -1,9 +1,9 @@
--- `flow::rooms::check_4096` meets its contract.
+-- `outcomes::rooms::check_4096` meets its contract.
 -- Assumes nothing.
 use borrow.Author.Needs.{needs}
-use Rattle.flow.proofs.Outcomes.{can-load}
-use Rattle.flow.proofs.rooms.check_4096.Statement.{statement}
-use Rattle.flow.proofs.rooms.check_4096.Tie as tie
+use Rattle.outcomes.proofs.Outcomes.{can-load}
+use Rattle.outcomes.proofs.rooms.check_4096.Statement.{statement}
+use Rattle.outcomes.proofs.rooms.check_4096.Tie as tie
 
 pub check-4096-spec : {M : Type 1} → statement M
 check-4096-spec =

@@ -1,9 +1,9 @@
--- `flow::rooms::judge_file` meets its contract: the goal stands at the places that were found.
+-- `outcomes::rooms::judge_file` meets its contract: the goal stands at the places that were found.
 -- Assumes nothing.
 use borrow.Author.Needs.{needs}
-use Rattle.flow.proofs.Outcomes.{can-judge, judged-outcome}
-use Rattle.flow.proofs.rooms.judge_file.Statement.{statement}
-use Rattle.flow.proofs.rooms.judge_file.Tie as tie
+use Rattle.outcomes.proofs.Outcomes.{can-judge, judged-outcome}
+use Rattle.outcomes.proofs.rooms.judge_file.Statement.{statement}
+use Rattle.outcomes.proofs.rooms.judge_file.Tie as tie
 
 pub judge-file-spec : {M : Type 1} → statement M
 judge-file-spec =

@@ -1,5 +1,5 @@
 -- What refusals 1 to 9 leave of a file, with the places of its parts.
--- Working: `outcome-answer` of proofs/Outcomes and `accepted-at` of proofs/Parts tie it to the layout's verdict.
+-- Working: `outcome-answer` of flow/proofs/Answers and `accepted-at` of flow/proofs/Parts tie it to the layout's verdict.
 -- Assumes nothing.
 --     withPlaces, outcomeOf    a verdict with places; of what was read
 --     WithinLimits             limits that the code can serve
@@ -19,8 +19,8 @@ use Rattle.context.specs.declared.Context.{Context}
 use Rattle.reader.specs.File.{places, placesOf}
 use Rattle.reader.specs.declared.Places.{Places}
 use Rattle.reader.specs.declared.Layout.the-variants as Layout
-use Rattle.flow.specs.declared.Outcome.{Outcome}
-use Rattle.flow.specs.declared.Outcome.the-variants.{Accepted, Refused}
+use Rattle.outcomes.specs.declared.Outcome.{Outcome}
+use Rattle.outcomes.specs.declared.Outcome.the-variants.{Accepted, Refused}
 
 abbrev pub withPlaces : Verdict → Places → Outcome
 withPlaces (accepted n) s = Accepted n s
