@@ -33,7 +33,7 @@ function source_line(place,    part, i, line) {
     sub(/^ +/, "", line)
     return line
 }
-# a function by its path, as `flow::rooms::outcome`: its place, signature and contract
+# a function by its path, as `outcomes::rooms::outcome`: its place, signature and contract
 function tell(path,    n, part, i, file, line, number, found) {
     n = split(path, part, "::")
     file = "crates/" part[1] "/src"
@@ -63,10 +63,14 @@ function count(n, one, more) { return n == 1 ? "1 " one : n " " more }
     showing = 1
 }
 # what is expected and what was found, and not the advice that follows
-showing && /^  (computed|expected|but this|\(expected|\(found|and the other|≟|does not hold|`simp`|is none)/ {
+showing && /^  ≟/ && before != "" { print "    " plain(substr(before, 3)) }
+showing && /^  (computed|expected|but this|\(expected|\(found|and the other|≟|does not hold|`(simp|rw)` has|`cc`: |is none)/ {
     sub(/ \(this comparison, made at.*/, "")
+    sub(/, by congruence, computation .*/, "")
     print "    " plain(substr($0, 3))
 }
+# the left side of `≟` stands in the line before it
+showing { before = /^  `/ ? $0 : "" }
 
 # of a function that has no proof of its own: the fact in words, and the goal that was left
 /^note: .*: it is not proved that / && ++notes <= 3 { print "  " substr($0, length("note: " folder) + 2) }

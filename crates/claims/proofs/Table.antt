@@ -1,15 +1,14 @@
 -- Every starred row of document 01 is as the definitions say: computed from them, row by row.
 -- Assumes nothing.
 --     table-right    the rows
-use mathlib.Core.Path.{_≡_, refl}
-use mathlib.Core.Bool.{true}
+use mathlib.Core.Path.{refl}
 use Rattle.language.specs.Store.{value}
 use Rattle.language.specs.Modifies.{identifiers}
 use Rattle.rules.specs.Words.{words, commandWords}
 use Rattle.rules.specs.Context.{standard}
 use Rattle.rules.specs.Replace.{replace}
 use Rattle.rules.specs.Sets.{setIdentifiers}
-use Rattle.rules.specs.Condition.{test, _then_, byForm}
+use Rattle.rules.specs.Condition.{test, byForm}
 use Rattle.rules.specs.Judge.{oneMore, judgeWord, flowRule, judge}
 use Rattle.layout.specs.Reading.{_⊛_, several, wordDue}
 use Rattle.layout.specs.Read.{expression, command, set}
@@ -21,10 +20,11 @@ use Rattle.layout.specs.Verdict.{verdictOf}
 use Rattle.execution.specs.Evaluate.{evaluate}
 use Rattle.execution.specs.Run.{turns, run}
 use Rattle.execution.specs.Ran.{runFile, runOf}
-use Rattle.claims.specs.Table.{right, allRight, table}
+use Rattle.claims.specs.Table.{AllRight, table}
 
-pub table-right : allRight table ≡ true
-unfolding allRight table right verdictOf fileOf wordsOf wordsRead parts finish steadyFile unsteadyAt firstUnsteady standard
-    words commandWords replace test _then_ byForm oneMore judgeWord flowRule judge _⊛_ several wordDue expression command set
-    evidence value identifiers setIdentifiers evaluate turns run runFile runOf
-table-right = refl
+pub table-right : AllRight table
+unfolding table verdictOf fileOf wordsOf wordsRead parts finish steadyFile unsteadyAt firstUnsteady standard words commandWords
+    replace test byForm oneMore judgeWord flowRule judge _⊛_ several wordDue expression command set evidence value
+    identifiers setIdentifiers evaluate turns run runFile runOf
+table-right =
+    (refl, (refl, (refl, (refl, (refl, (refl, (refl, (refl, (refl, (refl, ((refl, refl, refl), ((refl, refl, refl), ((refl, refl, refl), tt)))))))))))))

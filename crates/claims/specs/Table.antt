@@ -2,16 +2,15 @@
 -- Trusted. Assumes nothing.
 --     bytesOf      the bytes of words that are written as kind and payload
 --     Row          a file with its verdict; a constant's payload with its integer; a run of a `for` over skip
---     right        whether a row is as the definitions say
+--     Right        a row is as the definitions say
 --     table        the rows
-use mathlib.Core.Bool.{Bool, true, false, _&&_}
+use mathlib.Core.Path.{_≡_}
 use mathlib.Core.List.{List, [], _∷_}
 use Prim.Native.Nat.{ℕ, _+_, _*_, _/_, _%_}
-use lib.Dec.{eqb}
 use lib.IntN.{ℤ, pos, negsuc}
 use lib.ListN.{getD, replicate}
 use Rattle.language.specs.Syntax.{Arithmetic, Expr}
-use Rattle.language.specs.Store.{sameInteger, value}
+use Rattle.language.specs.Store.{value}
 use Rattle.rules.specs.Context.{standard}
 use Rattle.rules.specs.Judge.{Verdict, accepted, refused}
 use Rattle.layout.specs.Bytes.{wordsOf, payloads}
@@ -35,26 +34,14 @@ pub data Row : Type 0 where
   constant : ℕ → ℤ → Row
   forSkip : ℤ → ℕ → Answer → ℕ → ℤ → Row
 
-abbrev pub sameVerdict : Verdict → Verdict → Bool
-sameVerdict (accepted m) (accepted n) = eqb m n
-sameVerdict (accepted m) (refused k i) = false
-sameVerdict (refused k i) (accepted n) = false
-sameVerdict (refused k i) (refused l j) = eqb k l && eqb i j
-
-abbrev pub sameAnswer : Answer → Answer → Bool
-sameAnswer done done = true
-sameAnswer done (stops k i) = false
-sameAnswer (stops k i) done = false
-sameAnswer (stops k i) (stops l j) = eqb k l && eqb i j
-
 -- 0 everywhere but for scalar 1
 abbrev pub storeWith : ℤ → Lent
 storeWith m = record { scalars = pos 0 ∷ m ∷ replicate 30 (pos 0); values = replicate 2048 (pos 0) }
 
 -- what was read is worth z; in one store, since a constant has one value in all
-abbrev pub constantIs : Reading (Expr Arithmetic) → ℤ → Bool
-constantIs (read e p) z = sameInteger (value e (storeOf (storeWith (pos 0)))) z
-constantIs (fault k p) z = false
+abbrev pub ConstantIs : Reading (Expr Arithmetic) → ℤ → Type 0
+ConstantIs (read e p) z = value e (storeOf (storeWith (pos 0))) ≡ z
+ConstantIs (fault k p) z = ⊥
 
 -- the second file, with word 5 as 2:x
 abbrev pub copying : ℕ → List (ℕ × ℕ)
@@ -64,18 +51,17 @@ copying x = (63, 10) ∷ (27, 0) ∷ (2, 1) ∷ (32, 1) ∷ (9, 1) ∷ (2, x) �
 abbrev pub skipped : List (ℕ × ℕ)
 skipped = (63, 6) ∷ (31, 32) ∷ (24, 0) ∷ (32, 0) ∷ (32, 0) ∷ (33, 10) ∷ []
 
-abbrev pub ranAs : Ran → Answer → ℕ → ℤ → Bool
-ranAs r a n q =
-    sameAnswer (r .answer) a && (eqb (r .steps) n && sameInteger (getD (r .store .scalars) 0 (pos 0)) q)
+abbrev pub RanAs : Ran → Answer → ℕ → ℤ → Type 0
+RanAs r a n q = (r .answer ≡ a) × (r .steps ≡ n) × (getD (r .store .scalars) 0 (pos 0) ≡ q)
 
-unfoldable pub right : Row → Bool
-right (file l v) = sameVerdict (verdictOf standard (bytesOf l)) v
-right (constant p z) = constantIs (expression (wordsOf (bytesOf ((1, p) ∷ []))) 1 Arithmetic 0) z
-right (forSkip m budget a n q) = ranAs (runOf standard (bytesOf skipped) budget (storeWith m)) a n q
+abbrev pub Right : Row → Type 0
+Right (file l v) = verdictOf standard (bytesOf l) ≡ v
+Right (constant p z) = ConstantIs (expression (wordsOf (bytesOf ((1, p) ∷ []))) 1 Arithmetic 0) z
+Right (forSkip m budget a n q) = RanAs (runOf standard (bytesOf skipped) budget (storeWith m)) a n q
 
-unfoldable pub allRight : List Row → Bool
-allRight [] = true
-allRight (r ∷ l) = right r && allRight l
+abbrev pub AllRight : List Row → Type 0
+AllRight [] = Unit {0}
+AllRight (r ∷ l) = Right r × AllRight l
 
 unfoldable pub table : List Row
 table =

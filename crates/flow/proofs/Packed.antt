@@ -1,7 +1,8 @@
 -- The numbers of a verdict are small, so the answer for C has room for them (document 01, "Judging order").
 -- Assumes nothing.
 --     SmallBy, verdict-small             the numbers of a verdict
---     accepted-small, refused-small      the same, of the check's answer
+--     was-accepted, was-refused          the verdict, by the check's answer
+--     accepted-small, refused-small      its numbers are small
 --     accepted-packed, refused-packed    the number for C
 use mathlib.Core.Path.{_≡_, refl, sym, _∙_, ap, subst}
 use mathlib.Core.List.{List}
@@ -77,10 +78,10 @@ refused-verdict (judge.accepted m) x e = absurd (let z : _≡_ {A = ℕ} 0 1 = c
 refused-verdict (judge.refused m j) x e = cc
 
 module _ {bytes : List ℕ} {r : Verdict} (h : Checked bytes r) where
-  was-accepted : (n : ℕ) → r ≡ Accepted n → verdictOf standard bytes ≡ judge.accepted n
+  pub was-accepted : (n : ℕ) → r ≡ Accepted n → verdictOf standard bytes ≡ judge.accepted n
   was-accepted n e = accepted-verdict (verdictOf standard bytes) n (sym e ∙ h .answer)
 
-  was-refused : (x : Refusal) → r ≡ Refused x → verdictOf standard bytes ≡ judge.refused (x .number) (x .place)
+  pub was-refused : (x : Refusal) → r ≡ Refused x → verdictOf standard bytes ≡ judge.refused (x .number) (x .place)
   was-refused x e = refused-verdict (verdictOf standard bytes) x (sym e ∙ h .answer)
 
   pub accepted-small : (n : ℕ) → r ≡ Accepted n → n ≤ 8192

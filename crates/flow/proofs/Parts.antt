@@ -28,9 +28,9 @@ use Rattle.words.proofs.Loading.{words-length}
 use Rattle.reader.specs.File.{places}
 use Rattle.context.specs.declared.Refusal.{Refusal}
 use Rattle.reader.specs.declared.Places.{Places}
-use Rattle.flow.specs.Outcome.{withPlaces, outcomeOf}
-use Rattle.flow.specs.declared.Outcome.{Outcome}
-use Rattle.flow.specs.declared.Outcome.the-variants.{Accepted, Refused}
+use Rattle.outcomes.specs.Outcome.{withPlaces, outcomeOf}
+use Rattle.outcomes.specs.declared.Outcome.{Outcome}
+use Rattle.outcomes.specs.declared.Outcome.the-variants.{Accepted, Refused}
 use Rattle.words.proofs.Lengths.{bad-file, good-file, good-length}
 
 -- a file that was read from bytes

@@ -10,7 +10,7 @@ use Rattle.language.specs.Syntax.{Command}
 use Rattle.rules.specs.Assertion.{Members}
 use Rattle.rules.specs.Context.{Context}
 use Rattle.rules.specs.Evidence.{Standing, Tree, by, assertion, command, members, child, done, _&_, FlowEvidence}
-use Rattle.rules.specs.Judge.{Verdict, accepted, refused, oneMore, _also_, judgeFlow}
+use Rattle.rules.specs.Judge.{Verdict, accepted, refused, oneMore, _also_, judge}
 use Rattle.rules.proofs.Holds.{Everywhere, Holding, flow-holds}
 use Rattle.layout.specs.Bytes.{wordCount}
 use Rattle.layout.specs.EvidenceWords.{spelledTree, FitsTree}
@@ -65,5 +65,5 @@ standing Γ file (x & t) d at p s =
     (standing Γ file x d at (y .0) (y .1), standing Γ file t d (y .0) p (y .2))
 
 pub flow-inside : (Γ : Context) (file : List ℕ) (k : FlowEvidence) (m : Members) (c : Command) (n : Members)
-    (d at p : ℕ) → TreeAt Γ file d at k p → Inside (wordCount file) (judgeFlow Γ k m c n)
+    (d at p : ℕ) → TreeAt Γ file d at k p → Inside (wordCount file) (judge Γ k m c n)
 flow-inside Γ file k m c n d at p s = flow-holds (inside (wordCount file)) Γ k m c n (standing Γ file k d at p s)

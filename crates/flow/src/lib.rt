@@ -1,10 +1,8 @@
 // The check on bytes (document 01, "Judging order" 1 to 9): the public calls.
-mod rooms; // rooms.rt: refusals 1 to 9 in order, in room by the size of the file
-
 use context::Refusal;
 use file::standard_context;
-use reader::Places;
-use rooms::outcome;
+use outcomes::Outcome;
+use outcomes::rooms::outcome;
 ghost use mathlib.Core.Path.{_≡_};
 ghost use Prim.Native.Nat.{_*_, _≤_};
 ghost use lib.ListN.{length};
@@ -14,17 +12,11 @@ ghost use Rattle.layout.specs.Verdict.{verdictOf, bytesBetween, packed};
 ghost use Rattle.layout.specs.Verdict.{precondition as preconditionOf, postcondition as postconditionOf};
 ghost use Rattle.layout.specs.Verdict.{packedPlaces, programPlaces, preconditionPlaces, postconditionPlaces};
 ghost use Rattle.flow.specs.Checked.{Checked};
-ghost use Rattle.flow.specs.Outcome.{outcomeOf};
+ghost use Rattle.outcomes.specs.Outcome.{outcomeOf};
 
 // The count of evidence words, or the refusal.
 pub enum Verdict {
     Accepted(usize),
-    Refused(Refusal),
-}
-
-// The same, with the places of an accepted file's parts.
-enum Outcome {
-    Accepted(usize, Places),
     Refused(Refusal),
 }
 

@@ -27,7 +27,7 @@ use Rattle.rule_laws.proofs.Commands.{other-than-skip, other-than-scalar, other
 use Rattle.sets.specs.Trees.{RightSide, PutStands, put-scalar, put-array}
 use Rattle.sets.specs.Rules.{CanReplaced, CanUnder, SameWritten, SameReplaced, SameUnder}
 use Rattle.set_laws.proofs.Sets.{has-set}
-use Rattle.flow_rules.proofs.Goal.{by-test, no-parts, trees}
+use Rattle.flow_compound.proofs.Goal.{by-test, no-parts, trees}
 
 -- the right side of the assignment at c, for the word n:x
 abbrev pub putting : List ℕ → List ℕ → ℕ → ℕ → Put

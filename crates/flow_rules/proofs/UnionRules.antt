@@ -18,8 +18,8 @@ use Rattle.goals.proofs.Comes.{two-children, FlowComes, flow-rule}
 use Rattle.rule_laws.proofs.Trying.{parts-of, up-to}
 use Rattle.sets.specs.Rules.{CanThree, SameUnion}
 use Rattle.set_laws.proofs.Sets.{has-set}
-use Rattle.flow_rules.proofs.Goal.{second, third, fourth, first-fails, second-test}
-use Rattle.flow_rules.proofs.Goal.{trees}
+use Rattle.flow_compound.proofs.Goal.{second, third, fourth, first-fails, second-test}
+use Rattle.flow_compound.proofs.Goal.{trees}
 
 module _ {Γ : Context} {file ends : List ℕ} {p c q at : ℕ} (can : CanTry file ends Γ 9 (Flow p c q) at) where
   asked : (t : Parts (row flow9 .after)) (d end : ℕ) → Placed Γ file ends d t (at + 1) end →

@@ -24,7 +24,7 @@ use Rattle.rule_laws.proofs.Trying.{up-to}
 use Rattle.sets.specs.Piles.{countAt}
 use Rattle.sets.specs.Rules.{SameWritten}
 use Rattle.set_laws.proofs.Sets.{is-one, not-one}
-use Rattle.flow_rules.proofs.Goal.{first-fails, second-test, no-parts, trees}
+use Rattle.flow_compound.proofs.Goal.{first-fails, second-test, no-parts, trees}
 
 module _ {Γ : Context} {file ends : List ℕ} {p c q at : ℕ} (can : CanTry file ends Γ 10 (Flow p c q) at) where
   pub can-keep-set : CanKeep file ends q c

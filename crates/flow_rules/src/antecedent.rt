@@ -10,7 +10,7 @@ ghost use Rattle.context.specs.Contexts.{contextOf};
 ghost use Rattle.goals.specs.Children.{childAt};
 ghost use Rattle.goals.specs.Goals.{CanTry, StepOf};
 ghost use Rattle.goals.specs.declared.Goal.the-variants.{Flow};
-ghost use Rattle.flow_rules.specs.Children.{CanChild};
+ghost use Rattle.flow_compound.specs.Children.{CanChild};
 
 // Rule 12. Carries S, S', φ and φ'; P same as S under φ, Q as S' under φ'.
 pub fn rule_12(

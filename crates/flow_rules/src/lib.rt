@@ -1,15 +1,12 @@
 // The rules of flow (document 01, rules 1 to 14), at the evidence word at `at`, of kind 33, for the set at p, the
-// command at c and the set at q. `rule_` with a rule's number tries its conditions, `child_` gives the goal of its k-th
-// child, 0 the first. They are called alike, so that some do not use all that they are given; no rule of flow has an
-// implication of its own, and none uses the context.
+// command at c and the set at q; those of compound commands are in `flow_compound`. `rule_` with a rule's number tries
+// its conditions, `child_` gives the goal of its k-th child, 0 the first. They are called alike, so that some do not use
+// all that they are given; no rule of flow has an implication of its own, and none uses the context.
 pub mod atomic; // rules 1, 3, 4 and 5: commands of one step
-pub mod sequence; // rule 2
-pub mod branch; // rule 6: if
 pub mod consequence; // rules 7 and 8
 pub mod union; // rule 9
 pub mod unmodified; // rules 10 and 11: what is not modified
 pub mod antecedent; // rule 12: sets under an assertion
-pub mod loops; // rules 13 and 14
 
 use antecedent::child_12;
 use antecedent::rule_12;
@@ -17,21 +14,21 @@ use atomic::rule_1;
 use atomic::rule_3;
 use atomic::rule_4;
 use atomic::rule_5;
-use branch::child_6;
-use branch::rule_6;
 use consequence::child_7;
 use consequence::child_8;
 use consequence::rule_7;
 use consequence::rule_8;
 use context::Context;
+use flow_compound::branch::child_6;
+use flow_compound::branch::rule_6;
+use flow_compound::loops::child_13;
+use flow_compound::loops::child_14;
+use flow_compound::loops::rule_13;
+use flow_compound::loops::rule_14;
+use flow_compound::sequence::child_2;
+use flow_compound::sequence::rule_2;
 use goals::Goal;
 use implication::Condition;
-use loops::child_13;
-use loops::child_14;
-use loops::rule_13;
-use loops::rule_14;
-use sequence::child_2;
-use sequence::rule_2;
 use union::child_9;
 use union::rule_9;
 use unmodified::child_11;
@@ -43,7 +40,7 @@ ghost use Rattle.context.specs.Contexts.{contextOf};
 ghost use Rattle.goals.specs.Children.{childAt};
 ghost use Rattle.goals.specs.Goals.{CanStep, StepOf};
 ghost use Rattle.goals.specs.declared.Goal.the-variants.{Flow};
-ghost use Rattle.flow_rules.specs.Children.{CanChild};
+ghost use Rattle.flow_compound.specs.Children.{CanChild};
 
 // What the conditions of the rule at the evidence word come to.
 pub fn flow_condition(

@@ -10,7 +10,7 @@ ghost use Rattle.context.specs.Contexts.{contextOf};
 ghost use Rattle.goals.specs.Children.{childAt};
 ghost use Rattle.goals.specs.Goals.{CanTry, StepOf};
 ghost use Rattle.goals.specs.declared.Goal.the-variants.{Flow};
-ghost use Rattle.flow_rules.specs.Children.{CanChild};
+ghost use Rattle.flow_compound.specs.Children.{CanChild};
 
 // Rule 9. Carries S, S', T and T'; P same as S ∪ T, Q as S' ∪ T'.
 pub fn rule_9(

@@ -1,13 +1,13 @@
 // The program: a file from standard input, and the check's answer on standard output, as one line.
+mod answer; // answer.rt: the check of the file, and its line
 mod input; // input.rt: the file
-mod line; // line.rt: the line
 
+use answer::answer;
 use input::read_file;
 use libc::STDOUT_FILENO;
-use line::answer;
 ghost use Prim.Native.Nat.{_+_, _<_, _≤_};
 ghost use lib.ListN.{length};
-ghost use Rattle.flowcheck.specs.Line.{LineFor};
+ghost use Rattle.line.specs.Line.{LineFor};
 
 // Writes the line from a byte on, by one call, and answers how many bytes were taken: 0 if the write failed. Nothing else in the
 // program writes. `file` is there for the contract: only the line of the check's answer for these bytes is written.

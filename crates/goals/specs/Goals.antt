@@ -1,5 +1,5 @@
 -- Goals by places, and the goals and evidence that stand there as trees; the contract of every rule.
--- Working: `can-judge` and `judged-outcome` of flow/proofs/Outcomes tie it to what refusals 8 and 9 leave of a file;
+-- Working: `can-judge` and `judged-outcome` of outcomes/proofs/Outcomes tie it to what refusals 8 and 9 leave of a file;
 -- what is judged is an equation with `judge`. Assumes nothing.
 --     TreeGoal, verdict, verdicts    evidence with the goal that it is judged against; its verdict; of several
 --     treeStep, treeItems            what the rule of its word comes to; what stands after that word

@@ -36,7 +36,7 @@ use Rattle.goals.specs.Children.{ofRule, flowChildren, setChildren, preChildren
 use Rattle.goals.specs.Goals.{TreeGoal, verdict, verdicts, treeStep, treeItems, GoalStands, GoalsStand}
 use Rattle.goals.specs.Goals.{flow, set, pre, flow-stands, set-stands, pre-stands, CanStep, StepOf, judgedOf, CanJudge, JudgedOf}
 use Rattle.goals.proofs.Children.{row-is}
-use Rattle.flow_rules.specs.Children as flows
+use Rattle.flow_compound.specs.Children as flows
 use Rattle.judge.specs.Row.{PastCarried}
 use Rattle.judge.specs.declared.row.First.{First}
 use Rattle.judge.specs.Going.{CanChild, CanGo, Goes}

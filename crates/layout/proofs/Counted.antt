@@ -23,7 +23,7 @@ use Rattle.rules.specs.Assertion.{Members}
 use Rattle.rules.specs.Context.{Context}
 use Rattle.rules.specs.Evidence.{flow, implication, precondition, Standing, Tree, by, assertion, command, members}
 use Rattle.rules.specs.Evidence.{child, done, _&_, FlowEvidence, SetEvidence, PreEvidence}
-use Rattle.rules.specs.Judge.{Verdict, accepted, refused, oneMore, _also_, judgePre, judgeSet, judgeFlow}
+use Rattle.rules.specs.Judge.{Verdict, accepted, refused, oneMore, _also_, judge}
 use Rattle.rules.proofs.Holds.{tally, Everywhere, Holding, pre-holds, set-holds, flow-holds}
 use Rattle.layout.specs.Bytes.{wordCount, numberAt, payloads}
 use Rattle.layout.specs.Spelling.{SpelledAt}
@@ -165,19 +165,19 @@ anywhere (x & t) = (anywhere x, anywhere t)
 
 module _ (Γ : Context) where
   pub pre-counts : (k : PreEvidence) (φ : Expr Boolean) (c : Command) (φ′ : Expr Boolean) →
-      Counts (judgePre Γ k φ c φ′) (tally k)
+      Counts (judge Γ k φ c φ′) (tally k)
   pre-counts k φ c φ′ = pre-holds counting Γ k φ c φ′ (anywhere k)
 
-  pub set-counts : (k : SetEvidence) (p q : Members) → Counts (judgeSet Γ k p q) (tally k)
+  pub set-counts : (k : SetEvidence) (p q : Members) → Counts (judge Γ k p q) (tally k)
   set-counts k p q = set-holds counting Γ k p q (anywhere k)
 
   pub flow-counts : (k : FlowEvidence) (p : Members) (c : Command) (q : Members) →
-      Counts (judgeFlow Γ k p c q) (tally k)
+      Counts (judge Γ k p c q) (tally k)
   flow-counts k p c q = flow-holds counting Γ k p c q (anywhere k)
 
 -- the parts of a file: its evidence has all of them
 pub file-counts : (Γ : Context) (f : File) → EachFits (fileParts Γ f) (Γ .limits .depth) 1 →
-    Counts (judgeFlow Γ (f .evidence) (f .pre) (f .program) (f .post)) (evidenceIn (joined (fileParts Γ f)))
+    Counts (judge Γ (f .evidence) (f .pre) (f .program) (f .post)) (evidenceIn (joined (fileParts Γ f)))
 unfolding EachFits
 file-counts Γ f g =
     let d = Γ .limits .depth in

@@ -11,12 +11,12 @@ use mathlib.Core.List.{List, []}
 use Prim.Native.Nat.{ℕ, _+_, _*_, _-_}
 use lib.ListN.{take, drop}
 use Rattle.rules.specs.Context.{Context}
-use Rattle.rules.specs.Judge.{Verdict, accepted, refused, judgeFlow}
+use Rattle.rules.specs.Judge.{Verdict, accepted, refused, judge}
 use Rattle.layout.specs.Reading.{Reading, read, fault}
 use Rattle.layout.specs.File.{File, fileOf}
 
 abbrev pub judged : Context → Reading File → Verdict
-judged Γ (read f p) = judgeFlow Γ (f .evidence) (f .pre) (f .program) (f .post)
+judged Γ (read f p) = judge Γ (f .evidence) (f .pre) (f .program) (f .post)
 judged Γ (fault n p) = refused n p
 
 unfoldable pub verdictOf : Context → List ℕ → Verdict

@@ -25,8 +25,8 @@ use Rattle.rule_laws.specs.Sameness.{SameAssertionAt}
 use Rattle.rule_laws.proofs.Commands.{is-skip, is-scalar, is-array, is-assert, other-kind, other-than-skip}
 use Rattle.rule_laws.proofs.Commands.{other-than-scalar, other-than-array, other-than-assert}
 use Rattle.rule_laws.proofs.Trying.{tested}
-use Rattle.pre_rules.specs.Conditions.{CanJoin, CanReplace, JoinAt, ReplacedAt}
-use Rattle.pre_rules.proofs.Goal.{here, first-known, second-known, leaf-rule}
+use Rattle.pre_compound.specs.Conditions.{CanJoin, CanReplace, JoinAt, ReplacedAt}
+use Rattle.pre_compound.proofs.Goal.{here, first-known, second-known, leaf-rule}
 
 module _ {file ends : List ℕ} {Γ : Context} {f c g at : ℕ} where
   module _ (can : CanTry file ends Γ 22 (Pre f c g) at) where

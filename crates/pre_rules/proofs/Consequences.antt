@@ -16,8 +16,8 @@ use Rattle.goals.specs.declared.Goal.the-variants.{Pre}
 use Rattle.goals.proofs.Comes.{comes, one-child, PreComes, pre-rule}
 use Rattle.rule_laws.specs.Implications.{CanImplyAt, ImpliesAt}
 use Rattle.rule_laws.proofs.Trying.{up-to, tested}
-use Rattle.pre_rules.specs.Conditions.{TrueAt}
-use Rattle.pre_rules.proofs.Goal.{here, first-carried, leaf-rule}
+use Rattle.pre_compound.specs.Conditions.{TrueAt}
+use Rattle.pre_compound.proofs.Goal.{here, first-carried, leaf-rule}
 
 module _ {file ends : List ℕ} {Γ : Context} {f c g at : ℕ} where
   module _ (can : CanTry file ends Γ 28 (Pre f c g) at) where

@@ -16,7 +16,7 @@ use Rattle.goals.specs.declared.Goal.the-variants.{Pre}
 use Rattle.goals.proofs.Comes.{then-passes, then-fails}
 use Rattle.rule_laws.specs.Sameness.{SameAssertionAt, KeptAt}
 use Rattle.rule_laws.proofs.Trying.{tested}
-use Rattle.pre_rules.proofs.Goal.{leaf-rule}
+use Rattle.pre_compound.proofs.Goal.{leaf-rule}
 
 module _ {file ends : List ℕ} {Γ : Context} {f c g at : ℕ} (can : CanTry file ends Γ 27 (Pre f c g) at) {a : Bool}
     (same : SameAssertionAt file ends f g a) where

@@ -1,8 +1,8 @@
-use super::condition::is_join;
-use super::condition::is_replaced;
 use context::Context;
 use goals::condition;
 use implication::Condition;
+use pre_compound::condition::is_join;
+use pre_compound::condition::is_replaced;
 use rule_laws::same::is_same_assertion;
 use words::kinds::ARRAY_WORD;
 use words::kinds::ASSERT;

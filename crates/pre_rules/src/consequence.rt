@@ -1,8 +1,8 @@
-use super::condition::is_true;
 use context::Context;
 use goals::Goal;
 use goals::condition;
 use implication::Condition;
+use pre_compound::condition::is_true;
 use rule_laws::imply::implies_at;
 ghost use mathlib.Core.Path.{_≡_};
 ghost use Prim.Native.Nat.{_<_};

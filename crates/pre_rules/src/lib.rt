@@ -1,16 +1,11 @@
-// The rules of necessary preconditions (document 01, rules 20 to 30), tried at an evidence word of kind 35. All take
-// the same, also what a rule does not ask for: the file, its ends, the context, the place of the evidence word, and the
-// places f, c and g of the assertion, the command and the other assertion.
-pub mod condition; // the rules' tests of assertions by words
+// The rules of necessary preconditions (document 01, rules 20 to 30), tried at an evidence word of kind 35; those of
+// compound commands are in `pre_compound`. All take the same, also what a rule does not ask for: the file, its ends,
+// the context, the place of the evidence word, and the places f, c and g of the assertion, the command and the other
+// assertion.
 pub mod command; // rules 22, 24, 25 and 26: commands of one step
-pub mod sequence; // rule 23
-pub mod branch; // rule 20
-pub mod iteration; // rules 21 and 30: while and for
 pub mod unmodified; // rule 27: what a command does not modify
 pub mod consequence; // rules 28 and 29: a stronger assertion, and true
 
-use branch::child_20;
-use branch::rule_20;
 use command::rule_22;
 use command::rule_24;
 use command::rule_25;
@@ -21,12 +16,14 @@ use consequence::rule_29;
 use context::Context;
 use goals::Goal;
 use implication::Condition;
-use iteration::child_21;
-use iteration::child_30;
-use iteration::rule_21;
-use iteration::rule_30;
-use sequence::child_23;
-use sequence::rule_23;
+use pre_compound::branch::child_20;
+use pre_compound::branch::rule_20;
+use pre_compound::iteration::child_21;
+use pre_compound::iteration::child_30;
+use pre_compound::iteration::rule_21;
+use pre_compound::iteration::rule_30;
+use pre_compound::sequence::child_23;
+use pre_compound::sequence::rule_23;
 use unmodified::rule_27;
 use words::kinds::KIND;
 ghost use mathlib.Core.Path.{_≡_};

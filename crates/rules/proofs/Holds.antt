@@ -3,8 +3,8 @@
 --     tally, Everywhere                  the count of evidence words; a statement about the place of each
 --     Holding                            what is asked of a statement about verdicts with a number
 --     pre-holds, set-holds, flow-holds   it holds of the verdict of evidence, with its count
-use mathlib.Core.Path.{_≡_, subst, sym}
-use mathlib.Core.List.{[], _∷_}
+use mathlib.Core.Path.{_≡_, refl, ap, subst, sym}
+use mathlib.Core.List.{List, [], _∷_}
 use mathlib.Core.Option.{Option, none, some}
 use Prim.Native.Nat.{ℕ, suc, _+_}
 use native.Mathlib.Omega.{arith}
@@ -13,15 +13,17 @@ use Rattle.language.specs.Syntax.{Command, skip, sequence, assert, assign, ifEl
 use Rattle.rules.specs.Assertion.{Member, Members}
 use Rattle.rules.specs.Context.{Context}
 use Rattle.rules.specs.Sets.{operands}
-use Rattle.rules.specs.Evidence.{Standing, Tree, by, assertion, command, members, child, done, _&_}
-use Rattle.rules.specs.Evidence.{FlowEvidence, SetEvidence, PreEvidence, flow1, flow2, flow3, flow4, flow5, flow6}
-use Rattle.rules.specs.Evidence.{flow7, flow8, flow9, flow10, flow11, flow12, flow13, flow14, set13, set14, set15}
-use Rattle.rules.specs.Evidence.{set16, set17, set18, set19, pre20, pre21, pre22, pre23, pre24, pre25, pre26}
-use Rattle.rules.specs.Evidence.{pre27, pre28, pre29, pre30}
+use Rattle.rules.specs.Evidence.{Judgement, flow, implication, precondition, Item, assertionItem, commandItem}
+use Rattle.rules.specs.Evidence.{membersItem, childItem, Rule, Standing, evidence, item, items, Tree, by}
+use Rattle.rules.specs.Evidence.{assertion, command, members, child, done, _&_, Parts, FlowEvidence, SetEvidence}
+use Rattle.rules.specs.Evidence.{PreEvidence, flow1, flow2, flow3, flow4, flow5, flow6, flow7, flow8, flow9}
+use Rattle.rules.specs.Evidence.{flow10, flow11, flow12, flow13, flow14, set13, set14, set15, set16, set17, set18}
+use Rattle.rules.specs.Evidence.{set19, pre20, pre21, pre22, pre23, pre24, pre25, pre26, pre27, pre28, pre29}
+use Rattle.rules.specs.Evidence.{pre30}
 use Rattle.rules.specs.Condition.{Result, passes, fails, tooLarge, byForm, onSkip, onSequence, onAssert, onScalar}
 use Rattle.rules.specs.Condition.{onArray, onIf, onWhile, onFor, onEmpty, onOne, onSome}
 use Rattle.rules.specs.Judge.{Verdict, accepted, refused, oneMore, _also_, Step, step, misfit, leaf, judgeWord}
-use Rattle.rules.specs.Judge.{preRule, setRule, flowRule, judge, judgePre, judgeSet, judgeFlow}
+use Rattle.rules.specs.Judge.{Judge, GivenItem, GivenItems, Given, applied, preRule, setRule, flowRule, judge}
 
 -- the count of evidence: what is carried has none
 abbrev pub tally : {s : Standing} → Tree s → ℕ
@@ -32,6 +34,31 @@ tally (members p) = 0
 tally (child k) = tally k
 tally done = 0
 tally (x & t) = tally x + tally t
+
+-- the counts of parts, and their sum: a last child's is not added to 0, as its verdict is joined with no other
+abbrev Counts : List Item → Type 0
+Counts [] = Unit {0}
+Counts (x ∷ l) = ℕ × Counts l
+
+abbrev total : (l : List Item) → Counts l → ℕ
+total [] n = 0
+total (assertionItem ∷ l) n = total l (n .1)
+total (commandItem ∷ l) n = total l (n .1)
+total (membersItem ∷ l) n = total l (n .1)
+total (childItem j ∷ []) n = n .0
+total (childItem j ∷ (x ∷ l)) n = n .0 + total (x ∷ l) (n .1)
+
+abbrev counts : {l : List Item} → Parts l → Counts l
+counts done = tt
+counts (x & t) = (tally x, counts t)
+
+tally-total : {l : List Item} (t : Parts l) → tally t ≡ total l (counts t)
+tally-total done = refl
+tally-total (assertion φ & t) = let e = tally-total t in omega (arith, e)
+tally-total (command c & t) = let e = tally-total t in omega (arith, e)
+tally-total (members p & t) = let e = tally-total t in omega (arith, e)
+tally-total (child k & done) = omega arith
+tally-total (child k & (x & t)) = let e = tally-total (x & t) in omega (arith, e)
 
 -- H holds of the place of each evidence word
 abbrev pub Everywhere : (ℕ → Type 0) → {s : Standing} → Tree s → Type 0
@@ -155,72 +182,100 @@ module _ {H : ℕ → Type 0} {P : Verdict → ℕ → Type 0} (holding : Holdin
     some-holds none h = no
     some-holds (some r) h = h r
 
-  module _ (Γ : Context) where
-    pub pre-holds : (k : PreEvidence) (φ : Expr Boolean) (c : Command) (φ′ : Expr Boolean) → Everywhere H k →
-        P (judgePre Γ k φ c φ′) (tally k)
-    unfolding judge preRule
-    pre-holds (by pre20 i (assertion φ₁ & assertion φ₂ & child k & child l & done)) φ c φ′ (h, (_, (_, (a-k, (a-l, _))))) =
-        word-holds i h (if-holds _ c λ b c₁ c₂.
-        passing _ (also-holds (pre-holds k φ₁ c₁ φ′ a-k) (pre-holds l φ₂ c₂ φ′ a-l))) (omega arith)
-    pre-holds (by pre21 i (assertion φ₀ & child k & done)) φ c φ′ (h, (_, (a-k, _))) =
-        word-holds i h (while-holds _ c λ b c₁. passing _ (pre-holds k φ₀ c₁ φ a-k)) (omega arith)
-    pre-holds (by pre22 i done) φ c φ′ (h, _) = word-holds i h (skip-holds _ c (leaf-holds _)) (omega arith)
-    pre-holds (by pre23 i (assertion φ₁ & child k & child l & done)) φ c φ′ (h, (_, (a-k, (a-l, _)))) =
-        word-holds i h (sequence-holds _ c λ c₁ c₂.
-        passing _ (also-holds (pre-holds k φ c₁ φ₁ a-k) (pre-holds l φ₁ c₂ φ′ a-l))) (omega arith)
-    pre-holds (by pre24 i done) φ c φ′ (h, _) = word-holds i h (scalar-holds _ c λ x e. leaf-holds _) (omega arith)
-    pre-holds (by pre25 i done) φ c φ′ (h, _) = word-holds i h (array-holds _ c λ a e. leaf-holds _) (omega arith)
-    pre-holds (by pre26 i done) φ c φ′ (h, _) = word-holds i h (assert-holds _ c λ b. leaf-holds _) (omega arith)
-    pre-holds (by pre27 i done) φ c φ′ (h, _) = word-holds i h (leaf-holds _) (omega arith)
-    pre-holds (by pre28 i (assertion φ₁ & child k & done)) φ c φ′ (h, (_, (a-k, _))) =
-        word-holds i h (passing _ (pre-holds k φ₁ c φ′ a-k)) (omega arith)
-    pre-holds (by pre29 i done) φ c φ′ (h, _) = word-holds i h (leaf-holds _) (omega arith)
-    pre-holds (by pre30 i (command d & child k & done)) φ c φ′ (h, (_, (a-k, _))) =
-        word-holds i h (for-holds _ c λ q m c₁. passing _ (pre-holds k φ d φ′ a-k)) (omega arith)
+  -- what is judged, with its count: every verdict holds
+  abbrev JudgeHolds : (j : Judgement) → Judge j → ℕ → Type 0
+  JudgeHolds flow k n = (p : Members) (c : Command) (q : Members) → P (k p c q) n
+  JudgeHolds implication k n = (p q : Members) → P (k p q) n
+  JudgeHolds precondition k n = (φ : Expr Boolean) (c : Command) (φ′ : Expr Boolean) → P (k φ c φ′) n
 
-    pub set-holds : (k : SetEvidence) (p q : Members) → Everywhere H k →
-        P (judgeSet Γ k p q) (tally k)
-    unfolding judge setRule
-    set-holds (by set13 i done) p q (h, _) = word-holds i h (leaf-holds _) (omega arith)
-    set-holds (by set14 i done) p q (h, _) = word-holds i h (empty-holds _ p (leaf-holds _)) (omega arith)
-    set-holds (by set15 i done) p q (h, _) =
-        word-holds i h (empty-holds _ p (one-holds _ q λ n. leaf-holds _)) (omega arith)
-    set-holds (by set16 i (members s & members s′ & members t & members t′ & child k & child l & done)) p q (h, (_, (_, (_, (_, (a-k, (a-l, _))))))) =
-        word-holds i h (passing _ (also-holds (set-holds k s s′ a-k) (set-holds l t t′ a-l))) (omega arith)
-    set-holds (by set17 i (members s & members s′ & members t & child k & child l & done)) p q (h, (_, (_, (_, (a-k, (a-l, _)))))) =
-        word-holds i h (passing _ (also-holds (set-holds k s s′ a-k) (set-holds l t q a-l))) (omega arith)
-    set-holds (by set18 i done) p q (h, _) =
-        word-holds i h (one-holds _ p λ m. one-holds _ q λ n. leaf-holds _) (omega arith)
-    set-holds (by set19 i done) p q (h, _) =
-        word-holds i h (one-holds _ q λ n. some-holds _ (operands (n .antecedent) (n .consequent)) λ r. leaf-holds _) (omega arith)
+  abbrev PartHolds : (x : Item) → GivenItem x → ℕ → Type 0
+  PartHolds assertionItem g n = Unit {0}
+  PartHolds commandItem g n = Unit {0}
+  PartHolds membersItem g n = Unit {0}
+  PartHolds (childItem j) g n = JudgeHolds j g n
+
+  abbrev PartsHold : (l : List Item) → GivenItems l → Counts l → Type 0
+  PartsHold [] g n = Unit {0}
+  PartsHold (x ∷ l) g n = PartHolds x (g .0) (n .0) × PartsHold l (g .1) (n .1)
+
+  abbrev TreeHolds : (s : Standing) → Given s → Tree s → Type 0
+  TreeHolds (evidence j) g t = JudgeHolds j g (tally t)
+  TreeHolds (item x) g t = PartHolds x g (tally t)
+  TreeHolds (items l) g t = PartsHold l g (counts t)
+
+  module _ (Γ : Context) where
+    pre-rule : {n : ℕ} {l : List Item} (r : Rule precondition n l) (g : GivenItems l) (m : Counts l) → PartsHold l g m →
+        (φ : Expr Boolean) (c : Command) (φ′ : Expr Boolean) → StepHolds (applied l (preRule Γ r) g φ c φ′) (total l m)
+    unfolding preRule
+    pre-rule pre20 (φ₁, (φ₂, _)) m (_, (_, (k, (l, _)))) φ c φ′ =
+        if-holds _ c λ b c₁ c₂. passing _ (also-holds (k φ₁ c₁ φ′) (l φ₂ c₂ φ′))
+    pre-rule pre21 (φ₀, _) m (_, (k, _)) φ c φ′ = while-holds _ c λ b c₁. passing _ (k φ₀ c₁ φ)
+    pre-rule pre22 g m h φ c φ′ = skip-holds _ c (leaf-holds _)
+    pre-rule pre23 (φ₁, _) m (_, (k, (l, _))) φ c φ′ =
+        sequence-holds _ c λ c₁ c₂. passing _ (also-holds (k φ c₁ φ₁) (l φ₁ c₂ φ′))
+    pre-rule pre24 g m h φ c φ′ = scalar-holds _ c λ x e. leaf-holds _
+    pre-rule pre25 g m h φ c φ′ = array-holds _ c λ a e. leaf-holds _
+    pre-rule pre26 g m h φ c φ′ = assert-holds _ c λ b. leaf-holds _
+    pre-rule pre27 g m h φ c φ′ = leaf-holds _
+    pre-rule pre28 (φ₁, _) m (_, (k, _)) φ c φ′ = passing _ (k φ₁ c φ′)
+    pre-rule pre29 g m h φ c φ′ = leaf-holds _
+    pre-rule pre30 (d, _) m (_, (k, _)) φ c φ′ = for-holds _ c λ q n c₁. passing _ (k φ d φ′)
+
+    set-rule : {n : ℕ} {l : List Item} (r : Rule implication n l) (g : GivenItems l) (m : Counts l) → PartsHold l g m →
+        (p q : Members) → StepHolds (applied l (setRule Γ r) g p q) (total l m)
+    unfolding setRule
+    set-rule set13 g m h p q = leaf-holds _
+    set-rule set14 g m h p q = empty-holds _ p (leaf-holds _)
+    set-rule set15 g m h p q = empty-holds _ p (one-holds _ q λ n. leaf-holds _)
+    set-rule set16 (s, (s′, (t, (t′, _)))) m (_, (_, (_, (_, (k, (l, _)))))) p q = passing _ (also-holds (k s s′) (l t t′))
+    set-rule set17 (s, (s′, (t, _))) m (_, (_, (_, (k, (l, _))))) p q = passing _ (also-holds (k s s′) (l t q))
+    set-rule set18 g m h p q = one-holds _ p λ x. one-holds _ q λ y. leaf-holds _
+    set-rule set19 g m h p q = one-holds _ q λ x. some-holds _ (operands (x .antecedent) (x .consequent)) λ r. leaf-holds _
+
+    flow-rule : {n : ℕ} {l : List Item} (r : Rule flow n l) (g : GivenItems l) (m : Counts l) → PartsHold l g m →
+        (p : Members) (c : Command) (q : Members) → StepHolds (applied l (flowRule Γ r) g p c q) (total l m)
+    unfolding flowRule
+    flow-rule flow1 g m h p c q = skip-holds _ c (leaf-holds _)
+    flow-rule flow2 (s, _) m (_, (k, (l, _))) p c q =
+        sequence-holds _ c λ c₁ c₂. passing _ (also-holds (k p c₁ s) (l s c₂ q))
+    flow-rule flow3 g m h p c q = scalar-holds _ c λ x e. leaf-holds _
+    flow-rule flow4 g m h p c q = array-holds _ c λ a e. leaf-holds _
+    flow-rule flow5 g m h p c q = assert-holds _ c λ b. leaf-holds _
+    flow-rule flow6 (s, (t, (φ₀, _))) m (_, (_, (_, (k, (l, (n, _)))))) p c q =
+        if-holds _ c λ b c₁ c₂. one-holds _ q λ x.
+        passing _ (also-holds (k s c₁ q) (also-holds (l t c₂ q) (n φ₀ c (x .antecedent))))
+    flow-rule flow7 (s, _) m (_, (n, (k, _))) p c q = passing _ (also-holds (n p s) (k s c q))
+    flow-rule flow8 (s, _) m (_, (k, (n, _))) p c q = passing _ (also-holds (k p c s) (n s q))
+    flow-rule flow9 (s, (s′, (t, (t′, _)))) m (_, (_, (_, (_, (k, (l, _)))))) p c q = passing _ (also-holds (k s c s′) (l t c t′))
+    flow-rule flow10 g m h p c q = leaf-holds _
+    flow-rule flow11 g m (n, _) p c q =
+        one-holds _ p λ x. one-holds _ q λ y. passing _ (n (x .antecedent) c (y .antecedent))
+    flow-rule flow12 (s, (s′, (φ, (φ′, _)))) m (_, (_, (_, (_, (k, (n, _)))))) p c q = passing _ (also-holds (k s c s′) (n φ c φ′))
+    flow-rule flow13 g m (k, _) p c q = while-holds _ c λ b c₁. passing _ (k p c₁ q)
+    flow-rule flow14 (d, _) m (_, (k, _)) p c q = for-holds _ c λ v n c₁. passing _ (k p d q)
+
+    tree-holds : {s : Standing} (t : Tree s) → Everywhere H t → TreeHolds s (judge Γ t) t
+    unfolding judge
+    tree-holds (by {j = flow} r i t) (h, a) = λ p c q.
+        word-holds i h (flow-rule r _ _ (tree-holds t a) p c q) (ap suc (tally-total t))
+    tree-holds (by {j = implication} r i t) (h, a) = λ p q.
+        word-holds i h (set-rule r _ _ (tree-holds t a) p q) (ap suc (tally-total t))
+    tree-holds (by {j = precondition} r i t) (h, a) = λ φ c φ′.
+        word-holds i h (pre-rule r _ _ (tree-holds t a) φ c φ′) (ap suc (tally-total t))
+    tree-holds (assertion φ) a = tt
+    tree-holds (command c) a = tt
+    tree-holds (members p) a = tt
+    tree-holds (child k) a = tree-holds k a
+    tree-holds done a = tt
+    tree-holds (x & t) (a, b) = (tree-holds x a, tree-holds t b)
+
+    pub pre-holds : (k : PreEvidence) (φ : Expr Boolean) (c : Command) (φ′ : Expr Boolean) → Everywhere H k →
+        P (judge Γ k φ c φ′) (tally k)
+    pre-holds k φ c φ′ a = tree-holds k a φ c φ′
+
+    pub set-holds : (k : SetEvidence) (p q : Members) → Everywhere H k → P (judge Γ k p q) (tally k)
+    set-holds k p q a = tree-holds k a p q
 
     pub flow-holds : (k : FlowEvidence) (p : Members) (c : Command) (q : Members) → Everywhere H k →
-        P (judgeFlow Γ k p c q) (tally k)
-    unfolding judge flowRule
-    flow-holds (by flow1 i done) p c q (h, _) = word-holds i h (skip-holds _ c (leaf-holds _)) (omega arith)
-    flow-holds (by flow2 i (members m & child k & child l & done)) p c q (h, (_, (a-k, (a-l, _)))) =
-        word-holds i h (sequence-holds _ c λ c₁ c₂.
-        passing _ (also-holds (flow-holds k p c₁ m a-k) (flow-holds l m c₂ q a-l))) (omega arith)
-    flow-holds (by flow3 i done) p c q (h, _) = word-holds i h (scalar-holds _ c λ x e. leaf-holds _) (omega arith)
-    flow-holds (by flow4 i done) p c q (h, _) = word-holds i h (array-holds _ c λ a e. leaf-holds _) (omega arith)
-    flow-holds (by flow5 i done) p c q (h, _) = word-holds i h (assert-holds _ c λ b. leaf-holds _) (omega arith)
-    flow-holds (by flow6 i (members s & members t & assertion φ₀ & child k & child l & child n & done)) p c q (h, (_, (_, (_, (a-k, (a-l, (a-n, _))))))) =
-        word-holds i h (if-holds _ c λ b c₁ c₂. one-holds _ q λ m.
-        passing _ (also-holds (flow-holds k s c₁ q a-k)
-        (also-holds (flow-holds l t c₂ q a-l) (pre-holds n φ₀ c (m .antecedent) a-n)))) (omega arith)
-    flow-holds (by flow7 i (members m & child n & child k & done)) p c q (h, (_, (a-n, (a-k, _)))) =
-        word-holds i h (passing _ (also-holds (set-holds n p m a-n) (flow-holds k m c q a-k))) (omega arith)
-    flow-holds (by flow8 i (members m & child k & child n & done)) p c q (h, (_, (a-k, (a-n, _)))) =
-        word-holds i h (passing _ (also-holds (flow-holds k p c m a-k) (set-holds n m q a-n))) (omega arith)
-    flow-holds (by flow9 i (members s & members s′ & members t & members t′ & child k & child l & done)) p c q (h, (_, (_, (_, (_, (a-k, (a-l, _))))))) =
-        word-holds i h (passing _ (also-holds (flow-holds k s c s′ a-k) (flow-holds l t c t′ a-l))) (omega arith)
-    flow-holds (by flow10 i done) p c q (h, _) = word-holds i h (leaf-holds _) (omega arith)
-    flow-holds (by flow11 i (child n & done)) p c q (h, (a-n, _)) =
-        word-holds i h (one-holds _ p λ m. one-holds _ q λ m′.
-        passing _ (pre-holds n (m .antecedent) c (m′ .antecedent) a-n)) (omega arith)
-    flow-holds (by flow12 i (members s & members s′ & assertion φ & assertion φ′ & child k & child n & done)) p c q (h, (_, (_, (_, (_, (a-k, (a-n, _))))))) =
-        word-holds i h (passing _ (also-holds (flow-holds k s c s′ a-k) (pre-holds n φ c φ′ a-n))) (omega arith)
-    flow-holds (by flow13 i (child k & done)) p c q (h, (a-k, _)) =
-        word-holds i h (while-holds _ c λ b c₁. passing _ (flow-holds k p c₁ q a-k)) (omega arith)
-    flow-holds (by flow14 i (command d & child k & done)) p c q (h, (_, (a-k, _))) =
-        word-holds i h (for-holds _ c λ v m c₁. passing _ (flow-holds k p d q a-k)) (omega arith)
+        P (judge Γ k p c q) (tally k)
+    flow-holds k p c q a = tree-holds k a p c q

@@ -23,7 +23,7 @@ use Rattle.rules.specs.Derivation.{rule-1, rule-2, rule-3, rule-4, rule-
 use Rattle.rules.specs.Derivation.{rule-10, rule-11, rule-12, rule-13, rule-14}
 use Rattle.rules.specs.Condition.{Result, passes, fails, tooLarge, test, byForm, onEmpty, onOne, onSome}
 use Rattle.rules.specs.Judge.{Verdict, accepted, refused, oneMore, _also_, Step, step, leaf, misfit, judgeWord}
-use Rattle.rules.specs.Judge.{preRule, setRule, flowRule, judge, judgePre, judgeSet, judgeFlow}
+use Rattle.rules.specs.Judge.{preRule, setRule, flowRule, judge}
 use Rattle.rules.proofs.Decides.{sameWords-decides, sameAntecedent-decides, sameConsequent-decides}
 use Rattle.rules.proofs.Decides.{stands-decides, within-decides, same-decides, unmodified-decides}
 use Rattle.rules.proofs.Decides.{isEmpty-decides}
@@ -77,7 +77,7 @@ also-accepts (refused j l) w g h = g
 
 module _ (Γ : Context) where
   necessary-sound : (k : PreEvidence) (φ : Expr Boolean) (c : Command) (φ′ : Expr Boolean) →
-      Accepts (judgePre Γ k φ c φ′) → Necessary Γ k φ c φ′
+      Accepts (judge Γ k φ c φ′) → Necessary Γ k φ c φ′
   unfolding judge preRule
   necessary-sound (by pre20 i (assertion φ₁ & assertion φ₂ & child k & child l & done)) φ c φ′ h =
       if-is (Word i) _ (misfits i) (λ c. Necessary Γ (by pre20 i (assertion φ₁ & assertion φ₂ & child k & child l & done)) φ c φ′) c _ h λ b c₁ c₂ h.
@@ -118,7 +118,7 @@ module _ (Γ : Context) where
       word-is i _ _ h λ g u. rule-30 (test-passes (sameWords-decides _ _) .sound g) (necessary-sound k φ d φ′ u)
 
   necessary-complete : {k : PreEvidence} {φ : Expr Boolean} {c : Command} {φ′ : Expr Boolean} →
-      Necessary Γ k φ c φ′ → Accepts (judgePre Γ k φ c φ′)
+      Necessary Γ k φ c φ′ → Accepts (judge Γ k φ c φ′)
   unfolding judge preRule byForm
   necessary-complete (rule-20 {i = i} g u v) =
       word-accepts i _ _ (test-passes (sameAntecedent-decides _ _) .complete g)
@@ -142,7 +142,7 @@ module _ (Γ : Context) where
   necessary-complete (rule-30 {i = i} g u) =
       word-accepts i _ _ (test-passes (sameWords-decides _ _) .complete g) (necessary-complete u)
 
-  follows-sound : (k : SetEvidence) (p q : Members) → Accepts (judgeSet Γ k p q) → Follows Γ k p q
+  follows-sound : (k : SetEvidence) (p q : Members) → Accepts (judge Γ k p q) → Follows Γ k p q
   unfolding judge setRule
   follows-sound (by set13 i done) p q h = word-is i _ _ h λ g u. set-rule-13 (test-passes (within-decides q p) .sound g)
   follows-sound (by set14 i done) p q h =
@@ -169,7 +169,7 @@ module _ (Γ : Context) where
       some-is (Word i) _ (misfits i) (operands (n .antecedent) (n .consequent)) _ h λ r e h.
       word-is i _ _ h λ g u. set-rule-19 e (test-passes (same-decides p r) .sound g)
 
-  follows-complete : {k : SetEvidence} {p q : Members} → Follows Γ k p q → Accepts (judgeSet Γ k p q)
+  follows-complete : {k : SetEvidence} {p q : Members} → Follows Γ k p q → Accepts (judge Γ k p q)
   unfolding judge setRule onEmpty onOne onSome
   follows-complete (set-rule-13 {i = i} {p = p} {q = q} g) =
       leaf-accepts i _ (test-passes (within-decides q p) .complete g)
@@ -190,7 +190,7 @@ module _ (Γ : Context) where
       (leaf-accepts i _ (test-passes (same-decides _ _) .complete g))
 
   flow-sound : (k : FlowEvidence) (p : Members) (c : Command) (q : Members) →
-      Accepts (judgeFlow Γ k p c q) → Flow Γ k p c q
+      Accepts (judge Γ k p c q) → Flow Γ k p c q
   unfolding judge flowRule
   flow-sound (by flow1 i done) p c q h =
       skip-is (Word i) _ (misfits i) (λ c. Flow Γ (by flow1 i done) p c q) c _ h λ h.
@@ -250,7 +250,7 @@ module _ (Γ : Context) where
       word-is i _ _ h λ g u. rule-14 (test-passes (sameWords-decides _ _) .sound g) (flow-sound k p d q u)
 
   flow-complete : {k : FlowEvidence} {p q : Members} {c : Command} →
-      Flow Γ k p c q → Accepts (judgeFlow Γ k p c q)
+      Flow Γ k p c q → Accepts (judge Γ k p c q)
   unfolding judge flowRule byForm onOne
   flow-complete (rule-1 {i = i} g) = leaf-accepts i _ (test-passes (same-decides _ _) .complete g)
   flow-complete (rule-2 {i = i} u v) = word-accepts i _ _ tt (also-accepts _ _ (flow-complete u) (flow-complete v))
@@ -293,12 +293,12 @@ pub record Exact (v : Verdict) (P : Type 0) : Type 0 where
 
 module _ (Γ : Context) where
   pub necessary-judged : (k : PreEvidence) (φ : Expr Boolean) (c : Command) (φ′ : Expr Boolean) →
-      Exact (judgePre Γ k φ c φ′) (Necessary Γ k φ c φ′)
+      Exact (judge Γ k φ c φ′) (Necessary Γ k φ c φ′)
   necessary-judged k φ c φ′ = record { sound = necessary-sound Γ k φ c φ′; complete = necessary-complete Γ }
 
-  pub follows-judged : (k : SetEvidence) (p q : Members) → Exact (judgeSet Γ k p q) (Follows Γ k p q)
+  pub follows-judged : (k : SetEvidence) (p q : Members) → Exact (judge Γ k p q) (Follows Γ k p q)
   follows-judged k p q = record { sound = follows-sound Γ k p q; complete = follows-complete Γ }
 
   pub flow-judged : (k : FlowEvidence) (p : Members) (c : Command) (q : Members) →
-      Exact (judgeFlow Γ k p c q) (Flow Γ k p c q)
+      Exact (judge Γ k p c q) (Flow Γ k p c q)
   flow-judged k p c q = record { sound = flow-sound Γ k p c q; complete = flow-complete Γ }

@@ -7,7 +7,6 @@
 --     Implication    "Implies" as it is tried, and in a store
 --     Forms          commands and sets taken apart by their form
 --     Judged         the judge accepts exactly the derivations
---     Verdicts       verdicts one after the other
 --     Holds          what holds of every verdict
 --     Replaced       substitution, in values
 --     Starts         what is known of commands and stores
@@ -21,7 +20,6 @@ pub mod Table
 pub mod Implication
 pub mod Forms
 pub mod Judged
-pub mod Verdicts
 pub mod Holds
 pub mod Replaced
 pub mod Starts

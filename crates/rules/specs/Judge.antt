@@ -10,7 +10,6 @@
 --     Given                           what any tree gives to the rule above it
 --     preRule, setRule, flowRule      the rules
 --     judge                           evidence against a goal
---     judgePre, judgeSet, judgeFlow   the same by kind
 use mathlib.Core.Bool.{true}
 use mathlib.Core.List.{List, [], _∷_, _++_}
 use Prim.Native.Nat.{ℕ, suc, _+_}
@@ -26,7 +25,7 @@ use Rattle.rules.specs.Tests.{sameAntecedent, sameConsequent, stands, wi
 use Rattle.rules.specs.Evidence as evidence
 use Rattle.rules.specs.Evidence.{Judgement, Item, assertionItem, commandItem, membersItem, childItem, Rule}
 use Rattle.rules.specs.Evidence.{Standing, item, items, Tree, by, assertion, command, members, child, done, _&_}
-use Rattle.rules.specs.Evidence.{FlowEvidence, SetEvidence, PreEvidence, flow1, flow2, flow3, flow4, flow5, flow6}
+use Rattle.rules.specs.Evidence.{flow1, flow2, flow3, flow4, flow5, flow6}
 use Rattle.rules.specs.Evidence.{flow7, flow8, flow9, flow10, flow11, flow12, flow13, flow14, set13, set14, set15}
 use Rattle.rules.specs.Evidence.{set16, set17, set18, set19, pre20, pre21, pre22, pre23, pre24, pre25, pre26}
 use Rattle.rules.specs.Evidence.{pre27, pre28, pre29, pre30}
@@ -173,12 +172,3 @@ judge Γ (members p) = p
 judge Γ (child k) = judge Γ k
 judge Γ done = tt
 judge Γ (x & t) = (judge Γ x, judge Γ t)
-
-abbrev pub judgePre : Context → PreEvidence → Expr Boolean → Command → Expr Boolean → Verdict
-judgePre Γ k = judge Γ k
-
-abbrev pub judgeSet : Context → SetEvidence → Members → Members → Verdict
-judgeSet Γ k = judge Γ k
-
-abbrev pub judgeFlow : Context → FlowEvidence → Members → Command → Members → Verdict
-judgeFlow Γ k = judge Γ k

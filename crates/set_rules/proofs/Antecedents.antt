@@ -24,7 +24,7 @@ use Rattle.rule_laws.specs.Implications.{CanImplyAt, ImpliesAt}
 use Rattle.rule_laws.specs.Sameness.{CanSame, SameAt}
 use Rattle.sets.specs.Piles.{countAt}
 use Rattle.set_laws.proofs.Sets.{is-one, not-one}
-use Rattle.set_rules.proofs.Goal.{left-one, right-one, leaf-rule}
+use Rattle.set_unions.proofs.Goal.{left-one, right-one, leaf-rule}
 
 module _ {file ends : List ℕ} {Γ : Context} {p q at : ℕ} (can : CanTry file ends Γ 18 (Set p q) at) {j : ℕ}
     (m : j ≡ countAt file p) where

@@ -39,7 +39,7 @@ use Rattle.sets.specs.Trees.{MemberWritten, MembersWritten}
 use Rattle.sets.proofs.Trees.{set-count, set-written}
 use Rattle.set_laws.proofs.Sets.{is-empty, not-empty, is-one, not-one}
 use Rattle.set_rules.specs.Conditions.{CanTryEach, EachAt}
-use Rattle.set_rules.proofs.Goal.{here, right-one, leaf-rule}
+use Rattle.set_unions.proofs.Goal.{here, right-one, leaf-rule}
 
 -- of the k members at `from` the n members at i are left, and what they come to all come to
 pub record Remains (file ends : List ℕ) (limit k from n i : ℕ) : Type 0 where

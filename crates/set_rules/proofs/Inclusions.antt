@@ -26,7 +26,7 @@ use Rattle.sets.proofs.Tests.{within-numbers}
 use Rattle.sets.proofs.Trees.{AllShown, set-place, pile-is}
 use Rattle.set_laws.proofs.Sets.{has-set}
 use Rattle.set_rules.specs.Conditions.{CanInclude, WithinAt}
-use Rattle.set_rules.proofs.Goal.{here, leaf-rule}
+use Rattle.set_unions.proofs.Goal.{here, leaf-rule}
 
 module _ {file ends : List ℕ} {q p j k : ℕ} (can : CanInclude file ends q p) (h : j ≡ countAt file q)
     (i : k ≡ countAt file p) where

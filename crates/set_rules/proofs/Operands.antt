@@ -40,7 +40,7 @@ use Rattle.sets.specs.declared.pile.Piles.{Piles}
 use Rattle.sets.specs.Piles.{countAt}
 use Rattle.set_laws.proofs.Sets.{has-set, is-one, not-one}
 use Rattle.set_rules.specs.Conditions.{hasTwo, CanSplit, SplitAt}
-use Rattle.set_rules.proofs.Goal.{here, right-one, leaf-rule}
+use Rattle.set_unions.proofs.Goal.{here, right-one, leaf-rule}
 
 -- the kinds in code
 pub two-known : {k n : ℕ} → k ≡ n → hasTwo n ≡ true → true ≡ hasTwo k

@@ -1,16 +1,14 @@
--- The rules' conditions on written sets: what each asks for, and what it promises (document 01, rules 13, 14, 17 and 19
--- of sets).
--- Working: `within-at` of proofs/Inclusions, `remains-stop` and `remains-end` of proofs/EmptySets, `rest-at` of
--- proofs/Unions, `one-split`, `two-split` and `none-split` of proofs/Operands say that the code's answers are those of
--- the rules on trees. Assumes nothing.
+-- The rules' conditions on written sets: what each asks for, and what it promises (document 01, rules 13, 14 and 19 of
+-- sets).
+-- Working: `within-at` of proofs/Inclusions, `remains-stop` and `remains-end` of proofs/EmptySets, `one-split`, `two-split`
+-- and `none-split` of proofs/Operands say that the code's answers are those of the rules on trees. Assumes nothing.
 --     CanInclude, WithinAt      rule 13: each of a written set stands in another
 --     CanTryEach, EachAt        rule 14: each antecedent implies false
---     CanRest, RestAt           rule 17: a written set is the same as (T without S') ∪ S
 --     hasTwo, CanSplit, SplitAt
 --                               rule 19: a written set is the same as φ ⇒ each operand of E
 use mathlib.Core.Path.{_≡_}
 use mathlib.Core.Bool.{Bool, false, _||_}
-use mathlib.Core.List.{List, _++_}
+use mathlib.Core.List.{List}
 use Prim.Native.Nat.{ℕ, _≤_}
 use lib.Dec.{eqb}
 use lib.ListN.{length}
@@ -18,7 +16,7 @@ use Rattle.language.specs.Syntax.{Sort, Boolean, Expr}
 use Rattle.rules.specs.Assertion.{Members}
 use Rattle.rules.specs.Context.{Context}
 use Rattle.rules.specs.Condition.{eachImpliesFalse, onSome}
-use Rattle.rules.specs.Sets.{without, operands}
+use Rattle.rules.specs.Sets.{operands}
 use Rattle.rules.specs.Tests.{within, same}
 use Rattle.ends.specs.Ends.{EndsOf}
 use Rattle.implication.specs.Sides.{resultOf}
@@ -53,14 +51,6 @@ module _ (file ends : List ℕ) where
     pub is : (l : Members) → length l ≡ n → MembersWritten file ends l at → (Γ : Context) →
         Γ .limits .comparisons ≡ limit → resultOf r ≡ eachImpliesFalse Γ l
 
-  -- T at t, S' at `leave`, S at s
-  pub record CanRest (p t leave s : ℕ) : Type 0 where
-    pub ends-of : EndsOf file ends
-    pub set : HasSet file ends p
-    pub most : HasSet file ends t
-    pub left-out : HasSet file ends leave
-    pub added : HasSet file ends s
-
   -- φ at f, E at e
   pub record CanSplit (p f e : ℕ) : Type 0 where
     pub ends-of : EndsOf file ends
@@ -75,7 +65,3 @@ module _ (file ends : List ℕ) where
   pub record SplitAt (p f e : ℕ) (r : Bool) : Type 0 where
     pub is : (Γ : Context) (l : Members) (φ : Expr Boolean) {k : Sort} (d : Expr k) → SetAt file ends Γ l p →
         WrittenAt file ends φ f → WrittenAt file ends d e → r ≡ onSome (operands φ d) false (λ x. same l x)
-
-  pub record RestAt (p t leave s : ℕ) (r : Bool) : Type 0 where
-    pub is : {Γ : Context} (l x y z : Members) → SetAt file ends Γ l p → SetAt file ends Γ x t → SetAt file ends Γ y leave →
-        SetAt file ends Γ z s → r ≡ same l (without x y ++ z)

@@ -1,9 +1,8 @@
-// The rules of implications between sets (document 01, rules 13 to 19 of sets), tried at an evidence word of kind 34.
-// All take the same, also what a rule does not ask for: the file, its ends, the context, the place of the evidence
-// word, and the places p and q of the two sets.
+// The rules of implications between sets (document 01, rules 13 to 19 of sets), tried at an evidence word of kind 34;
+// those of unions are in `set_unions`. All take the same, also what a rule does not ask for: the file, its ends, the
+// context, the place of the evidence word, and the places p and q of the two sets.
 pub mod inclusion; // rule 13: a part of a set
 pub mod empty; // rules 14 and 15: from the empty set
-pub mod union; // rules 16 and 17: sets together
 pub mod antecedent; // rule 18: a stronger antecedent
 pub mod operand; // rule 19: an expression by its operands
 
@@ -15,10 +14,10 @@ use goals::Goal;
 use implication::Condition;
 use inclusion::rule_13;
 use operand::rule_19;
-use union::child_16;
-use union::child_17;
-use union::rule_16;
-use union::rule_17;
+use set_unions::union::child_16;
+use set_unions::union::child_17;
+use set_unions::union::rule_16;
+use set_unions::union::rule_17;
 use words::kinds::KIND;
 ghost use mathlib.Core.Path.{_≡_};
 ghost use Prim.Native.Nat.{_<_};

@@ -4,8 +4,8 @@ use borrow.Author.Needs.{needs}
 use mathlib.Core.Path.{_∙_, ap}
 use Rattle.rules.specs.Context.{Context}
 use Rattle.layout.specs.File.{fileOf}
-use Rattle.flow.specs.Outcome.{outcomeOf}
-use Rattle.flow.proofs.Outcomes.{standard-within}
+use Rattle.outcomes.specs.Outcome.{outcomeOf}
+use Rattle.flow.proofs.Answers.{standard-within}
 use Rattle.flow.proofs.standard_outcome.Statement.{statement}
 use Rattle.flow.proofs.standard_outcome.Tie as tie
 

@@ -1,6 +1,6 @@
 -- `flow_rules::flow_child` meets its contract: no rule but those listed has children.
 -- Assumes nothing.
-use Rattle.flow_rules.proofs.Children.{of-rule, last-rule}
+use Rattle.flow_compound.proofs.Children.{of-rule, last-rule}
 use Rattle.flow_rules.proofs.flow_child.Statement.{statement}
 use Rattle.flow_rules.proofs.flow_child.Tie as tie
 

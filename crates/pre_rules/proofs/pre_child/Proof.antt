@@ -1,6 +1,6 @@
 -- `pre_rules::pre_child` meets its contract: rules 20, 21, 23, 28 and 30 alone have children.
 -- Assumes nothing.
-use Rattle.pre_rules.proofs.Goal.{is-30}
+use Rattle.pre_compound.proofs.Goal.{is-30}
 use Rattle.pre_rules.proofs.pre_child.Statement.{statement}
 use Rattle.pre_rules.proofs.pre_child.Tie as tie
 

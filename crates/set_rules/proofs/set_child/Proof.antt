@@ -1,6 +1,6 @@
 -- `set_rules::set_child` meets its contract: rules 16 and 17 alone have children.
 -- Assumes nothing.
-use Rattle.set_rules.proofs.Unions.{is-17}
+use Rattle.set_unions.proofs.Unions.{is-17}
 use Rattle.set_rules.proofs.set_child.Statement.{statement}
 use Rattle.set_rules.proofs.set_child.Tie as tie
 

@@ -2,7 +2,7 @@
 -- Assumes nothing.
 use native.Mathlib.Omega.{arith}
 use borrow.Author.Needs.{needs}
-use Rattle.flow_rules.proofs.Goal.{command-head, can-two}
+use Rattle.flow_compound.proofs.Goal.{command-head, can-two}
 use Rattle.flow_rules.proofs.AtomicRules.{not-skip, skip-comes}
 use Rattle.flow_rules.proofs.atomic.rule_1.Statement.{statement}
 use Rattle.flow_rules.proofs.atomic.rule_1.Tie as tie

@@ -2,7 +2,7 @@
 -- Assumes nothing.
 use native.Mathlib.Omega.{arith}
 use borrow.Author.Needs.{needs}
-use Rattle.flow_rules.proofs.Goal.{command-head}
+use Rattle.flow_compound.proofs.Goal.{command-head}
 use Rattle.flow_rules.proofs.AtomicRules.{can-assert, not-assert, assert-comes}
 use Rattle.flow_rules.proofs.atomic.rule_5.Statement.{statement}
 use Rattle.flow_rules.proofs.atomic.rule_5.Tie as tie

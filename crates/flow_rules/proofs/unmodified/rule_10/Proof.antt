@@ -2,7 +2,7 @@
 -- Assumes nothing.
 use borrow.Author.Needs.{needs}
 use borrow.Author.Tests.{not-true, not-false}
-use Rattle.flow_rules.proofs.Goal.{can-two}
+use Rattle.flow_compound.proofs.Goal.{can-two}
 use Rattle.flow_rules.proofs.UnmodifiedRules.{can-keep-set, not-same, set-kept}
 use Rattle.flow_rules.proofs.unmodified.rule_10.Statement.{statement}
 use Rattle.flow_rules.proofs.unmodified.rule_10.Tie as tie

@@ -4,7 +4,7 @@ use mathlib.Core.Path.{sym, _∙_}
 use native.Mathlib.Omega.{arith}
 use borrow.Author.Needs.{needs}
 use borrow.Author.Tests.{not-true, not-false}
-use Rattle.flow_rules.proofs.Goal.{before-head, after-head}
+use Rattle.flow_compound.proofs.Goal.{before-head, after-head}
 use Rattle.flow_rules.proofs.UnmodifiedRules.{can-same, can-keep, not-one-before, not-one-after}
 use Rattle.flow_rules.proofs.UnmodifiedRules.{other-consequent, consequent-kept}
 use Rattle.flow_rules.proofs.unmodified.rule_11.Statement.{statement}

@@ -2,7 +2,7 @@
 -- Assumes nothing.
 use native.Mathlib.Omega.{arith}
 use borrow.Author.Needs.{needs}
-use Rattle.pre_rules.proofs.Goal.{command-head, first-known, second-known}
+use Rattle.pre_compound.proofs.Goal.{command-head, first-known, second-known}
 use Rattle.pre_rules.proofs.Commands.{skip-fails, skip-rule}
 use Rattle.pre_rules.proofs.command.rule_22.Statement.{statement}
 use Rattle.pre_rules.proofs.command.rule_22.Tie as tie

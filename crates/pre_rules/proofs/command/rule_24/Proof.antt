@@ -2,7 +2,7 @@
 -- Assumes nothing.
 use native.Mathlib.Omega.{arith}
 use borrow.Author.Needs.{needs}
-use Rattle.pre_rules.proofs.Goal.{command-head, low-command}
+use Rattle.pre_compound.proofs.Goal.{command-head, low-command}
 use Rattle.pre_rules.proofs.Commands.{can-scalar, scalar-fails, scalar-rule}
 use Rattle.pre_rules.proofs.command.rule_24.Statement.{statement}
 use Rattle.pre_rules.proofs.command.rule_24.Tie as tie

@@ -2,7 +2,7 @@
 -- Assumes nothing.
 use native.Mathlib.Omega.{arith}
 use borrow.Author.Needs.{needs}
-use Rattle.pre_rules.proofs.Goal.{command-head, low-command}
+use Rattle.pre_compound.proofs.Goal.{command-head, low-command}
 use Rattle.pre_rules.proofs.Commands.{can-join, assert-fails, assert-rule}
 use Rattle.pre_rules.proofs.command.rule_26.Statement.{statement}
 use Rattle.pre_rules.proofs.command.rule_26.Tie as tie

@@ -1,7 +1,7 @@
 -- `pre_rules::consequence::rule_29` meets its contract.
 -- Assumes nothing.
 use borrow.Author.Needs.{needs}
-use Rattle.pre_rules.proofs.Goal.{first-known}
+use Rattle.pre_compound.proofs.Goal.{first-known}
 use Rattle.pre_rules.proofs.Consequences.{true-rule}
 use Rattle.pre_rules.proofs.consequence.rule_29.Statement.{statement}
 use Rattle.pre_rules.proofs.consequence.rule_29.Tie as tie

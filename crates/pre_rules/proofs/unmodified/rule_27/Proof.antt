@@ -2,7 +2,7 @@
 -- Assumes nothing.
 use borrow.Author.Needs.{needs}
 use borrow.Author.Tests.{not-true, not-false}
-use Rattle.pre_rules.proofs.Goal.{first-known, second-known, command-known}
+use Rattle.pre_compound.proofs.Goal.{first-known, second-known, command-known}
 use Rattle.pre_rules.proofs.Modifies.{differs-fails, kept-rule}
 use Rattle.pre_rules.proofs.unmodified.rule_27.Statement.{statement}
 use Rattle.pre_rules.proofs.unmodified.rule_27.Tie as tie

@@ -3,7 +3,7 @@
 use native.Mathlib.Omega.{arith}
 use borrow.Author.Needs.{needs}
 use borrow.Author.Tests.{not-true, not-false}
-use Rattle.set_rules.proofs.Goal.{left-in, right-in, low-left, low-right}
+use Rattle.set_unions.proofs.Goal.{left-in, right-in, low-left, low-right}
 use Rattle.set_rules.proofs.Antecedents.{can-same, can-imply, left-fails, right-fails, differ-fails, implied-rule}
 use Rattle.set_rules.proofs.antecedent.rule_18.Statement.{statement}
 use Rattle.set_rules.proofs.antecedent.rule_18.Tie as tie

@@ -1,7 +1,7 @@
 -- `set_rules::empty::rule_14` meets its contract.
 -- Assumes nothing.
 use native.Mathlib.Omega.{arith}
-use Rattle.set_rules.proofs.Goal.{left-in, right-in, low-right}
+use Rattle.set_unions.proofs.Goal.{left-in, right-in, low-right}
 use Rattle.set_rules.proofs.EmptySets.{can-try-each, full-fails, each-rule}
 use Rattle.set_rules.proofs.empty.rule_14.Statement.{statement}
 use Rattle.set_rules.proofs.empty.rule_14.Tie as tie

@@ -2,7 +2,7 @@
 -- Assumes nothing.
 use native.Mathlib.Omega.{arith}
 use borrow.Author.Needs.{needs}
-use Rattle.set_rules.proofs.Goal.{left-in, right-in, low-right}
+use Rattle.set_unions.proofs.Goal.{left-in, right-in, low-right}
 use Rattle.set_rules.proofs.EmptySets.{one-starts, some-fails, many-fails, closed-rule}
 use Rattle.set_rules.proofs.empty.rule_15.Statement.{statement}
 use Rattle.set_rules.proofs.empty.rule_15.Tie as tie

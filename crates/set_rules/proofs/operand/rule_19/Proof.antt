@@ -2,7 +2,7 @@
 -- Assumes nothing.
 use native.Mathlib.Omega.{arith}
 use borrow.Author.Needs.{needs}
-use Rattle.set_rules.proofs.Goal.{right-in, low-right}
+use Rattle.set_unions.proofs.Goal.{right-in, low-right}
 use Rattle.set_rules.proofs.Operands.{can-split, apart-fails, split-rule}
 use Rattle.set_rules.proofs.operand.rule_19.Statement.{statement}
 use Rattle.set_rules.proofs.operand.rule_19.Tie as tie
