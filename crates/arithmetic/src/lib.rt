@@ -6,7 +6,7 @@ ghost use mathlib.Core.Path.{_≡_};
 ghost use lib.IntN.{natAbs, _+ℤ_, _-ℤ_, _*ℤ_};
 ghost use lib.Signed.{ltZ, leZ};
 ghost use Rattle.language.specs.Store.{sameInteger, apply, relate as relateOf};
-ghost use Rattle.execution.specs.Evaluate.{index};
+ghost use Rattle.execution.specs.Evaluate.{worked, index};
 ghost use Rattle.words.specs.Meaning.{operatorMeant, comparisonMeant};
 ghost use Rattle.arithmetic.specs.Worked.{outcome, indexOutcome, checked, mostOf};
 
@@ -143,8 +143,8 @@ pub fn relate(c: Comparison, a: i64, b: i64) -> bool
 }
 
 // Refusal 15: an index is outside 0 to 63.
-fn place(z: i64) -> Index
-    ensures { λ r. ⌜ indexOutcome r ≡ index (outcome (Worked.Value z)) ⌝ }
+pub fn place(z: i64) -> Index
+    ensures { λ r. ⌜ indexOutcome r ≡ index (worked z) ⌝ }
 {
     if 0 <= z {
         let n = z as usize;
@@ -153,14 +153,4 @@ fn place(z: i64) -> Index
         }
     }
     Index::Stops(15)
-}
-
-// An index, tested as soon as it is worked out.
-pub fn to_index(i: Worked) -> Index
-    ensures { λ r. ⌜ indexOutcome r ≡ index (outcome i) ⌝ }
-{
-    match i {
-        Worked::Value(z) => place(z),
-        Worked::Stops(k) => Index::Stops(k),
-    }
 }

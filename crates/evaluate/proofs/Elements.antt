@@ -1,7 +1,7 @@
 -- The values of an array at 0 to 63, as a list.
 -- Assumes nothing.
 --     elements-length, elements-at    how many; the value at an index
---     whole                           64 values that are all written over
+--     whole                           a list that is all written over
 --     fetched, cleared                the values of an array of the store; zero everywhere
 --     set-elements                    a value replaced
 use mathlib.Core.Path.{_≡_, refl, sym, ap, subst, _∙_}
@@ -42,21 +42,20 @@ listed l f e h =
     ext-getD (pos 0) l (elements f) (e ∙ sym (elements-length f))
     (λ j k. h j (omega arith) ∙ sym (elements-at f j (omega arith)))
 
-pub whole : (d s : List ℤ) → length d ≡ 64 → paste d 0 s 64 ≡ take 64 s
-whole d s h =
-    ap (λ (r : List ℤ). take 64 s ++ r) (drop-of-length-le d {i = 64} (omega arith)) ∙ append-nil (take 64 s)
+pub whole : (n : ℕ) (d s : List ℤ) → length d ≡ n → paste d 0 s n ≡ take n s
+whole n d s h = ap (λ (r : List ℤ). take n s ++ r) (drop-of-length-le d {i = 0 + n} (omega arith)) ∙ append-nil (take n s)
 
 pub fetched : (d vs : List ℤ) (a : ℕ) → length d ≡ 64 → a < 32 → length vs ≡ 2048 →
     paste d 0 (drop (64 * a) vs) 64 ≡ elements (elementAt vs a)
 fetched d vs a hd ha hv =
-    whole d (drop (64 * a) vs) hd
+    whole 64 d (drop (64 * a) vs) hd
     ∙ listed (take 64 (drop (64 * a) vs)) (elementAt vs a)
     (simp (length-take, length-drop) (omega arith))
     (λ j h. getD-take 64 (drop (64 * a) vs) j (pos 0) h ∙ getD-drop (64 * a) vs j (pos 0))
 
 pub cleared : (d : List ℤ) → length d ≡ 64 → paste d 0 (drop 0 (replicate 64 (pos 0))) 64 ≡ elements (λ i. pos 0)
 cleared d h =
-    whole d (drop 0 (replicate 64 (pos 0))) h
+    whole 64 d (drop 0 (replicate 64 (pos 0))) h
     ∙ listed (take 64 (drop 0 (replicate 64 (pos 0)))) (λ i. pos 0) refl
     (λ j k. getD-take 64 (drop 0 (replicate 64 (pos 0))) j (pos 0) k ∙ getD-replicate 64 j (pos 0) (pos 0) k)
 

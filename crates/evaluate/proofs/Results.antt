@@ -1,49 +1,40 @@
 -- What is worked out at a place is the definition's outcome of the tree that stands there, by its first word.
 -- Assumes nothing.
---     constant-worked, scalar-worked, leaf-worked, operation-worked, select-worked
---                                                                          arithmetic
+--     after-both                                                           one outcome after another
+--     held-worked                                                          a number as the code holds it
+--     constant-worked, scalar-worked, operation-worked, select-worked      arithmetic
 --     identifier-filled, zeros-filled, update-filled                       arrays
 --     compare-tested, truth-tested, and-tested, or-tested, not-tested      booleans
-use mathlib.Core.Path.{_≡_, refl, sym, ap, ap₂, subst, _∙_}
-use mathlib.Core.Bool.{Bool, true, false, _&&_}
+use mathlib.Core.Path.{_≡_, refl, sym, ap, _∙_}
+use mathlib.Core.Bool.{Bool, true, false, not, _&&_, _||_}
 use mathlib.Core.List.{List}
 use Prim.Native.Nat.{ℕ, _+_, _<_}
 use native.Mathlib.Omega.{arith}
 use borrow.Author.Tests.{leb-true}
 use lib.Dec.{leb}
 use lib.IntN.{ℤ, pos, negsuc}
-use lib.ListN.{getD}
+use lib.ListN.{getD, set}
 use mir.Syntax.{w64}
 use mir.Val.{SFits, toZ, ofZ}
 use Rattle.laws.proofs.Bools.{and-right}
-use Rattle.language.specs.Syntax.{Sort, Expr}
-use Rattle.language.specs.Store.{Value, sameInteger, put}
-use Rattle.layout.specs.EvidenceWords.{expressionPart}
+use Rattle.language.specs.Syntax as syntax
+use Rattle.language.specs.Store.{sameInteger, put, apply, relate}
 use Rattle.execution.specs.Lent.{lent, storeOf, elementAt, elements}
 use Rattle.execution.specs.Evaluate.{Outcome, worked, stops, onWorked, tested, index, evaluate}
-use Rattle.ends.specs.Ends.{EndsOf}
+use Rattle.words.specs.Meaning.{operatorMeant, comparisonMeant}
 use Rattle.words.specs.declared.Operator.{Operator}
 use Rattle.words.specs.declared.Comparison.{Comparison}
 use Rattle.words.specs.declared.ArithmeticWord.the-variants.{Constant, Scalar, Operation, Select}
 use Rattle.words.specs.declared.BooleanWord.the-variants.{Compare, Truth, And, Or, Not}
 use Rattle.words.specs.declared.ArrayWord.the-variants.{Identifier, Zeros, Update}
-use Rattle.heads.specs.Stands.{arithmeticAt, booleanAt, arrayAt, PartAt}
+use Rattle.heads.specs.Stands.{arithmeticAt, booleanAt, arrayAt}
 use Rattle.heads.proofs.Parts.{arithmetic-parts, boolean-parts, array-parts}
-use Rattle.arithmetic.specs.Worked.{outcome, checked}
-use Rattle.arithmetic.specs.declared.Worked.{Worked}
-use Rattle.arithmetic.specs.declared.Worked.the-variants as Worked
-use Rattle.arithmetic.proofs.Signed.{back}
-use Rattle.evaluate.specs.Evaluated.{testOutcome, fillOutcome, operated, compared, conjoined, disjoined}
-use Rattle.evaluate.specs.Evaluated.{negated}
-use Rattle.evaluate.specs.Evaluated.{entry, entered, withEntry, replaced, Evaluates, Tests, Fills, Leaves}
-use Rattle.evaluate.specs.declared.Tested.{Tested}
-use Rattle.evaluate.specs.declared.Tested.the-variants as Tested
-use Rattle.evaluate.specs.declared.Leaf.{Leaf}
-use Rattle.evaluate.specs.declared.Leaf.the-variants as Leaf
-use Rattle.evaluate.specs.declared.Filled.{Filled}
-use Rattle.evaluate.specs.declared.Filled.the-variants as Filled
+use Rattle.arithmetic.specs.Worked.{checked}
+use Rattle.arithmetic.proofs.Signed.{back, held-two}
+use Rattle.evaluate.specs.Evaluated.{Answered, Indexes, Evaluates, Fills}
+use Rattle.evaluate.proofs.Answers.{answered, answered-as, held, onward}
 use Rattle.evaluate.proofs.Elements.{elements-at, set-elements}
-use Rattle.evaluate.proofs.Places.{end-is}
+use Rattle.evaluate.proofs.Places.{moved}
 
 -- what follows an index goes by the indexes that exist
 on-index : {A : Type 0} (i : Outcome ℤ) (f g : ℤ → Outcome A) → ((n : ℕ) → n < 64 → f (pos n) ≡ g (pos n)) →
@@ -62,8 +53,24 @@ pub after-both : {A B C : Type 0} (o : Outcome A) (f : A → Outcome B) (g : B �
 after-both (worked a) f g = refl
 after-both (stops k) f g = refl
 
+-- the value at an index, of a list
+abbrev entry : List ℤ → ℤ → ℤ
+entry l (pos n) = getD l n (pos 0)
+entry l (negsuc n) = pos 0
+
+-- a list with a value at an index
+abbrev withEntry : List ℤ → ℤ → ℤ → List ℤ
+withEntry l (pos n) w = set l n w
+withEntry l (negsuc n) w = l
+
+abbrev entered : Outcome ℤ → List ℤ → Outcome ℤ
+entered i l = onWorked (index i) λ v. worked (entry l v)
+
+abbrev replaced : Outcome ℤ → Outcome ℤ → List ℤ → Outcome (List ℤ)
+replaced i a l = onWorked (index i) λ v. onWorked a λ w. worked (withEntry l v w)
+
 select-is : (o : Outcome (ℤ → ℤ)) (i : Outcome ℤ) →
-    entered (onWorked o λ f. worked (elements f)) i ≡ onWorked o λ f. onWorked (index i) λ v. worked (f v)
+    onWorked (onWorked o λ f. worked (elements f)) (entered i) ≡ onWorked o λ f. onWorked (index i) λ v. worked (f v)
 select-is (worked f) i =
     on-index i (λ v. worked (entry (elements f) v)) (λ v. worked (f v)) (λ n h. ap worked (elements-at f n h))
 select-is (stops k) i = refl
@@ -75,7 +82,7 @@ put-in f n h (worked w) = ap worked (set-elements f n w h)
 put-in f n h (stops k) = refl
 
 update-is : (o : Outcome (ℤ → ℤ)) (i a : Outcome ℤ) →
-    replaced (onWorked o λ f. worked (elements f)) i a
+    onWorked (onWorked o λ f. worked (elements f)) (replaced i a)
     ≡ onWorked (onWorked o λ f. onWorked (index i) λ v. onWorked a λ w. worked (put sameInteger f v w)) λ g.
     worked (elements g)
 update-is (worked f) i a =
@@ -84,154 +91,168 @@ update-is (worked f) i a =
     ∙ sym (after-both (index i) (λ v. onWorked a λ w. worked (put sameInteger f v w)) (λ g. worked (elements g)))
 update-is (stops k) i a = refl
 
--- the second operand stands where the first ends
-pub moved : {file ends : List ℕ} (x : EndsOf file ends) {q : ℕ} (at : ℕ) (next : q ≡ getD ends at 0) {j k : Sort}
-    (a : Expr j) (b : Expr k) {m p : ℕ} → PartAt file (expressionPart a) at m → PartAt file (expressionPart b) m p →
-    PartAt file (expressionPart b) q p
-moved {file} x at next a b {m} {p} s t = subst (λ z. PartAt file (expressionPart b) z p) (end-is a x s ∙ sym next) t
+indexed : {s s′ : List ℕ} {i : ℤ} {n : ℕ} → SFits w64 i → Indexes s (toZ w64 (ofZ w64 i)) n s′ →
+    Answered s (index (worked i)) (pos n) s′
+indexed f k = answered-as (ap (λ z. index (worked z)) (back f)) (k .is)
 
-module _ {file : List ℕ} {ss vs : List ℤ} {at : ℕ} where
-  pub constant-worked : (z : ℤ) → SFits w64 z → arithmeticAt file at ≡ Constant z →
-      Evaluates file ss vs at (Worked.Value (toZ w64 (ofZ w64 z)))
+module _ {w ends : List ℕ} {ss vs : List ℤ} {at : ℕ} {s : List ℕ} where
+  pub constant-worked : (z : ℤ) → SFits w64 z → arithmeticAt w at ≡ Constant z →
+      Evaluates syntax.Arithmetic w ends ss vs at s (toZ w64 (ofZ w64 z)) s
   unfolding evaluate
   constant-worked z f h = record {
-    is = λ e p s.
-        ap worked (back f) ∙ sym (ap (λ x. evaluate x (storeOf (lent ss vs))) (arithmetic-parts e s h));
+    is = λ e p t.
+        answered-as (sym (ap (λ x. evaluate x (storeOf (lent ss vs))) (arithmetic-parts e t h))) (answered (back f));
   }
 
-  pub scalar-worked : (x : ℕ) (z : ℤ) → SFits w64 z → arithmeticAt file at ≡ Scalar x →
-      z ≡ getD ss x (pos 0) → Evaluates file ss vs at (Worked.Value (toZ w64 (ofZ w64 z)))
+  pub scalar-worked : (x : ℕ) (z : ℤ) → SFits w64 z → arithmeticAt w at ≡ Scalar x → z ≡ getD ss x (pos 0) →
+      Evaluates syntax.Arithmetic w ends ss vs at s (toZ w64 (ofZ w64 z)) s
   unfolding evaluate
   scalar-worked x z f h q = record {
-    is = λ e p s.
-        ap worked (back f ∙ q) ∙ sym (ap (λ y. evaluate y (storeOf (lent ss vs))) (arithmetic-parts e s h .0));
+    is = λ e p t.
+        answered-as (sym (ap (λ y. evaluate y (storeOf (lent ss vs))) (arithmetic-parts e t h .0)))
+        (answered (back f ∙ q));
   }
 
-  -- an operand that is a leaf
-  pub leaf-worked : {l : Leaf} {z : ℤ} → SFits w64 z → Leaves file ss at l → l ≡ Leaf.Value z →
-      Evaluates file ss vs at (Worked.Value (toZ w64 (ofZ w64 z)))
-  leaf-worked f h e =
-      let g = subst (Leaves file ss at) e h vs in record { is = λ e p s. ap worked (back f) ∙ g .is e p s }
+  pub held-worked : {z : ℤ} {s₁ : List ℕ} → SFits w64 z → Evaluates syntax.Arithmetic w ends ss vs at s z s₁ →
+      Evaluates syntax.Arithmetic w ends ss vs at s (toZ w64 (ofZ w64 z)) s₁
+  held-worked f h = record { is = λ e p t. held f (h .is e p t) }
 
-  pub identifier-filled : (a : ℕ) (l : List ℤ) → arrayAt file at ≡ Identifier a →
-      l ≡ elements (elementAt vs a) → Fills file ss vs at Filled.Done l
+  pub identifier-filled : (a : ℕ) (l : List ℤ) → arrayAt w at ≡ Identifier a → l ≡ elements (elementAt vs a) →
+      Fills w ends ss vs at s l s
   unfolding evaluate
   identifier-filled a l h q = record {
-    is = λ e p s.
-        ap worked q
-        ∙ sym (ap (λ y. onWorked (evaluate y (storeOf (lent ss vs))) λ f. worked (elements f)) (array-parts e s h .0));
+    is = λ e p t.
+        answered-as
+        (sym (ap (λ y. onWorked (evaluate y (storeOf (lent ss vs))) λ f. worked (elements f)) (array-parts e t h .0)))
+        (answered q);
   }
 
-  pub zeros-filled : (l : List ℤ) → arrayAt file at ≡ Zeros →
-      l ≡ elements (λ i. pos 0) → Fills file ss vs at Filled.Done l
+  pub zeros-filled : (l : List ℤ) → arrayAt w at ≡ Zeros → l ≡ elements (λ i. pos 0) → Fills w ends ss vs at s l s
   unfolding evaluate
   zeros-filled l h q = record {
-    is = λ e p s.
-        ap worked q
-        ∙ sym (ap (λ y. onWorked (evaluate y (storeOf (lent ss vs))) λ f. worked (elements f)) (array-parts e s h));
+    is = λ e p t.
+        answered-as
+        (sym (ap (λ y. onWorked (evaluate y (storeOf (lent ss vs))) λ f. worked (elements f)) (array-parts e t h)))
+        (answered q);
   }
 
-  pub truth-tested : (t : Bool) → booleanAt file at ≡ Truth t → Tests file ss vs at (Tested.Is t)
+  pub truth-tested : (t : Bool) → booleanAt w at ≡ Truth t → Evaluates syntax.Boolean w ends ss vs at s t s
   unfolding evaluate
   truth-tested t h = record {
-    is = λ e p s.
-        sym (ap (λ y. evaluate y (storeOf (lent ss vs))) (boolean-parts e s h));
+    is = λ e p x.
+        answered-as (sym (ap (λ y. evaluate y (storeOf (lent ss vs))) (boolean-parts e x h))) (answered refl);
   }
 
-  pub not-tested : {a r : Tested} → booleanAt file at ≡ Not → Tests file ss vs (at + 1) a →
-      testOutcome r ≡ negated (testOutcome a) → Tests file ss vs at r
+  pub not-tested : {a r : Bool} {s₁ : List ℕ} → booleanAt w at ≡ Not →
+      Evaluates syntax.Boolean w ends ss vs (at + 1) s a s₁ → r ≡ not a → Evaluates syntax.Boolean w ends ss vs at s r s₁
   unfolding evaluate
   not-tested h f q = record {
-    is = λ e p s.
-        let t = boolean-parts e s h in
-        q ∙ ap negated (f .is (t .first) p (t .first-at)) ∙ sym (ap (λ y. evaluate y (storeOf (lent ss vs))) (t .is));
+    is = λ e p x.
+        let t = boolean-parts e x h in
+        answered-as (sym (ap (λ y. evaluate y (storeOf (lent ss vs))) (t .is)))
+        (onward (λ v. worked (not v)) (f .is (t .first) p (t .first-at)) (answered q));
   }
 
-  module _ {ends : List ℕ} (x : EndsOf file ends) {q : ℕ} (next : q ≡ getD ends (at + 1) 0) where
-    pub operation-worked : {o : Operator} {a b r : Worked} → arithmeticAt file at ≡ Operation o →
-        Evaluates file ss vs (at + 1) a → Evaluates file ss vs q b → outcome r ≡ operated o (outcome a) (outcome b) →
-        Evaluates file ss vs at r
-    unfolding evaluate checked
-    operation-worked {o} h f g i = record {
-      is = λ e p s.
-          let t = arithmetic-parts e s h in
-          i
-          ∙ ap₂ (operated o) (f .is (t .first) (t .middle) (t .first-at))
-          (g .is (t .second) p (moved x (at + 1) next (t .first) (t .second) (t .first-at) (t .second-at)))
-          ∙ sym (ap (λ y. evaluate y (storeOf (lent ss vs))) (t .is));
-    }
+  -- the second operand stands where the first ends
+  module _ {q : ℕ} (next : q ≡ getD ends (at + 1) 0) {s₁ s₂ : List ℕ} where
+    module _ {a b : ℤ} (f : Evaluates syntax.Arithmetic w ends ss vs (at + 1) s a s₁)
+        (g : Evaluates syntax.Arithmetic w ends ss vs q s₁ b s₂) (fa : SFits w64 a) (fb : SFits w64 b) where
+      pub operation-worked : {o : Operator} {r : ℤ} {s₃ : List ℕ} → SFits w64 r → arithmeticAt w at ≡ Operation o →
+          Answered s₂ (checked (apply (operatorMeant o) (toZ w64 (ofZ w64 a)) (toZ w64 (ofZ w64 b)))) r s₃ →
+          Evaluates syntax.Arithmetic w ends ss vs at s (toZ w64 (ofZ w64 r)) s₃
+      unfolding evaluate checked
+      operation-worked {o} fr h i = record {
+        is = λ e p x.
+            let t = arithmetic-parts e x h in
+            let m = storeOf (lent ss vs) in
+            answered-as (sym (ap (λ y. evaluate y m) (t .is)))
+            (onward (λ v. onWorked (evaluate (t .second) m) λ z. checked (apply (operatorMeant o) v z))
+            (f .is (t .first) (t .middle) (t .first-at))
+            (onward (λ z. checked (apply (operatorMeant o) a z))
+            (g .is (t .second) p (moved (t .first) next (t .first-at) (t .second-at)))
+            (held fr (answered-as (held-two (λ x y. checked (apply (operatorMeant o) x y)) fa fb) i))));
+      }
 
-    pub select-worked : {a : Filled} {l : List ℤ} {b r : Worked} → arithmeticAt file at ≡ Select →
-        Fills file ss vs (at + 1) a l → Evaluates file ss vs q b → outcome r ≡ entered (fillOutcome a l) (outcome b) →
-        Evaluates file ss vs at r
-    unfolding evaluate
-    select-worked h f g i = record {
-      is = λ e p s.
-          let t = arithmetic-parts e s h in
-          i
-          ∙ ap₂ entered (f .is (t .first) (t .middle) (t .first-at))
-          (g .is (t .second) p (moved x (at + 1) next (t .first) (t .second) (t .first-at) (t .second-at)))
-          ∙ select-is (evaluate (t .first) (storeOf (lent ss vs))) (evaluate (t .second) (storeOf (lent ss vs)))
-          ∙ sym (ap (λ y. evaluate y (storeOf (lent ss vs))) (t .is));
-    }
+      pub compare-tested : {c : Comparison} {r : Bool} → booleanAt w at ≡ Compare c →
+          r ≡ relate (comparisonMeant c) (toZ w64 (ofZ w64 a)) (toZ w64 (ofZ w64 b)) →
+          Evaluates syntax.Boolean w ends ss vs at s r s₂
+      unfolding evaluate
+      compare-tested {c} h i = record {
+        is = λ e p x.
+            let t = boolean-parts e x h in
+            let m = storeOf (lent ss vs) in
+            answered-as (sym (ap (λ y. evaluate y m) (t .is)))
+            (onward (λ v. onWorked (evaluate (t .second) m) λ z. worked (relate (comparisonMeant c) v z))
+            (f .is (t .first) (t .middle) (t .first-at))
+            (onward (λ z. worked (relate (comparisonMeant c) a z))
+            (g .is (t .second) p (moved (t .first) next (t .first-at) (t .second-at)))
+            (answered (i ∙ held-two (relate (comparisonMeant c)) fa fb))));
+      }
 
-    pub update-filled : {a r : Filled} {l m : List ℤ} {b v : Worked} {z : ℕ} → z ≡ getD ends q 0 →
-        arrayAt file at ≡ Update → Fills file ss vs (at + 1) a l → Evaluates file ss vs q b →
-        Evaluates file ss vs z v → fillOutcome r m ≡ replaced (fillOutcome a l) (outcome b) (outcome v) →
-        Fills file ss vs at r m
-    unfolding evaluate
-    update-filled {b = b} last h f g k i = record {
-      is = λ e p s.
-          let t = array-parts e s h in
-          let second = moved x (at + 1) next (t .first) (t .second) (t .first-at) (t .second-at) in
-          let third = moved x q last (t .second) (t .third) second (t .third-at) in
-          i
-          ∙ ap₂ (λ y w. replaced y (outcome b) w) (f .is (t .first) (t .middle) (t .first-at))
-          (k .is (t .third) p third)
-          ∙ ap (λ y. replaced (onWorked (evaluate (t .first) (storeOf (lent ss vs))) λ f. worked (elements f)) y
-          (evaluate (t .third) (storeOf (lent ss vs)))) (g .is (t .second) (t .last) second)
-          ∙ update-is (evaluate (t .first) (storeOf (lent ss vs))) (evaluate (t .second) (storeOf (lent ss vs)))
-          (evaluate (t .third) (storeOf (lent ss vs)))
-          ∙ sym (ap (λ y. onWorked (evaluate y (storeOf (lent ss vs))) λ f. worked (elements f)) (t .is));
-    }
+    module _ {a b : Bool} (f : Evaluates syntax.Boolean w ends ss vs (at + 1) s a s₁)
+        (g : Evaluates syntax.Boolean w ends ss vs q s₁ b s₂) {r : Bool} where
+      pub and-tested : booleanAt w at ≡ And → r ≡ (a && b) → Evaluates syntax.Boolean w ends ss vs at s r s₂
+      unfolding evaluate
+      and-tested h i = record {
+        is = λ e p x.
+            let t = boolean-parts e x h in
+            let m = storeOf (lent ss vs) in
+            answered-as (sym (ap (λ y. evaluate y m) (t .is)))
+            (onward (λ v. onWorked (evaluate (t .second) m) λ z. worked (v && z))
+            (f .is (t .first) (t .middle) (t .first-at))
+            (onward (λ z. worked (a && z)) (g .is (t .second) p (moved (t .first) next (t .first-at) (t .second-at)))
+            (answered i)));
+      }
 
-    pub compare-tested : {c : Comparison} {a b : Worked} {r : Tested} →
-        booleanAt file at ≡ Compare c →
-        Evaluates file ss vs (at + 1) a → Evaluates file ss vs q b →
-        testOutcome r ≡ compared c (outcome a) (outcome b) →
-        Tests file ss vs at r
-    unfolding evaluate
-    compare-tested {c} h f g i = record {
-      is = λ e p s.
-          let t = boolean-parts e s h in
-          i
-          ∙ ap₂ (compared c) (f .is (t .first) (t .middle) (t .first-at))
-          (g .is (t .second) p (moved x (at + 1) next (t .first) (t .second) (t .first-at) (t .second-at)))
-          ∙ sym (ap (λ y. evaluate y (storeOf (lent ss vs))) (t .is));
-    }
+      pub or-tested : booleanAt w at ≡ Or → r ≡ (a || b) → Evaluates syntax.Boolean w ends ss vs at s r s₂
+      unfolding evaluate
+      or-tested h i = record {
+        is = λ e p x.
+            let t = boolean-parts e x h in
+            let m = storeOf (lent ss vs) in
+            answered-as (sym (ap (λ y. evaluate y m) (t .is)))
+            (onward (λ v. onWorked (evaluate (t .second) m) λ z. worked (v || z))
+            (f .is (t .first) (t .middle) (t .first-at))
+            (onward (λ z. worked (a || z)) (g .is (t .second) p (moved (t .first) next (t .first-at) (t .second-at)))
+            (answered i)));
+      }
 
-    pub and-tested : {a b r : Tested} → booleanAt file at ≡ And →
-        Tests file ss vs (at + 1) a → Tests file ss vs q b → testOutcome r ≡ conjoined (testOutcome a) (testOutcome b) →
-        Tests file ss vs at r
-    unfolding evaluate
-    and-tested h f g i = record {
-      is = λ e p s.
-          let t = boolean-parts e s h in
-          i
-          ∙ ap₂ conjoined (f .is (t .first) (t .middle) (t .first-at))
-          (g .is (t .second) p (moved x (at + 1) next (t .first) (t .second) (t .first-at) (t .second-at)))
-          ∙ sym (ap (λ y. evaluate y (storeOf (lent ss vs))) (t .is));
-    }
+    -- an array, then an index n that is tested
+    module _ {l : List ℤ} {i : ℤ} {n : ℕ} {s₃ : List ℕ} (f : Fills w ends ss vs (at + 1) s l s₁)
+        (g : Evaluates syntax.Arithmetic w ends ss vs q s₁ i s₂) (fi : SFits w64 i)
+        (k : Indexes s₂ (toZ w64 (ofZ w64 i)) n s₃) where
+      pub select-worked : {r : ℤ} → SFits w64 r → arithmeticAt w at ≡ Select → r ≡ getD l n (pos 0) →
+          Evaluates syntax.Arithmetic w ends ss vs at s (toZ w64 (ofZ w64 r)) s₃
+      unfolding evaluate
+      select-worked fr h j = record {
+        is = λ e p x.
+            let t = arithmetic-parts e x h in
+            let m = storeOf (lent ss vs) in
+            let second = moved (t .first) next (t .first-at) (t .second-at) in
+            answered-as
+            (select-is (evaluate (t .first) m) (evaluate (t .second) m) ∙ sym (ap (λ y. evaluate y m) (t .is)))
+            (onward (entered (evaluate (t .second) m)) (f .is (t .first) (t .middle) (t .first-at))
+            (onward (λ v. worked (entry l v)) (onward (λ v. index (worked v)) (g .is (t .second) p second) (indexed fi k))
+            (answered (back fr ∙ j))));
+      }
 
-    pub or-tested : {a b r : Tested} → booleanAt file at ≡ Or →
-        Tests file ss vs (at + 1) a → Tests file ss vs q b → testOutcome r ≡ disjoined (testOutcome a) (testOutcome b) →
-        Tests file ss vs at r
-    unfolding evaluate
-    or-tested h f g i = record {
-      is = λ e p s.
-          let t = boolean-parts e s h in
-          i
-          ∙ ap₂ disjoined (f .is (t .first) (t .middle) (t .first-at))
-          (g .is (t .second) p (moved x (at + 1) next (t .first) (t .second) (t .first-at) (t .second-at)))
-          ∙ sym (ap (λ y. evaluate y (storeOf (lent ss vs))) (t .is));
-    }
+      pub update-filled : {o : ℕ} {z : ℤ} {c : List ℤ} {s₄ : List ℕ} → o ≡ getD ends q 0 → arrayAt w at ≡ Update →
+          Evaluates syntax.Arithmetic w ends ss vs o s₃ z s₄ → SFits w64 z → c ≡ set l n (toZ w64 (ofZ w64 z)) →
+          Fills w ends ss vs at s c s₄
+      unfolding evaluate
+      update-filled last h y fz j = record {
+        is = λ e p x.
+            let t = array-parts e x h in
+            let m = storeOf (lent ss vs) in
+            let second = moved (t .first) next (t .first-at) (t .second-at) in
+            let third = moved (t .second) last second (t .third-at) in
+            answered-as
+            (update-is (evaluate (t .first) m) (evaluate (t .second) m) (evaluate (t .third) m)
+            ∙ sym (ap (λ y. onWorked (evaluate y m) λ f. worked (elements f)) (t .is)))
+            (onward (replaced (evaluate (t .second) m) (evaluate (t .third) m))
+            (f .is (t .first) (t .middle) (t .first-at))
+            (onward (λ v. onWorked (evaluate (t .third) m) λ z. worked (withEntry l v z))
+            (onward (λ v. index (worked v)) (g .is (t .second) (t .last) second) (indexed fi k))
+            (onward (λ z. worked (withEntry l (pos n) z)) (y .is (t .third) p third)
+            (answered (j ∙ ap (set l n) (back fz))))));
+      }

@@ -1,45 +1,50 @@
 // Boolean expressions. The words left from a place on fall.
-use super::Tested;
-use super::combine::both;
-use super::combine::compare_both;
-use super::combine::either;
-use super::combine::negate;
+use super::Progress;
 use super::expression::eval_operand;
 use ends::end_at;
 use heads::boolean_head;
 use words::BooleanWord;
 ghost use Rattle.language.specs.Syntax.{Boolean};
-ghost use Rattle.evaluate.specs.Evaluated.{CanEvaluate, Tests};
+ghost use Rattle.heads.specs.Stands.{ExpressionStands};
+ghost use Rattle.evaluate.specs.Evaluated.{Evaluates};
 
-pub fn eval_boolean(w: &[u32], ends: &[u32], at: usize, scalars: &[i64], values: &[i64]) -> Tested
-    requires { ⌜ CanEvaluate (now w) (now ends) (now scalars) (now values) Boolean «at» ⌝ }
-    ensures { λ r. ⌜ Tests (now (w .entry)) (now (scalars .entry)) (now (values .entry)) «at» r ⌝ }
+pub fn eval_boolean(
+    w: &[u32; 8192],
+    ends: &[u32; 8704],
+    at: usize,
+    scalars: &[i64; 32],
+    values: &[i64; 2048],
+    progress: &mut Progress,
+) -> bool
+    requires { ⌜ ExpressionStands (now w) (now ends) Boolean «at» ⌝ }
+    ensures { λ r. ⌜ Evaluates Boolean (now (w .entry)) (now (ends .entry)) (now (scalars .entry)) (now (values .entry))
+        «at» (now (progress .entry)) r (now (progress .exit)) ⌝ }
 {
     let head = boolean_head(w, at);
     match head {
         BooleanWord::Compare(c) => {
-            let a = eval_operand(w, ends, at + 1, scalars, values);
+            let a = eval_operand(w, ends, at + 1, scalars, values, progress);
             let second = end_at(ends, at + 1);
-            let b = eval_operand(w, ends, second, scalars, values);
-            compare_both(c, a, b)
+            let b = eval_operand(w, ends, second, scalars, values, progress);
+            arithmetic::relate(c, a, b)
         }
-        BooleanWord::Truth(t) => Tested::Is(t),
+        BooleanWord::Truth(t) => t,
         BooleanWord::And => {
-            let a = eval_boolean(w, ends, at + 1, scalars, values);
+            let a = eval_boolean(w, ends, at + 1, scalars, values, progress);
             let second = end_at(ends, at + 1);
-            let b = eval_boolean(w, ends, second, scalars, values);
-            both(a, b)
+            let b = eval_boolean(w, ends, second, scalars, values, progress);
+            a && b
         }
         BooleanWord::Or => {
-            let a = eval_boolean(w, ends, at + 1, scalars, values);
+            let a = eval_boolean(w, ends, at + 1, scalars, values, progress);
             let second = end_at(ends, at + 1);
-            let b = eval_boolean(w, ends, second, scalars, values);
-            either(a, b)
+            let b = eval_boolean(w, ends, second, scalars, values, progress);
+            a || b
         }
         BooleanWord::Not => {
-            let a = eval_boolean(w, ends, at + 1, scalars, values);
-            negate(a)
+            let a = eval_boolean(w, ends, at + 1, scalars, values, progress);
+            !a
         }
-        BooleanWord::Other => Tested::Stops(0),
+        BooleanWord::Other => false,
     }
 }

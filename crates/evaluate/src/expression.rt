@@ -1,104 +1,116 @@
 // Arithmetic and array expressions. The words left from a place on fall.
-use super::Filled;
-use super::Leaf;
-use super::combine::element;
-use super::combine::operate_both;
-use super::combine::replace;
-use super::leaves::leaf_at;
+use super::Progress;
+use super::stop::operate;
+use super::stop::to_index;
 use super::store::clear;
 use super::store::fetch;
+use super::store::put_at;
 use super::store::value_at;
-use arithmetic::Worked;
 use ends::end_at;
 use heads::arithmetic_head;
 use heads::array_head;
 use words::ArithmeticWord;
 use words::ArrayWord;
-ghost use mathlib.Core.Path.{_≡_};
-ghost use lib.ListN.{length};
 ghost use Rattle.language.specs.Syntax.{Arithmetic, Array};
-ghost use Rattle.evaluate.specs.Evaluated.{CanEvaluate, CanSelect, Evaluates, Fills};
+ghost use Rattle.heads.specs.Stands.{ExpressionStands};
+ghost use Rattle.evaluate.specs.Evaluated.{CanSelect, Evaluates, Fills};
 
 // An operand: a constant or a scalar makes no further call.
-pub fn eval_operand(w: &[u32], ends: &[u32], at: usize, scalars: &[i64], values: &[i64]) -> Worked
-    requires { ⌜ CanEvaluate (now w) (now ends) (now scalars) (now values) Arithmetic «at» ⌝ }
-    ensures { λ r. ⌜ Evaluates (now (w .entry)) (now (scalars .entry)) (now (values .entry)) «at» r ⌝ }
+pub fn eval_operand(
+    w: &[u32; 8192],
+    ends: &[u32; 8704],
+    at: usize,
+    scalars: &[i64; 32],
+    values: &[i64; 2048],
+    progress: &mut Progress,
+) -> i64
+    requires { ⌜ ExpressionStands (now w) (now ends) Arithmetic «at» ⌝ }
+    ensures { λ r. ⌜ Evaluates Arithmetic (now (w .entry)) (now (ends .entry)) (now (scalars .entry)) (now (values .entry))
+        «at» (now (progress .entry)) r (now (progress .exit)) ⌝ }
 {
-    match leaf_at(w, at, scalars) {
-        Leaf::Value(z) => Worked::Value(z),
-        Leaf::Other => eval_arithmetic(w, ends, at, scalars, values),
+    let head = arithmetic_head(w, at);
+    match head {
+        ArithmeticWord::Constant(z) => z,
+        ArithmeticWord::Scalar(x) => value_at(scalars, x as usize),
+        _ => eval_arithmetic(w, ends, at, scalars, values, progress),
     }
 }
 
 pub fn eval_arithmetic(
-    w: &[u32],
-    ends: &[u32],
+    w: &[u32; 8192],
+    ends: &[u32; 8704],
     at: usize,
-    scalars: &[i64],
-    values: &[i64],
-) -> Worked
-    requires { ⌜ CanEvaluate (now w) (now ends) (now scalars) (now values) Arithmetic «at» ⌝ }
-    ensures { λ r. ⌜ Evaluates (now (w .entry)) (now (scalars .entry)) (now (values .entry)) «at» r ⌝ }
+    scalars: &[i64; 32],
+    values: &[i64; 2048],
+    progress: &mut Progress,
+) -> i64
+    requires { ⌜ ExpressionStands (now w) (now ends) Arithmetic «at» ⌝ }
+    ensures { λ r. ⌜ Evaluates Arithmetic (now (w .entry)) (now (ends .entry)) (now (scalars .entry)) (now (values .entry))
+        «at» (now (progress .entry)) r (now (progress .exit)) ⌝ }
 {
     let head = arithmetic_head(w, at);
     match head {
-        ArithmeticWord::Constant(z) => Worked::Value(z),
-        ArithmeticWord::Scalar(x) => Worked::Value(value_at(scalars, x as usize)),
+        ArithmeticWord::Constant(z) => z,
+        ArithmeticWord::Scalar(x) => value_at(scalars, x as usize),
         ArithmeticWord::Operation(o) => {
-            let a = eval_operand(w, ends, at + 1, scalars, values);
+            let a = eval_operand(w, ends, at + 1, scalars, values, progress);
             let second = end_at(ends, at + 1);
-            let b = eval_operand(w, ends, second, scalars, values);
-            operate_both(o, a, b)
+            let b = eval_operand(w, ends, second, scalars, values, progress);
+            operate(o, a, b, progress)
         }
-        ArithmeticWord::Select => eval_select(w, ends, at, scalars, values),
-        ArithmeticWord::Other => Worked::Stops(0),
+        ArithmeticWord::Select => eval_select(w, ends, at, scalars, values, progress),
+        ArithmeticWord::Other => 0,
     }
 }
 
 // A select stands at the place: array, then index.
-fn eval_select(w: &[u32], ends: &[u32], at: usize, scalars: &[i64], values: &[i64]) -> Worked
-    requires { ⌜ CanSelect (now w) (now ends) (now scalars) (now values) «at» ⌝ }
-    ensures { λ r. ⌜ Evaluates (now (w .entry)) (now (scalars .entry)) (now (values .entry)) «at» r ⌝ }
+fn eval_select(
+    w: &[u32; 8192],
+    ends: &[u32; 8704],
+    at: usize,
+    scalars: &[i64; 32],
+    values: &[i64; 2048],
+    progress: &mut Progress,
+) -> i64
+    requires { ⌜ CanSelect (now w) (now ends) «at» ⌝ }
+    ensures { λ r. ⌜ Evaluates Arithmetic (now (w .entry)) (now (ends .entry)) (now (scalars .entry)) (now (values .entry))
+        «at» (now (progress .entry)) r (now (progress .exit)) ⌝ }
 {
     let mut scratch = [0i64; 64];
-    let array = eval_array(w, ends, at + 1, scalars, values, &mut scratch);
+    eval_array(w, ends, at + 1, scalars, values, progress, &mut scratch);
     let second = end_at(ends, at + 1);
-    let i = eval_operand(w, ends, second, scalars, values);
-    element(array, &scratch, i)
+    let i = eval_operand(w, ends, second, scalars, values, progress);
+    let n = to_index(i, progress);
+    scratch[n]
 }
 
 // The array's values at 0 to 63 go to the scratch.
 pub fn eval_array(
-    w: &[u32],
-    ends: &[u32],
+    w: &[u32; 8192],
+    ends: &[u32; 8704],
     at: usize,
-    scalars: &[i64],
-    values: &[i64],
-    scratch: &mut [i64],
-) -> Filled
-    requires { ⌜ CanEvaluate (now w) (now ends) (now scalars) (now values) Array «at» ⌝ }
-    requires { ⌜ length (now scratch) ≡ 64 ⌝ }
-    ensures { λ r. ⌜ Fills (now (w .entry)) (now (scalars .entry)) (now (values .entry)) «at» r
-        (now (scratch .exit)) ⌝ }
+    scalars: &[i64; 32],
+    values: &[i64; 2048],
+    progress: &mut Progress,
+    scratch: &mut [i64; 64],
+)
+    requires { ⌜ ExpressionStands (now w) (now ends) Array «at» ⌝ }
+    ensures { λ _. ⌜ Fills (now (w .entry)) (now (ends .entry)) (now (scalars .entry)) (now (values .entry)) «at»
+        (now (progress .entry)) (now (scratch .exit)) (now (progress .exit)) ⌝ }
 {
     let head = array_head(w, at);
     match head {
-        ArrayWord::Identifier(a) => {
-            fetch(values, a as usize, scratch);
-            Filled::Done
-        }
-        ArrayWord::Zeros => {
-            clear(scratch);
-            Filled::Done
-        }
+        ArrayWord::Identifier(a) => fetch(values, a as usize, scratch),
+        ArrayWord::Zeros => clear(scratch),
         ArrayWord::Update => {
-            let array = eval_array(w, ends, at + 1, scalars, values, scratch);
+            eval_array(w, ends, at + 1, scalars, values, progress, scratch);
             let second = end_at(ends, at + 1);
-            let i = eval_operand(w, ends, second, scalars, values);
+            let i = eval_operand(w, ends, second, scalars, values, progress);
+            let n = to_index(i, progress);
             let third = end_at(ends, second);
-            let v = eval_arithmetic(w, ends, third, scalars, values);
-            replace(array, scratch, i, v)
+            let v = eval_arithmetic(w, ends, third, scalars, values, progress);
+            put_at(scratch, n, v);
         }
-        ArrayWord::Other => Filled::Stops(0),
+        ArrayWord::Other => {}
     }
 }

@@ -1,15 +1,17 @@
 -- The parts of what stands at a place, by its first word.
 -- Assumes nothing.
---     expression-inside, command-inside                              it has a word, and ends within the file
+--     Inside, expression-inside, command-inside                      it has a word, and ends within the room
 --     One, Two, Three                                                so many parts, one after the other
 --     ArithmeticParts, BooleanParts, ArrayParts, CommandParts        the parts by the first word
 --     arithmetic-parts, boolean-parts, array-parts, command-parts    are what stands there
 --     expression-starts, command-starts                              as callers have them: there is a word
---     boolean-settled, command-settled                               a word that is allowed is settled by its kind
+--     expression-early, command-early                                at a place below 8192
+--     arithmetic-allowed, boolean-allowed, command-allowed           the word there is of its group
+--     settled                                                        a word of a group is settled by its kind
 use mathlib.Core.Path.{_≡_, refl, sym, ap, ap₂, subst, _∙_}
 use mathlib.Core.Bool.{Bool, true, false, cond}
 use mathlib.Core.List.{List, [], _∷_}
-use Prim.Native.Nat.{ℕ, _+_, _<_, _≤_}
+use Prim.Native.Nat.{ℕ, _+_, _/_, _%_, _<_, _≤_}
 use native.Mathlib.Omega.{arith}
 use lib.ListN.{length}
 use Rattle.language.specs.Syntax as syntax
@@ -17,11 +19,13 @@ use Rattle.language.specs.Syntax.{plus, minus, times, equal, less, atMost}
 use Rattle.language.specs.Syntax.{Sort, Expr, constant, scalar, operation, select, compare, truth, and, or, neg}
 use Rattle.language.specs.Syntax.{array, zeros, update, toScalar, toArray}
 use Rattle.language.specs.Syntax.{skip, sequence, assert, assign, ifElse, while, for}
-use Rattle.layout.specs.Bytes.{kindAt, payloadAt}
+use Rattle.layout.specs.Bytes.{payloads, kindAt, payloadAt}
 use Rattle.layout.specs.EvidenceWords.{Part, expressionPart, commandPart}
 use Rattle.layout.specs.Nodes.{Node, expressionNode, commandNode, headOf, kindOf, contentOf}
 use Rattle.layout.specs.Standing.{Chain}
-use Rattle.layout.proofs.Nodes.{Inside, Opened, with-levels, one-part, node-inside}
+use Rattle.layout.proofs.Nodes as nodes
+use Rattle.layout.proofs.Nodes.{Opened, with-levels, one-part, node-inside}
+use Rattle.ends.specs.Ends.{EndsOf}
 use Rattle.words.specs.Decode.{arithmeticOf, booleanOf, arrayOf, commandOf}
 use Rattle.words.specs.Meaning.{operatorMeant, comparisonMeant}
 use Rattle.words.specs.declared.ArithmeticWord.{ArithmeticWord}
@@ -37,10 +41,18 @@ use Rattle.words.specs.declared.CommandWord.{CommandWord}
 use Rattle.words.specs.declared.CommandWord.the-variants as command
 use Rattle.words.specs.declared.CommandWord.the-variants.{Skip, Sequence, Assert, AssignScalar, AssignArray, If, While}
 use Rattle.words.specs.declared.CommandWord.the-variants.{For}
-use Rattle.heads.specs.Stands.{arithmeticAt, booleanAt, arrayAt, commandAt, PartAt, ExpressionStands, CommandStands}
+use Rattle.heads.specs.Stands.{arithmeticAt, booleanAt, arrayAt, commandAt, Allowed, Loaded, PartAt}
+use Rattle.heads.specs.Stands.{ExpressionStands, CommandStands}
 use Rattle.heads.proofs.Decoded.{operatorHead, comparisonHead, arithmeticHead, booleanHead, arrayHead}
 use Rattle.heads.proofs.Decoded.{commandHead}
 use Rattle.heads.proofs.Decoded.{arithmetic-decoded, boolean-decoded, array-decoded, command-decoded}
+
+pub record Inside (file w ends : List ℕ) (at p : ℕ) : Type 0 where
+  pub start : at < p
+  pub in-file : p ≤ length file
+  pub small : p ≤ 8192
+  pub within : p ≤ length w
+  pub listed : p ≤ length ends
 
 abbrev pub arithmeticPart : Expr syntax.Arithmetic → Part
 arithmeticPart e = expressionPart e
@@ -51,12 +63,12 @@ booleanPart e = expressionPart e
 abbrev pub arrayPart : Expr syntax.Array → Part
 arrayPart e = expressionPart e
 
-module _ (file : List ℕ) where
+module _ (w ends : List ℕ) where
   module _ {A X : Type 0} (f : X → Part) (make : X → A) where
     pub record One (e : A) (at p : ℕ) : Type 0 where
       pub first : X
       pub is : e ≡ make first
-      pub first-at : PartAt file (f first) at p
+      pub first-at : PartAt w ends (f first) at p
 
   module _ {A X Y : Type 0} (f : X → Part) (g : Y → Part) (make : X → Y → A) where
     pub record Two (e : A) (at p : ℕ) : Type 0 where
@@ -64,8 +76,8 @@ module _ (file : List ℕ) where
       pub second : Y
       pub middle : ℕ
       pub is : e ≡ make first second
-      pub first-at : PartAt file (f first) at middle
-      pub second-at : PartAt file (g second) middle p
+      pub first-at : PartAt w ends (f first) at middle
+      pub second-at : PartAt w ends (g second) middle p
 
   module _ {A X Y Z : Type 0} (f : X → Part) (g : Y → Part) (h : Z → Part) (make : X → Y → Z → A) where
     pub record Three (e : A) (at p : ℕ) : Type 0 where
@@ -75,9 +87,9 @@ module _ (file : List ℕ) where
       pub middle : ℕ
       pub last : ℕ
       pub is : e ≡ make first second third
-      pub first-at : PartAt file (f first) at middle
-      pub second-at : PartAt file (g second) middle last
-      pub third-at : PartAt file (h third) last p
+      pub first-at : PartAt w ends (f first) at middle
+      pub second-at : PartAt w ends (g second) middle last
+      pub third-at : PartAt w ends (h third) last p
 
   abbrev pub ArithmeticParts : ArithmeticWord → Expr syntax.Arithmetic → ℕ → ℕ → Type 0
   ArithmeticParts (Constant z) e at p = e ≡ constant z
@@ -121,54 +133,69 @@ comparison-meant equal = refl
 comparison-meant less = refl
 comparison-meant atMost = refl
 
-module _ {file : List ℕ} where
-  pub expression-inside : {k : Sort} (e : Expr k) {at p : ℕ} → PartAt file (expressionPart e) at p → Inside file at p
-  expression-inside e s = node-inside (expressionNode e) (s .stands)
+module _ {w ends : List ℕ} where
+  inside : {x : Part} {at p : ℕ} (s : PartAt w ends x at p) → nodes.Inside (s .file) at p → Inside (s .file) w ends at p
+  inside s i = record {
+    start = i .start;
+    in-file = i .within;
+    small = omega (arith, i .within, s .loaded .size);
+    within = omega (arith, i .within, s .loaded .short);
+    listed = omega (arith, i .within, s .ends-of .long);
+  }
 
-  pub command-inside : (c : syntax.Command) {at p : ℕ} → PartAt file (commandPart c) at p → Inside file at p
-  command-inside c s = node-inside (commandNode c) (s .stands)
+  pub expression-inside : {k : Sort} (e : Expr k) {at p : ℕ} (s : PartAt w ends (expressionPart e) at p) →
+      Inside (s .file) w ends at p
+  expression-inside e s = inside s (node-inside (expressionNode e) (s .stands))
 
+  pub command-inside : (c : syntax.Command) {at p : ℕ} (s : PartAt w ends (commandPart c) at p) →
+      Inside (s .file) w ends at p
+  command-inside c s = inside s (node-inside (commandNode c) (s .stands))
+
+-- the parts of what stands in a file
+module _ {file w ends : List ℕ} (l : Loaded file w) (n : EndsOf file ends) where
   -- so many parts, with d levels left
   one : {A X : Type 0} {f : X → Part} {make : X → A} {e : A} (d : ℕ) (a : X) {at p : ℕ} → e ≡ make a →
-      Chain file (f a ∷ []) d at p → One file f make e at p
-  one d a h c = record { first = a; is = h; first-at = record { levels = d; stands = one-part c } }
+      Chain file (f a ∷ []) d at p → One w ends f make e at p
+  one d a h c = record {
+    first = a;
+    is = h;
+    first-at = record { file = file; loaded = l; ends-of = n; levels = d; stands = one-part c };
+  }
 
   two : {A X Y : Type 0} {f : X → Part} {g : Y → Part} {make : X → Y → A} {e : A} (d : ℕ) (a : X) (b : Y) {at p : ℕ} →
-      e ≡ make a b → Chain file (f a ∷ g b ∷ []) d at p → Two file f g make e at p
-  two d a b h c =
-      record {
-        first = a;
-        second = b;
-        middle = c .0;
-        is = h;
-        first-at = record { levels = d; stands = c .1 };
-        second-at = record { levels = d; stands = one-part (c .2) };
-      }
+      e ≡ make a b → Chain file (f a ∷ g b ∷ []) d at p → Two w ends f g make e at p
+  two d a b h c = record {
+    first = a;
+    second = b;
+    middle = c .0;
+    is = h;
+    first-at = record { file = file; loaded = l; ends-of = n; levels = d; stands = c .1 };
+    second-at = record { file = file; loaded = l; ends-of = n; levels = d; stands = one-part (c .2) };
+  }
 
   three : {A X Y Z : Type 0} {f : X → Part} {g : Y → Part} {h : Z → Part} {make : X → Y → Z → A} {e : A} (d : ℕ) (a : X)
-      (b : Y) (i : Z) {at p : ℕ} → e ≡ make a b i → Chain file (f a ∷ g b ∷ h i ∷ []) d at p → Three file f g h make e at p
-  three d a b i k c =
-      record {
-        first = a;
-        second = b;
-        third = i;
-        middle = c .0;
-        last = c .2 .0;
-        is = k;
-        first-at = record { levels = d; stands = c .1 };
-        second-at = record { levels = d; stands = c .2 .1 };
-        third-at = record { levels = d; stands = one-part (c .2 .2) };
-      }
+      (b : Y) (i : Z) {at p : ℕ} → e ≡ make a b i → Chain file (f a ∷ g b ∷ h i ∷ []) d at p → Three w ends f g h make e at p
+  three d a b i k c = record {
+    first = a;
+    second = b;
+    third = i;
+    middle = c .0;
+    last = c .2 .0;
+    is = k;
+    first-at = record { file = file; loaded = l; ends-of = n; levels = d; stands = c .1 };
+    second-at = record { file = file; loaded = l; ends-of = n; levels = d; stands = c .2 .1 };
+    third-at = record { file = file; loaded = l; ends-of = n; levels = d; stands = one-part (c .2 .2) };
+  }
 
   arithmetic-own : (d : ℕ) (e : Expr syntax.Arithmetic) {at p : ℕ} → Opened file (expressionNode e) d at p →
-      ArithmeticParts file (arithmeticHead e) e at p
+      ArithmeticParts w ends (arithmeticHead e) e at p
   arithmetic-own d (constant z) o = refl
   arithmetic-own d (scalar x) o = (refl, omega (arith, o .in-range .0))
   arithmetic-own d (operation i a b) o = two d a b (ap (λ j. operation j a b) (sym (operator-meant i))) (o .parts-at)
   arithmetic-own d (select h i) o = two d h i refl (o .parts-at)
 
   boolean-own : (d : ℕ) (e : Expr syntax.Boolean) {at p : ℕ} → Opened file (expressionNode e) d at p →
-      BooleanParts file (booleanHead e) e at p
+      BooleanParts w ends (booleanHead e) e at p
   boolean-own d (compare r a b) o = two d a b (ap (λ j. compare j a b) (sym (comparison-meant r))) (o .parts-at)
   boolean-own d (truth t) o = refl
   boolean-own d (and b c) o = two d b c refl (o .parts-at)
@@ -176,13 +203,13 @@ module _ {file : List ℕ} where
   boolean-own d (neg b) o = one d b refl (o .parts-at)
 
   array-own : (d : ℕ) (e : Expr syntax.Array) {at p : ℕ} → Opened file (expressionNode e) d at p →
-      ArrayParts file (arrayHead e) e at p
+      ArrayParts w ends (arrayHead e) e at p
   array-own d (array a) o = (refl, omega (arith, o .in-range .0))
   array-own d zeros o = refl
   array-own d (update h i a) o = three d h i a refl (o .parts-at)
 
   command-own : (d : ℕ) (c : syntax.Command) {at p : ℕ} → Opened file (commandNode c) d at p →
-      CommandParts file (commandHead c) c at p
+      CommandParts w ends (commandHead c) c at p
   command-own d skip o = refl
   command-own d (sequence a b) o = two d a b refl (o .parts-at)
   command-own d (assert b) o = one d b refl (o .parts-at)
@@ -192,54 +219,72 @@ module _ {file : List ℕ} where
   command-own d (while b c) o = two d b c refl (o .parts-at)
   command-own d (for q m c) o = (one d c refl (o .parts-at), o .in-range)
 
-  -- by the word that stands there: w is the node's own
-  by-word : {W : Type 0} (of : ℕ → ℕ → W) {x : Node} {d at p : ℕ} {w h : W} (P : W → Type 0) → Opened file x d at p →
-      of (kindOf (headOf x)) (contentOf (headOf x)) ≡ w → of (kindAt file at) (payloadAt file at) ≡ h → P w → P h
-  by-word of P o e eq y = subst P (sym e ∙ sym (ap₂ of (o .kind) (o .content)) ∙ eq) y
+-- by the word that stands in the room, which is the file's: v is the node's own
+module _ {w ends : List ℕ} where
+  by-word : {W : Type 0} (of : ℕ → ℕ → W) {x : Node} {y : Part} {d at p : ℕ} {v h : W} (P : W → Type 0) (s : PartAt w ends y at p) →
+      Inside (s .file) w ends at p → Opened (s .file) x d at p → of (kindOf (headOf x)) (contentOf (headOf x)) ≡ v →
+      of (kindAt w at) (payloadAt w at) ≡ h → P v → P h
+  by-word of {at = at} P s i o e eq y =
+      let first = ap (λ z. of (z / payloads) (z % payloads)) (s .loaded .same at (omega arith)) in
+      subst P (sym e ∙ sym (ap₂ of (o .kind) (o .content)) ∙ sym first ∙ eq) y
 
   pub arithmetic-parts : (e : Expr syntax.Arithmetic) {at p : ℕ} {h : ArithmeticWord} →
-      PartAt file (expressionPart e) at p → arithmeticAt file at ≡ h → ArithmeticParts file h e at p
+      PartAt w ends (expressionPart e) at p → arithmeticAt w at ≡ h → ArithmeticParts w ends h e at p
   arithmetic-parts e {at} {p} s eq =
       with-levels (expressionNode e) (s .levels) (s .stands) λ n l o.
-      by-word arithmeticOf (λ h. ArithmeticParts file h e at p) o (arithmetic-decoded e (o .in-range)) eq (arithmetic-own n e o)
+      by-word arithmeticOf (λ h. ArithmeticParts w ends h e at p) s (expression-inside e s) o (arithmetic-decoded e (o .in-range)) eq
+      (arithmetic-own (s .loaded) (s .ends-of) n e o)
 
   pub boolean-parts : (e : Expr syntax.Boolean) {at p : ℕ} {h : BooleanWord} →
-      PartAt file (expressionPart e) at p → booleanAt file at ≡ h → BooleanParts file h e at p
+      PartAt w ends (expressionPart e) at p → booleanAt w at ≡ h → BooleanParts w ends h e at p
   boolean-parts e {at} {p} s eq =
       with-levels (expressionNode e) (s .levels) (s .stands) λ n l o.
-      by-word booleanOf (λ h. BooleanParts file h e at p) o (boolean-decoded e) eq (boolean-own n e o)
+      by-word booleanOf (λ h. BooleanParts w ends h e at p) s (expression-inside e s) o (boolean-decoded e) eq
+      (boolean-own (s .loaded) (s .ends-of) n e o)
 
   pub array-parts : (e : Expr syntax.Array) {at p : ℕ} {h : ArrayWord} →
-      PartAt file (expressionPart e) at p → arrayAt file at ≡ h → ArrayParts file h e at p
+      PartAt w ends (expressionPart e) at p → arrayAt w at ≡ h → ArrayParts w ends h e at p
   array-parts e {at} {p} s eq =
       with-levels (expressionNode e) (s .levels) (s .stands) λ n l o.
-      by-word arrayOf (λ h. ArrayParts file h e at p) o (array-decoded e (o .in-range)) eq (array-own n e o)
+      by-word arrayOf (λ h. ArrayParts w ends h e at p) s (expression-inside e s) o (array-decoded e (o .in-range)) eq
+      (array-own (s .loaded) (s .ends-of) n e o)
 
   pub command-parts : (c : syntax.Command) {at p : ℕ} {h : CommandWord} →
-      PartAt file (commandPart c) at p → commandAt file at ≡ h → CommandParts file h c at p
+      PartAt w ends (commandPart c) at p → commandAt w at ≡ h → CommandParts w ends h c at p
   command-parts c {at} {p} s eq =
       with-levels (commandNode c) (s .levels) (s .stands) λ n l o.
-      by-word commandOf (λ h. CommandParts file h c at p) o (command-decoded c (o .in-range)) eq (command-own n c o)
+      by-word commandOf (λ h. CommandParts w ends h c at p) s (command-inside c s) o (command-decoded c (o .in-range)) eq
+      (command-own (s .loaded) (s .ends-of) n c o)
 
-module _ {file : List ℕ} {at : ℕ} where
-  pub expression-starts : {k : Sort} → ExpressionStands file k at → at < length file
-  expression-starts x = let i = expression-inside (x .tree) (x .there) in omega arith
+  module _ {at : ℕ} where
+    pub expression-starts : {k : Sort} → ExpressionStands w ends k at → at < length w
+    expression-starts x = let i = expression-inside (x .tree) (x .there) in omega arith
 
-  pub command-starts : CommandStands file at → at < length file
-  command-starts x = let i = command-inside (x .tree) (x .there) in omega arith
+    pub expression-early : {k : Sort} → ExpressionStands w ends k at → at < 8192
+    expression-early x = let i = expression-inside (x .tree) (x .there) in omega arith
 
--- a word that is allowed is settled by its kind: b is the test of its payload, o what the word is where the test fails
-settled : {A : Type 0} (of : ℕ → ℕ → A) {k p : ℕ} (n : ℕ) (b : Bool) {w o : A} → k ≡ n → of n p ≡ cond b w o →
-    (of k p ≡ o → ⊥) → w ≡ of k p
-settled of {k} {p} n true e f h = sym f ∙ ap (λ x. of x p) (sym e)
-settled of {k} {p} n false e f h = absurd (h (ap (λ x. of x p) e ∙ f))
+    pub command-starts : CommandStands w ends at → at < length w
+    command-starts x = let i = command-inside (x .tree) (x .there) in omega arith
 
--- as the code has them: k is the kind that it found
-module _ {file : List ℕ} {at k : ℕ} (found : k ≡ kindAt file at) (n : ℕ) (is : k ≡ n) (b : Bool) where
-  pub boolean-settled : (w : BooleanWord) → ExpressionStands file syntax.Boolean at →
-      booleanOf n (payloadAt file at) ≡ cond b w boolean.Other → w ≡ booleanAt file at
-  boolean-settled w x f = settled booleanOf n b (sym found ∙ is) f λ e. boolean-parts (x .tree) (x .there) e
+    pub command-early : CommandStands w ends at → at < 8192
+    command-early x = let i = command-inside (x .tree) (x .there) in omega arith
 
-  pub command-settled : (w : CommandWord) → CommandStands file at →
-      commandOf n (payloadAt file at) ≡ cond b w command.Other → w ≡ commandAt file at
-  command-settled w x f = settled commandOf n b (sym found ∙ is) f λ e. command-parts (x .tree) (x .there) e
+    pub arithmetic-allowed : ExpressionStands w ends syntax.Arithmetic at → Allowed arithmeticOf arithmetic.Other w at
+    arithmetic-allowed x =
+        record { inside = expression-starts x; of-group = λ e. arithmetic-parts (x .tree) (x .there) e }
+
+    pub boolean-allowed : ExpressionStands w ends syntax.Boolean at → Allowed booleanOf boolean.Other w at
+    boolean-allowed x = record { inside = expression-starts x; of-group = λ e. boolean-parts (x .tree) (x .there) e }
+
+    pub command-allowed : CommandStands w ends at → Allowed commandOf command.Other w at
+    command-allowed x = record { inside = command-starts x; of-group = λ e. command-parts (x .tree) (x .there) e }
+
+by-test : {A : Type 0} (of : ℕ → ℕ → A) {k p : ℕ} (n : ℕ) (b : Bool) {v o : A} → k ≡ n → of n p ≡ cond b v o →
+    (of k p ≡ o → ⊥) → v ≡ of k p
+by-test of {k} {p} n true e f h = sym f ∙ ap (λ x. of x p) (sym e)
+by-test of {k} {p} n false e f h = absurd (h (ap (λ x. of x p) e ∙ f))
+
+-- a word of a group is settled by its kind n, which the code found: b is the test of its payload
+pub settled : {A : Type 0} {of : ℕ → ℕ → A} {o : A} {w : List ℕ} {at k : ℕ} → Allowed of o w at → k ≡ kindAt w at → (n : ℕ) → k ≡ n →
+    (b : Bool) (v : A) → of n (payloadAt w at) ≡ cond b v o → v ≡ of (kindAt w at) (payloadAt w at)
+settled {of = of} x found n is b v f = by-test of n b (sym found ∙ is) f (x .of-group)

@@ -1,16 +1,21 @@
--- What stands at a place of a file, with however many levels left, and the word there, by group.
+-- What stands at a place of a file that was read into a room, with however many levels left, and the word there, by group.
 -- Working: `can-run-file` of runner/proofs/Files says that the command of a file stands so at place 1, `command-parts`,
 -- `arithmetic-parts`, `boolean-parts` and `array-parts` of proofs/Parts that its parts do. Assumes nothing.
 --     arithmeticAt, booleanAt, arrayAt, commandAt
 --                                        the word at a place, decoded by its group
---     PartAt                             a part stands from a place up to another
+--     Allowed                            the word at a place is of a group
+--     Loaded                             the words of a file stand in front of a room
+--     PartAt                             a part of such a file, whose ends are known, stands from a place up to another
 --     ExpressionStands, CommandStands    an expression of a sort, a command stands at a place
+use mathlib.Core.Path.{_≡_}
 use mathlib.Core.List.{List}
-use Prim.Native.Nat.{ℕ}
+use Prim.Native.Nat.{ℕ, _<_, _≤_}
+use lib.ListN.{length, getD}
 use Rattle.language.specs.Syntax.{Sort, Expr, Command}
 use Rattle.layout.specs.Bytes.{kindAt, payloadAt}
 use Rattle.layout.specs.EvidenceWords.{Part, expressionPart, commandPart}
 use Rattle.layout.specs.Standing.{PartStands}
+use Rattle.ends.specs.Ends.{EndsOf}
 use Rattle.words.specs.Decode.{arithmeticOf, booleanOf, arrayOf, commandOf}
 use Rattle.words.specs.declared.ArithmeticWord.{ArithmeticWord}
 use Rattle.words.specs.declared.BooleanWord.{BooleanWord}
@@ -29,16 +34,29 @@ arrayAt file at = arrayOf (kindAt file at) (payloadAt file at)
 abbrev pub commandAt : List ℕ → ℕ → CommandWord
 commandAt file at = commandOf (kindAt file at) (payloadAt file at)
 
-pub record PartAt (file : List ℕ) (x : Part) (at p : ℕ) : Type 0 where
+-- `of` decodes a word, which is `other` if it is not of the group
+pub record Allowed {A : Type 0} (of : ℕ → ℕ → A) (other : A) (w : List ℕ) (at : ℕ) : Type 0 where
+  pub inside : at < length w
+  pub of-group : of (kindAt w at) (payloadAt w at) ≡ other → ⊥
+
+pub record Loaded (file w : List ℕ) : Type 0 where
+  pub size : length file ≤ 8192
+  pub short : length file ≤ length w
+  pub same : (i : ℕ) → i < length file → getD w i 0 ≡ getD file i 0
+
+pub record PartAt (w ends : List ℕ) (x : Part) (at p : ℕ) : Type 0 where
+  pub file : List ℕ
+  pub loaded : Loaded file w
+  pub ends-of : EndsOf file ends
   pub levels : ℕ
   pub stands : PartStands file x levels at p
 
-pub record ExpressionStands (file : List ℕ) (k : Sort) (at : ℕ) : Type 0 where
+pub record ExpressionStands (w ends : List ℕ) (k : Sort) (at : ℕ) : Type 0 where
   pub tree : Expr k
   pub past : ℕ
-  pub there : PartAt file (expressionPart tree) at past
+  pub there : PartAt w ends (expressionPart tree) at past
 
-pub record CommandStands (file : List ℕ) (at : ℕ) : Type 0 where
+pub record CommandStands (w ends : List ℕ) (at : ℕ) : Type 0 where
   pub tree : Command
   pub past : ℕ
-  pub there : PartAt file (commandPart tree) at past
+  pub there : PartAt w ends (commandPart tree) at past

@@ -4,17 +4,22 @@ use words::ArrayWord;
 use words::BooleanWord;
 use words::CommandWord;
 use words::Comparison;
-use words::decode::arithmetic_word;
+use words::Operator;
 use words::decode::array_word;
 use words::decode::kind;
 use words::decode::payload;
+use words::decode::signed;
 use words::kinds::AND;
 use words::kinds::ASSERT;
 use words::kinds::COMPARISON;
+use words::kinds::CONSTANT;
 use words::kinds::FOR;
 use words::kinds::IF;
 use words::kinds::NOT;
+use words::kinds::OPERATOR;
 use words::kinds::OR;
+use words::kinds::SCALAR;
+use words::kinds::SELECT;
 use words::kinds::SEQUENCE;
 use words::kinds::SKIP;
 use words::kinds::TO_ARRAY;
@@ -24,20 +29,34 @@ use words::kinds::WHILE;
 ghost use mathlib.Core.Path.{_≡_};
 ghost use Prim.Native.Nat.{_<_};
 ghost use lib.ListN.{length};
-ghost use Rattle.language.specs.Syntax as syntax;
-ghost use Rattle.heads.specs.Stands.{arithmeticAt, booleanAt, arrayAt, commandAt, ExpressionStands, CommandStands};
+ghost use Rattle.words.specs.Decode.{arithmeticOf, booleanOf, commandOf};
+ghost use Rattle.heads.specs.Stands.{arithmeticAt, booleanAt, arrayAt, commandAt, Allowed};
 
+// The word is allowed, so its kind settles the form: but for an operator's, no payload is tested.
 pub fn arithmetic_head(w: &[u32], at: usize) -> ArithmeticWord
-    requires { ⌜ «at» < length (now w) ⌝ }
+    requires { ⌜ Allowed arithmeticOf ArithmeticWord.Other (now w) «at» ⌝ }
     ensures { λ r. ⌜ r ≡ arithmeticAt (now (w .entry)) «at» ⌝ }
 {
     let word = w[at];
-    arithmetic_word(kind(word), payload(word))
+    let k = kind(word);
+    let p = payload(word);
+    match k {
+        CONSTANT => ArithmeticWord::Constant(signed(p)),
+        SCALAR => ArithmeticWord::Scalar(p),
+        OPERATOR => match p {
+            0 => ArithmeticWord::Operation(Operator::Plus),
+            1 => ArithmeticWord::Operation(Operator::Minus),
+            2 => ArithmeticWord::Operation(Operator::Times),
+            _ => ArithmeticWord::Other,
+        },
+        SELECT => ArithmeticWord::Select,
+        _ => ArithmeticWord::Other,
+    }
 }
 
-// The word is allowed, so its kind settles the form: no payload is tested.
+// As for arithmetic.
 pub fn boolean_head(w: &[u32], at: usize) -> BooleanWord
-    requires { ⌜ ExpressionStands (now w) syntax.Boolean «at» ⌝ }
+    requires { ⌜ Allowed booleanOf BooleanWord.Other (now w) «at» ⌝ }
     ensures { λ r. ⌜ r ≡ booleanAt (now (w .entry)) «at» ⌝ }
 {
     let word = w[at];
@@ -68,9 +87,9 @@ pub fn array_head(w: &[u32], at: usize) -> ArrayWord
     array_word(kind(word), payload(word))
 }
 
-// As for booleans.
+// As for arithmetic.
 pub fn command_head(w: &[u32], at: usize) -> CommandWord
-    requires { ⌜ CommandStands (now w) «at» ⌝ }
+    requires { ⌜ Allowed commandOf CommandWord.Other (now w) «at» ⌝ }
     ensures { λ r. ⌜ r ≡ commandAt (now (w .entry)) «at» ⌝ }
 {
     let word = w[at];

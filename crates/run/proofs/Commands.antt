@@ -3,13 +3,16 @@
 --     skip-runs, assert-runs, scalar-runs, array-runs, while-runs     simple commands, and a while by its turns
 --     for-ended, for-stopped, sequence-ended, sequence-stopped        the others
 --     then-runs, else-runs, if-stopped
---     turn-then, turn-else, turn-stopped, pass-runs                   a turn, and its body
---     while-tests, for-tests, increment-.., pass-..                   the parts of a turn
---     both-read, next-count                                           scalars, as the code holds them
+--     turn-pass, turn-else, turn-stopped, pass-runs                   a turn, and its body
+--     while-tests, for-tests, incremented, pass-..                    the parts of a turn
+--     both-read                                                       scalars, as the code holds them
 use mathlib.Core.Path.{_≡_, refl, sym, ap, ap₂, _∙_}
-use mathlib.Core.Bool.{Bool, true, false}
+use mathlib.Core.Bool.{Bool, true, false, cond}
 use mathlib.Core.List.{List}
-use Prim.Native.Nat.{ℕ, _+_, _*_}
+use Prim.Native.Nat.{ℕ, zero, suc, _+_, _*_}
+use native.Mathlib.Omega.{arith}
+use borrow.Author.Tests.{eqb-true, eqb-false}
+use lib.Dec.{eqb}
 use lib.IntN.{ℤ, pos, _+ℤ_}
 use lib.Signed.{leZ}
 use lib.ListN.{length, getD, set}
@@ -17,331 +20,378 @@ use lib.Seq.{paste}
 use mir.Syntax.{w64}
 use mir.Val.{SFits, toZ, ofZ}
 use Rattle.language.specs.Syntax as syntax
-use Rattle.language.specs.Runs.{increment}
+use Rattle.language.specs.Runs.{start, increment}
 use Rattle.rules.specs.Words.{words, commandWords}
 use Rattle.layout.specs.EvidenceWords.{expressionPart, commandPart}
 use Rattle.execution.specs.Lent.{Lent, lent, storeOf, elements}
-use Rattle.execution.specs.Evaluate.{Outcome, worked, onWorked, evaluate}
+use Rattle.execution.specs.Evaluate.{worked, onWorked, evaluate}
 use Rattle.execution.specs.Run as definition
 use Rattle.execution.specs.Run.{ended, stopped, onEnded, step, assigns, turns, run}
-use Rattle.ends.specs.Ends.{EndsOf}
 use Rattle.words.specs.declared.CommandWord.the-variants.{Skip, Sequence, Assert, AssignScalar, AssignArray, If, While}
 use Rattle.words.specs.declared.CommandWord.the-variants.{For}
-use Rattle.heads.specs.Stands.{commandAt}
+use Rattle.heads.specs.Stands.{commandAt, PartAt}
 use Rattle.heads.proofs.Parts.{command-parts}
-use Rattle.arithmetic.specs.Worked.{outcome, checked}
+use Rattle.arithmetic.specs.Worked.{checked}
 use Rattle.arithmetic.proofs.Signed.{back, held-two}
-use Rattle.arithmetic.specs.declared.Worked.{Worked}
-use Rattle.evaluate.specs.Evaluated.{testOutcome, fillOutcome, Evaluates, Tests, Fills}
-use Rattle.evaluate.specs.declared.Tested.{Tested}
-use Rattle.evaluate.specs.declared.Tested.the-variants as Tested
-use Rattle.evaluate.specs.declared.Filled.{Filled}
+use Rattle.evaluate.specs.Evaluated.{number, answer, Answered, Evaluates, Fills}
+use Rattle.evaluate.proofs.Answers.{answered, answered-as}
 use Rattle.evaluate.proofs.Places.{end-is}
-use Rattle.run.specs.Steps.{endAt, passed, asserted, chosen, StoresScalar, StoresArray}
+use Rattle.evaluate.proofs.Results.{after-both}
+use Rattle.run.specs.Steps.{stepsLeft, stopPlace, endBy, endAt, Stepped, step-none, step-one, step-held}
+use Rattle.run.specs.Steps.{Asserts, StoresScalar, StoresArray}
 use Rattle.run.specs.Places.{RunsAs}
-use Rattle.run.specs.Turns.{loopWord, loopTest, loopBody, bodyPlace, goOn, turnBy, afterBody}
+use Rattle.run.specs.Turns.{loopWord, loopTest, loopBody, bodyPlace, turnedAt, goOn, turnBy, afterBody}
+use Rattle.run.specs.Turns.{over}
 use Rattle.run.specs.Turns.{TestsLoop, Increments, EndsPass, TurnsAs, TurnAs, PassAs}
-use Rattle.run.specs.declared.End.{End}
-use Rattle.run.specs.declared.End.the-variants.{Ended, Stopped}
-use Rattle.run.specs.declared.Choice.{Choice}
-use Rattle.run.specs.declared.Choice.the-variants as Choice
-use Rattle.run.specs.declared.Turn.{Turn}
-use Rattle.run.specs.declared.Turn.the-variants as Turn
 use Rattle.run.specs.declared.Loop.{Loop}
 use Rattle.run.specs.declared.Loop.the-variants.{Test, Count}
-use Rattle.run.proofs.Steps.{passed-is, asserted-is, step-then, step-else, step-stopped}
-use Rattle.evaluate.proofs.Results.{after-both}
+use Rattle.run.proofs.Steps.{running, step-taken, step-refused, stepped-skip, given-step, left-kept, due}
+use Rattle.run.proofs.Steps.{ended-on, stopped-on}
 use Rattle.run.proofs.Bodies.{command-end-is, part-end, placed}
 
 ended-same : (e : definition.End) → onEnded e (λ n m. ended n m) ≡ e
 ended-same (ended n m) = refl
 ended-same (stopped k p n m) = refl
 
-module _ {file : List ℕ} {at n : ℕ} where
-  module _ {m : Lent} where
-    pub skip-runs : commandAt file at ≡ Skip → {r : End} → r ≡ passed at n → RunsAs file at m n r m
-    unfolding run
-    skip-runs h e = record {
-      is = λ c p s.
-          ap (λ x. endAt x m) e ∙ passed-is at n m ∙ sym (ap (λ x. run x at n m) (command-parts c s h));
-    }
+never-true : {A : Type 0} → false ≡ true → A
+never-true e = let z : _≡_ {A = ℕ} 0 1 = ap (λ t. cond t 1 0) e in absurd (omega arith)
 
-  module _ {ss vs : List ℤ} where
-    pub assert-runs : commandAt file at ≡ Assert → {t : Tested} {r : End} →
-        Tests file ss vs (at + 1) t →
-        r ≡ asserted at n (testOutcome t) → RunsAs file at (lent ss vs) n r (lent ss vs)
-    unfolding run
-    assert-runs h f e = record {
-      is = λ c p s.
-          let t = command-parts c s h in
-          let m = lent ss vs in
-          ap (λ x. endAt x m) (e ∙ ap (asserted at n) (f .is (t .first) p (t .first-at)))
-          ∙ asserted-is at n (evaluate (t .first) (storeOf m)) m ∙ sym (ap (λ x. run x at n m) (t .is));
-    }
+-- ---- a turn, by its step
+module _ (at : ℕ) (m : Lent) (body : ℕ → Lent → definition.End) where
+  held-turn : (v : Bool) (n k : ℕ) → (n ≡ 0 → ⊥) → (k ≡ 0 → ⊥) → over (endBy k at n m) ≡ turnBy at n (answer v k) m body
+  held-turn v zero k g h = absurd (g refl)
+  held-turn v (suc n) zero g h = absurd (h refl)
+  held-turn v (suc n) (suc k) g h = refl
 
-    pub scalar-runs : {x : ℕ} → commandAt file at ≡ AssignScalar x →
-        {v : Worked} {r : End} {after : List ℤ} →
-        Evaluates file ss vs (at + 1) v → StoresScalar ss x (outcome v) at n r after →
-        RunsAs file at (lent ss vs) n r (lent after vs)
-    unfolding run
-    scalar-runs {x} h f g = record {
-      is = λ c p s.
-          let t = command-parts c s h .0 in
-          g .is vs
-          ∙ ap (λ o. step at n (lent ss vs) (onWorked o λ z. worked (lent (set ss x z) vs)) λ m l. ended l m)
-          (f .is (t .first) p (t .first-at))
-          ∙ sym (ap (λ y. run y at n (lent ss vs)) (t .is));
-    }
+  turn-stops : (v : Bool) {s s′ : List ℕ} → Stepped at s s′ false →
+      over (endAt s′ m) ≡ turnBy at (stepsLeft s) (answer v (number s)) m body
+  turn-stops v {s} {s′} (step-none e k p n) =
+      ap (λ k. over (endBy k (stopPlace s′) (stepsLeft s′) m)) k ∙ ap₂ (λ p n. over (endBy 13 p n m)) p n
+      ∙ ap (λ n. turnBy at n (answer v (number s)) m body) (sym e)
+  turn-stops v {s} {s′} (step-held g h k p n) =
+      ap (λ k. over (endBy k (stopPlace s′) (stepsLeft s′) m)) k ∙ ap₂ (λ p n. over (endBy (number s) p n m)) p n
+      ∙ held-turn v (stepsLeft s) (number s) g h
 
-    pub array-runs : {a : ℕ} → commandAt file at ≡ AssignArray a →
-        {v : Filled} {l : List ℤ} {r : End}
-        {after : List ℤ} → Fills file ss vs (at + 1) v l → StoresArray vs a (fillOutcome v l) at n r after →
-        RunsAs file at (lent ss vs) n r (lent ss after)
-    unfolding run
-    array-runs {a} h f g = record {
-      is = λ c p s.
-          let t = command-parts c s h .0 in
-          g .is ss
-          ∙ ap (λ o. step at n (lent ss vs) (onWorked o λ l. worked (lent ss (paste vs (64 * a) l 64))) λ m l.
-          ended l m)
-          (f .is (t .first) p (t .first-at))
-          ∙ ap (λ o. step at n (lent ss vs) o λ m l. ended l m)
-          (after-both (evaluate (t .first) (storeOf (lent ss vs))) (λ f. worked (elements f))
-          (λ l. worked (lent ss (paste vs (64 * a) l 64))))
-          ∙ sym (ap (λ y. run y at n (lent ss vs)) (t .is));
-    }
+  turn-goes : {s s′ : List ℕ} {v : Bool} → Stepped at s s′ true → v ≡ true →
+      goOn (body (stepsLeft s′) m) ≡ turnBy at (stepsLeft s) (answer v (number s)) m body
+  turn-goes {s} (step-one e h i) j =
+      sym (ap₂ (λ n k. turnBy at n (answer true k) m body) e h)
+      ∙ ap (λ v. turnBy at (stepsLeft s) (answer v (number s)) m body) (sym j)
 
-    -- the start of a `for`
-    pub for-ended : {q r : ℕ} → commandAt file at ≡ For q r →
-        {e f : End} {after : List ℤ} {k : ℕ} {m : Lent} →
-        StoresScalar ss q (worked (pos 1)) at n e after → e ≡ Ended k → TurnsAs file at (lent after vs) k f m →
-        RunsAs file at (lent ss vs) n f m
-    unfolding run evaluate
-    for-ended {q} {r} h {after = after} {k} g i f = record {
-      is = λ c p s.
-          let t = command-parts c s h .0 in
-          f .is c p s
-          ∙ ap (λ y. turns k (loopTest y) (loopBody y at) at k (lent after vs)) (t .is)
-          ∙ ap (λ y. onEnded y λ l m. turns l (loopTest (syntax.for q r (t .first)))
-          (loopBody (syntax.for q r (t .first)) at) at l m)
-          (ap (λ y. endAt y (lent after vs)) (sym i) ∙ g .is vs)
-          ∙ sym (ap (λ y. run y at n (lent ss vs)) (t .is));
-    }
+  turn-ends : {s s′ : List ℕ} {v : Bool} → Stepped at s s′ true → v ≡ false →
+      over (endAt s′ m) ≡ turnBy at (stepsLeft s) (answer v (number s)) m body
+  turn-ends {s} {s′} (step-one e h i) j =
+      ap (λ k. over (endBy k (stopPlace s′) (stepsLeft s′) m)) i
+      ∙ sym (ap₂ (λ n k. turnBy at n (answer false k) m body) e h)
+      ∙ ap (λ v. turnBy at (stepsLeft s) (answer v (number s)) m body) (sym j)
 
-    pub for-stopped : {q r : ℕ} → commandAt file at ≡ For q r →
-        {e : End} {after : List ℤ} {k z l : ℕ} →
-        StoresScalar ss q (worked (pos 1)) at n e after → e ≡ Stopped k z l →
-        RunsAs file at (lent ss vs) n (Stopped k z l) (lent after vs)
-    unfolding run evaluate
-    for-stopped {q} {r} h {after = after} g i = record {
-      is = λ c p s.
-          let t = command-parts c s h .0 in
-          ap (λ y. onEnded y λ l m. turns l (loopTest (syntax.for q r (t .first)))
-          (loopBody (syntax.for q r (t .first)) at) at l m)
-          (ap (λ y. endAt y (lent after vs)) (sym i) ∙ g .is vs)
-          ∙ sym (ap (λ y. run y at n (lent ss vs)) (t .is));
-    }
+over-still : (k p n : ℕ) (m : Lent) → (k ≡ 0 → ⊥) → over (endBy k p n m) ≡ goOn (endBy k p n m)
+over-still zero p n m h = absurd (h refl)
+over-still (suc k) p n m h = refl
 
-  pub while-runs : commandAt file at ≡ While → {m m′ : Lent} {r : End} → TurnsAs file at m n r m′ →
-      RunsAs file at m n r m′
+-- by whether a refusal is recorded
+turned : (s : List ℕ) (m : Lent) → turnedAt (eqb (number s) 0) s m ≡ goOn (endAt s m)
+turned s m = go (eqb (number s) 0) refl
+  where
+    go : (b : Bool) → eqb (number s) 0 ≡ b → turnedAt b s m ≡ goOn (endAt s m)
+    go true e = sym (ap (λ k. goOn (endBy k (stopPlace s) (stepsLeft s) m)) (eqb-true (number s) 0 e))
+    go false e = over-still (number s) (stopPlace s) (stepsLeft s) m (eqb-false (number s) 0 e)
+
+started : (at : ℕ) (s s₁ : List ℕ) {ss after : List ℤ} (vs : List ℤ) {q : ℕ} → number s ≡ 0 →
+    StoresScalar ss q (pos 1) at s s₁ after →
+    endAt s₁ (lent after vs) ≡ assigns (start q) at (stepsLeft s) (lent ss vs)
+unfolding evaluate
+started at s s₁ {ss} vs {q} z g =
+    g .is vs
+    ∙ ap (λ k. step at (stepsLeft s) (lent ss vs) (answer (pos 1) k) λ z l. ended l (lent (set ss q z) vs)) z
+    ∙ given-step at (stepsLeft s) (lent ss vs) (worked (pos 1)) (λ z. lent (set ss q z) vs)
+
+module _ {w ends : List ℕ} {at : ℕ} {s : List ℕ} where
+  pub skip-runs : {m : Lent} {s′ : List ℕ} (t : Bool) → commandAt w at ≡ Skip → number s ≡ 0 → Stepped at s s′ t →
+      RunsAs w ends at m s s′ m
   unfolding run
-  while-runs h {m} f = record {
-    is = λ c p s.
-        let t = command-parts c s h in
-        f .is c p s ∙ ap (λ y. turns n (loopTest y) (loopBody y at) at n m) (t .is)
-        ∙ sym (ap (λ y. run y at n m) (t .is));
+  skip-runs {m} t h e f = record {
+    is = λ c p x. stepped-skip t m e f ∙ sym (ap (λ y. run y at (stepsLeft s) m) (command-parts c x h));
   }
 
-  module _ {m m₁ : Lent} (h : commandAt file at ≡ Sequence) {e : End}
-      (f : RunsAs file (at + 1) m n e m₁) where
-    pub sequence-ended : {ends : List ℕ} → EndsOf file ends → {q k : ℕ} {g : End} {m₂ : Lent} → e ≡ Ended k →
-        q ≡ getD ends (at + 1) 0 → RunsAs file q m₁ k g m₂ → RunsAs file at m n g m₂
+  module _ {ss vs : List ℤ} {s₁ s₂ : List ℕ} (z : number s ≡ 0) where
+    pub assert-runs : {t : Bool} → commandAt w at ≡ Assert → Evaluates syntax.Boolean w ends ss vs (at + 1) s t s₁ →
+        Asserts s₁ t at s₂ → RunsAs w ends at (lent ss vs) s s₂ (lent ss vs)
     unfolding run
-    sequence-ended x {q} {k} i j z = record {
-      is = λ c p s.
-          let t = command-parts c s h in
-          let same : t .middle ≡ q = command-end-is (t .first) x (t .first-at) ∙ sym j in
-          let w = part-end (commandPart (t .first)) (t .first-at) in
-          z .is (t .second) p (placed (commandPart (t .second)) same (t .second-at))
-          ∙ ap (λ y. run (t .second) y k m₁) (sym same ∙ w)
-          ∙ ap (λ y. onEnded y (run (t .second) (at + 1 + length (commandWords (t .first)))))
-          (ap (λ y. endAt y m₁) (sym i) ∙ f .is (t .first) (t .middle) (t .first-at))
-          ∙ sym (ap (λ y. run y at n m) (t .is));
-    }
-
-    pub sequence-stopped : {k z l : ℕ} → e ≡ Stopped k z l → RunsAs file at m n (Stopped k z l) m₁
-    unfolding run
-    sequence-stopped i = record {
-      is = λ c p s.
-          let t = command-parts c s h in
-          ap (λ y. onEnded y (run (t .second) (at + 1 + length (commandWords (t .first)))))
-          (ap (λ y. endAt y m₁) (sym i) ∙ f .is (t .first) (t .middle) (t .first-at))
-          ∙ sym (ap (λ y. run y at n m) (t .is));
-    }
-
-  module _ {ends : List ℕ} (x : EndsOf file ends) {ss vs : List ℤ}
-      (h : commandAt file at ≡ If) {t : Tested}
-      (f : Tests file ss vs (at + 1) t) {c : Choice} (g : c ≡ chosen at n (testOutcome t)) where
-    pub then-runs : {q k : ℕ} {r : End} {m′ : Lent} → c ≡ Choice.Then k → q ≡ getD ends (at + 1) 0 →
-        RunsAs file q (lent ss vs) k r m′ → RunsAs file at (lent ss vs) n r m′
-    unfolding run
-    then-runs {q} {k} i j z = record {
-      is = λ d p s.
-          let t = command-parts d s h in
+    assert-runs {t} h f g = record {
+      is = λ c p x.
+          let y = command-parts c x h in
           let m = lent ss vs in
-          let same : t .middle ≡ q = end-is (t .first) x (t .first-at) ∙ sym j in
-          let w = part-end (expressionPart (t .first)) (t .first-at) in
-          z .is (t .second) (t .last) (placed (commandPart (t .second)) same (t .second-at))
-          ∙ ap (λ y. run (t .second) y k m) (sym same ∙ w)
-          ∙ step-then at m (λ v l. elim v [
+          let a = f .is (y .first) p (y .first-at) in
+          g .is m
+          ∙ ap (λ n. step at (stepsLeft s₁) m (answer t (number s₁)) λ v l. cond v (ended l m) (stopped 12 at n m))
+          (left-kept a)
+          ∙ due a z (λ n x. step at n m x λ v l. cond v (ended l m) (stopped 12 at (stepsLeft s) m))
+          ∙ sym (ap (λ x. run x at (stepsLeft s) m) (y .is));
+    }
+
+    pub scalar-runs : {x : ℕ} {v : ℤ} {after : List ℤ} → commandAt w at ≡ AssignScalar x →
+        Evaluates syntax.Arithmetic w ends ss vs (at + 1) s v s₁ → SFits w64 v →
+        StoresScalar ss x (toZ w64 (ofZ w64 v)) at s₁ s₂ after → RunsAs w ends at (lent ss vs) s s₂ (lent after vs)
+    unfolding run
+    scalar-runs {x} {v} h f b g = record {
+      is = λ c p i.
+          let t = command-parts c i h .0 in
+          let m = lent ss vs in
+          let to : ℤ → Lent = λ z. lent (set ss x z) vs in
+          g .is vs
+          ∙ ap (λ y. step at (stepsLeft s₁) m (answer y (number s₁)) λ z l. ended l (to z)) (back b)
+          ∙ due (f .is (t .first) p (t .first-at)) z (λ n x. step at n m x λ z l. ended l (to z))
+          ∙ given-step at (stepsLeft s) m (evaluate (t .first) (storeOf m)) to
+          ∙ sym (ap (λ y. run y at (stepsLeft s) m) (t .is));
+    }
+
+    pub array-runs : {a : ℕ} {l after : List ℤ} → commandAt w at ≡ AssignArray a →
+        Fills w ends ss vs (at + 1) s l s₁ → StoresArray vs a l at s₁ s₂ after →
+        RunsAs w ends at (lent ss vs) s s₂ (lent ss after)
+    unfolding run
+    array-runs {a} h f g = record {
+      is = λ c p i.
+          let t = command-parts c i h .0 in
+          let m = lent ss vs in
+          let o = evaluate (t .first) (storeOf m) in
+          let to : List ℤ → Lent = λ z. lent ss (paste vs (64 * a) z 64) in
+          g .is ss
+          ∙ due (f .is (t .first) p (t .first-at)) z (λ n x. step at n m x λ z l. ended l (to z))
+          ∙ given-step at (stepsLeft s) m (onWorked o λ f. worked (elements f)) to
+          ∙ ap (λ y. step at (stepsLeft s) m y λ m l. ended l m)
+          (after-both o (λ f. worked (elements f)) (λ l. worked (to l)))
+          ∙ sym (ap (λ y. run y at (stepsLeft s) m) (t .is));
+    }
+
+  -- the start of a `for`
+  module _ {ss vs after : List ℤ} {s₁ : List ℕ} (z : number s ≡ 0) {q r : ℕ} (h : commandAt w at ≡ For q r)
+      (g : StoresScalar ss q (pos 1) at s s₁ after) where
+    pub for-ended : {s₂ : List ℕ} {m : Lent} → number s₁ ≡ 0 → TurnsAs w ends at (lent after vs) s₁ s₂ m →
+        RunsAs w ends at (lent ss vs) s s₂ m
+    unfolding run
+    for-ended e f = record {
+      is = λ c p x.
+          let t = command-parts c x h .0 in
+          let go : ℕ → Lent → definition.End = λ l m. turns l (loopTest (syntax.for q r (t .first)))
+          (loopBody (syntax.for q r (t .first)) at) at l m in
+          f .is c p x
+          ∙ ap (λ y. turns (stepsLeft s₁) (loopTest y) (loopBody y at) at (stepsLeft s₁) (lent after vs)) (t .is)
+          ∙ sym (ended-on s₁ e (lent after vs) go) ∙ ap (λ y. onEnded y go) (started at s s₁ vs z g)
+          ∙ sym (ap (λ y. run y at (stepsLeft s) (lent ss vs)) (t .is));
+    }
+
+    pub for-stopped : (number s₁ ≡ 0 → ⊥) → RunsAs w ends at (lent ss vs) s s₁ (lent after vs)
+    unfolding run
+    for-stopped e = record {
+      is = λ c p x.
+          let t = command-parts c x h .0 in
+          let go : ℕ → Lent → definition.End = λ l m. turns l (loopTest (syntax.for q r (t .first)))
+          (loopBody (syntax.for q r (t .first)) at) at l m in
+          sym (stopped-on s₁ e (lent after vs) go) ∙ ap (λ y. onEnded y go) (started at s s₁ vs z g)
+          ∙ sym (ap (λ y. run y at (stepsLeft s) (lent ss vs)) (t .is));
+    }
+
+  pub while-runs : {m m′ : Lent} {s′ : List ℕ} → commandAt w at ≡ While → TurnsAs w ends at m s s′ m′ →
+      RunsAs w ends at m s s′ m′
+  unfolding run
+  while-runs {m} h f = record {
+    is = λ c p x.
+        let t = command-parts c x h in
+        f .is c p x ∙ ap (λ y. turns (stepsLeft s) (loopTest y) (loopBody y at) at (stepsLeft s) m) (t .is)
+        ∙ sym (ap (λ y. run y at (stepsLeft s) m) (t .is));
+  }
+
+  module _ {m m₁ : Lent} {s₁ : List ℕ} (h : commandAt w at ≡ Sequence) (f : RunsAs w ends (at + 1) m s s₁ m₁) where
+    pub sequence-ended : {q : ℕ} {s₂ : List ℕ} {m₂ : Lent} → number s₁ ≡ 0 → q ≡ getD ends (at + 1) 0 →
+        RunsAs w ends q m₁ s₁ s₂ m₂ → RunsAs w ends at m s s₂ m₂
+    unfolding run
+    sequence-ended {q} e j z = record {
+      is = λ c p x.
+          let t = command-parts c x h in
+          let same : t .middle ≡ q = command-end-is (t .first) (t .first-at) ∙ sym j in
+          let n = part-end (commandPart (t .first)) (t .first-at) in
+          let go = run (t .second) (at + 1 + length (commandWords (t .first))) in
+          z .is (t .second) p (placed same (t .second-at))
+          ∙ ap (λ y. run (t .second) y (stepsLeft s₁) m₁) (sym same ∙ n)
+          ∙ sym (ended-on s₁ e m₁ go) ∙ ap (λ y. onEnded y go) (f .is (t .first) (t .middle) (t .first-at))
+          ∙ sym (ap (λ y. run y at (stepsLeft s) m) (t .is));
+    }
+
+    pub sequence-stopped : (number s₁ ≡ 0 → ⊥) → RunsAs w ends at m s s₁ m₁
+    unfolding run
+    sequence-stopped e = record {
+      is = λ c p x.
+          let t = command-parts c x h in
+          let go = run (t .second) (at + 1 + length (commandWords (t .first))) in
+          sym (stopped-on s₁ e m₁ go) ∙ ap (λ y. onEnded y go) (f .is (t .first) (t .middle) (t .first-at))
+          ∙ sym (ap (λ y. run y at (stepsLeft s) m) (t .is));
+    }
+
+  module _ {ss vs : List ℤ} {s₁ s₂ : List ℕ} {v : Bool} (z : number s ≡ 0) (h : commandAt w at ≡ If)
+      (f : Evaluates syntax.Boolean w ends ss vs (at + 1) s v s₁) where
+    pub then-runs : {q : ℕ} {s₃ : List ℕ} {m′ : Lent} → Stepped at s₁ s₂ true → v ≡ true → q ≡ getD ends (at + 1) 0 →
+        RunsAs w ends q (lent ss vs) s₂ s₃ m′ → RunsAs w ends at (lent ss vs) s s₃ m′
+    unfolding run
+    then-runs {q} g e j r = record {
+      is = λ d p x.
+          let t = command-parts d x h in
+          let m = lent ss vs in
+          let same : t .middle ≡ q = end-is (t .first) (t .first-at) ∙ sym j in
+          let n = part-end (expressionPart (t .first)) (t .first-at) in
+          let go : Bool → ℕ → definition.End = λ y l. elim y [
             | true ↦ run (t .second) (at + 1 + length (words (t .first))) l m
             | false ↦ run (t .third) (at + 1 + length (words (t .first)) + length (commandWords (t .second))) l m
-          ]) n (evaluate (t .first) (storeOf m)) (sym i ∙ g
-          ∙ ap (chosen at n) (f .is (t .first) (t .middle) (t .first-at)))
-          ∙ sym (ap (λ y. run y at n m) (t .is));
+          ] in
+          r .is (t .second) (t .last) (placed same (t .second-at))
+          ∙ ap (λ y. run (t .second) y (stepsLeft s₂) m) (sym same ∙ n)
+          ∙ ap (λ y. go y (stepsLeft s₂)) (sym e)
+          ∙ step-taken at m v go g ∙ due (f .is (t .first) (t .middle) (t .first-at)) z (λ n x. step at n m x go)
+          ∙ sym (ap (λ y. run y at (stepsLeft s) m) (t .is));
     }
 
-    pub else-runs : {q o k : ℕ} {r : End} {m′ : Lent} → c ≡ Choice.Else k → q ≡ getD ends (at + 1) 0 →
-        o ≡ getD ends q 0 →
-        RunsAs file o (lent ss vs) k r m′ → RunsAs file at (lent ss vs) n r m′
+    pub else-runs : {q o : ℕ} {s₃ : List ℕ} {m′ : Lent} → Stepped at s₁ s₂ true → v ≡ false →
+        q ≡ getD ends (at + 1) 0 → o ≡ getD ends q 0 → RunsAs w ends o (lent ss vs) s₂ s₃ m′ →
+        RunsAs w ends at (lent ss vs) s s₃ m′
     unfolding run
-    else-runs {q} {o} {k} i j u z = record {
-      is = λ d p s.
-          let t = command-parts d s h in
+    else-runs {q} {o} g e j u r = record {
+      is = λ d p x.
+          let t = command-parts d x h in
           let m = lent ss vs in
-          let same : t .middle ≡ q = end-is (t .first) x (t .first-at) ∙ sym j in
+          let same : t .middle ≡ q = end-is (t .first) (t .first-at) ∙ sym j in
           let last : t .last ≡ o =
-          command-end-is (t .second) x (t .second-at) ∙ ap (λ z. getD ends z 0) same ∙ sym u in
-          let w = part-end (expressionPart (t .first)) (t .first-at) in
-          let v = part-end (commandPart (t .second)) (t .second-at) in
-          z .is (t .third) p (placed (commandPart (t .third)) last (t .third-at))
-          ∙ ap (λ y. run (t .third) y k m) (sym last ∙ v ∙ ap (λ y. y + length (commandWords (t .second))) w)
-          ∙ step-else at m (λ v l. elim v [
+          command-end-is (t .second) (t .second-at) ∙ ap (λ z. getD ends z 0) same ∙ sym u in
+          let n = part-end (expressionPart (t .first)) (t .first-at) in
+          let k = part-end (commandPart (t .second)) (t .second-at) in
+          let go : Bool → ℕ → definition.End = λ y l. elim y [
             | true ↦ run (t .second) (at + 1 + length (words (t .first))) l m
             | false ↦ run (t .third) (at + 1 + length (words (t .first)) + length (commandWords (t .second))) l m
-          ]) n (evaluate (t .first) (storeOf m)) (sym i ∙ g
-          ∙ ap (chosen at n) (f .is (t .first) (t .middle) (t .first-at)))
-          ∙ sym (ap (λ y. run y at n m) (t .is));
+          ] in
+          r .is (t .third) p (placed last (t .third-at))
+          ∙ ap (λ y. run (t .third) y (stepsLeft s₂) m)
+          (sym last ∙ k ∙ ap (λ y. y + length (commandWords (t .second))) n)
+          ∙ ap (λ y. go y (stepsLeft s₂)) (sym e)
+          ∙ step-taken at m v go g ∙ due (f .is (t .first) (t .middle) (t .first-at)) z (λ n x. step at n m x go)
+          ∙ sym (ap (λ y. run y at (stepsLeft s) m) (t .is));
     }
 
-    pub if-stopped : {k z l : ℕ} → c ≡ Choice.Stopped k z l → RunsAs file at (lent ss vs) n (Stopped k z l) (lent ss vs)
+    pub if-stopped : Stepped at s₁ s₂ false → RunsAs w ends at (lent ss vs) s s₂ (lent ss vs)
     unfolding run
-    if-stopped i = record {
-      is = λ d p s.
-          let t = command-parts d s h in
+    if-stopped g = record {
+      is = λ d p x.
+          let t = command-parts d x h in
           let m = lent ss vs in
-          step-stopped at m (λ v l. elim v [
+          let go : Bool → ℕ → definition.End = λ y l. elim y [
             | true ↦ run (t .second) (at + 1 + length (words (t .first))) l m
             | false ↦ run (t .third) (at + 1 + length (words (t .first)) + length (commandWords (t .second))) l m
-          ]) n (evaluate (t .first) (storeOf m)) (sym i ∙ g
-          ∙ ap (chosen at n) (f .is (t .first) (t .middle) (t .first-at)))
-          ∙ sym (ap (λ y. run y at n m) (t .is));
+          ] in
+          step-refused at m v go g ∙ due (f .is (t .first) (t .middle) (t .first-at)) z (λ n x. step at n m x go)
+          ∙ sym (ap (λ y. run y at (stepsLeft s) m) (t .is));
     }
 
   -- one turn, by its test
-  module _ {m : Lent} {t : Tested} (f : TestsLoop file at m t) {c : Choice} (g : c ≡ chosen at n (testOutcome t)) where
-    pub turn-then : {k : ℕ} {r : Turn} {m′ : Lent} → c ≡ Choice.Then k → PassAs file at m k r m′ →
-        TurnAs file at m n r m′
-    turn-then i z = record {
-      is = λ d p s. z .is d p s ∙ ap (λ y. turnBy y m (loopBody d at)) (sym i ∙ g
-          ∙ ap (chosen at n) (f .is d p s));
+  module _ {m : Lent} {v : Bool} {s₁ s₂ : List ℕ} (z : number s ≡ 0) (f : TestsLoop w ends at m s v s₁) where
+    pub turn-pass : {r : Bool} {s₃ : List ℕ} {m′ : Lent} → Stepped at s₁ s₂ true → v ≡ true →
+        PassAs w ends at m s₂ r s₃ m′ → TurnAs w ends at m s r s₃ m′
+    turn-pass g e r = record {
+      running = r .running;
+      is = λ d p x.
+          r .is d p x ∙ turn-goes at m (loopBody d at) g e ∙ due (f .is d p x) z (λ n o. turnBy at n o m (loopBody d at));
     }
 
-    pub turn-else : {k : ℕ} → c ≡ Choice.Else k → TurnAs file at m n (Turn.Ended k) m
-    turn-else i = record {
-      is = λ d p s. ap (λ y. turnBy y m (loopBody d at)) (sym i ∙ g
-          ∙ ap (chosen at n) (f .is d p s));
+    pub turn-else : Stepped at s₁ s₂ true → v ≡ false → TurnAs w ends at m s false s₂ m
+    turn-else g e = record {
+      running = λ i. never-true i;
+      is = λ d p x. turn-ends at m (loopBody d at) g e ∙ due (f .is d p x) z (λ n o. turnBy at n o m (loopBody d at));
     }
 
-    pub turn-stopped : {k z l : ℕ} → c ≡ Choice.Stopped k z l → TurnAs file at m n (Turn.Stopped k z l) m
-    turn-stopped i = record {
-      is = λ d p s. ap (λ y. turnBy y m (loopBody d at)) (sym i ∙ g
-          ∙ ap (chosen at n) (f .is d p s));
+    pub turn-stopped : Stepped at s₁ s₂ false → TurnAs w ends at m s false s₂ m
+    turn-stopped g = record {
+      running = λ i. never-true i;
+      is = λ d p x. turn-stops at m (loopBody d at) v g ∙ due (f .is d p x) z (λ n o. turnBy at n o m (loopBody d at));
     }
 
   -- the body of a loop, and what follows it
-  pub pass-runs : {ends : List ℕ} → EndsOf file ends → {m : Lent} (kind : Loop) →
-      commandAt file at ≡ loopWord kind → {q : ℕ} {body : End} {ss vs after : List ℤ} {r : Turn} →
-      q ≡ bodyPlace ends at kind → RunsAs file q m n body (lent ss vs) → EndsPass ss at kind body r after →
-      PassAs file at m n r (lent after vs)
-  pass-runs x {m} Test h {q} {vs = vs} j f g = record {
-    is = λ c p s.
-        let t = command-parts c s h in
-        let same : t .middle ≡ q = end-is (t .first) x (t .first-at) ∙ sym j in
-        let w = part-end (expressionPart (t .first)) (t .first-at) in
-        g .is vs
-        ∙ ap goOn (ended-same _ ∙ f .is (t .second) p (placed (commandPart (t .second)) same (t .second-at))
-        ∙ ap (λ y. run (t .second) y n m) (sym same ∙ w))
-        ∙ sym (ap (λ y. goOn (loopBody y at n m)) (t .is));
-  }
-  pass-runs x {m} (Count z o) h {q} {vs = vs} j f g = record {
-    is = λ c p s.
-        let t = command-parts c s h .0 in
-        g .is vs
-        ∙ ap (λ y. goOn (onEnded y (λ l k. assigns (increment z) at l k)))
-        (f .is (t .first) p (placed (commandPart (t .first)) (sym j) (t .first-at)) ∙ ap (λ y. run (t .first) y n m) j)
-        ∙ sym (ap (λ y. goOn (loopBody y at n m)) (t .is));
+  body-runs : {m : Lent} (kind : Loop) → commandAt w at ≡ loopWord kind → {q : ℕ} {ss vs : List ℤ} {s₁ : List ℕ} →
+      q ≡ bodyPlace ends at kind → RunsAs w ends q m s s₁ (lent ss vs) →
+      {s₂ : List ℕ} {after : List ℤ} → EndsPass ss at kind s₁ s₂ after → (c : syntax.Command) (p : ℕ) →
+      PartAt w ends (commandPart c) at p → endAt s₂ (lent after vs) ≡ loopBody c at (stepsLeft s) m
+  body-runs {m} Test h {q} {vs = vs} j f g c p x =
+      let t = command-parts c x h in
+      let same : t .middle ≡ q = end-is (t .first) (t .first-at) ∙ sym j in
+      let n = part-end (expressionPart (t .first)) (t .first-at) in
+      g .is vs ∙ ended-same _ ∙ f .is (t .second) p (placed same (t .second-at))
+      ∙ ap (λ y. run (t .second) y (stepsLeft s) m) (sym same ∙ n)
+      ∙ sym (ap (λ y. loopBody y at (stepsLeft s) m) (t .is))
+  body-runs {m} (Count z o) h {q} {vs = vs} j f g c p x =
+      let t = command-parts c x h .0 in
+      g .is vs
+      ∙ ap (λ y. onEnded y (λ l k. assigns (increment z) at l k))
+      (f .is (t .first) p (placed (sym j) (t .first-at)) ∙ ap (λ y. run (t .first) y (stepsLeft s) m) j)
+      ∙ sym (ap (λ y. loopBody y at (stepsLeft s) m) (t .is))
+
+  pub pass-runs : {m : Lent} (kind : Loop) → commandAt w at ≡ loopWord kind → {q : ℕ} {ss vs : List ℤ} {s₁ : List ℕ} →
+      q ≡ bodyPlace ends at kind → RunsAs w ends q m s s₁ (lent ss vs) →
+      {s₂ : List ℕ} {after : List ℤ} → EndsPass ss at kind s₁ s₂ after →
+      PassAs w ends at m s (eqb (number s₂) 0) s₂ (lent after vs)
+  pass-runs {m} kind h {vs = vs} j f {s₂} {after} g = record {
+    running = λ e. eqb-true (number s₂) 0 e;
+    is = λ c p x. turned s₂ (lent after vs) ∙ ap goOn (body-runs kind h j f g c p x);
   }
 
-module _ {file : List ℕ} {at : ℕ} {ss vs : List ℤ} where
-  pub while-tests : commandAt file at ≡ While → {t : Tested} → Tests file ss vs (at + 1) t →
-      TestsLoop file at (lent ss vs) t
+module _ {w ends : List ℕ} {at : ℕ} {ss vs : List ℤ} {s : List ℕ} where
+  pub while-tests : {t : Bool} {s₁ : List ℕ} → commandAt w at ≡ While →
+      Evaluates syntax.Boolean w ends ss vs (at + 1) s t s₁ → TestsLoop w ends at (lent ss vs) s t s₁
   while-tests h f = record {
-    is = λ c p s.
-        let t = command-parts c s h in
-        f .is (t .first) (t .middle) (t .first-at)
-        ∙ sym (ap (λ y. evaluate (loopTest y) (storeOf (lent ss vs))) (t .is));
+    is = λ c p x.
+        let t = command-parts c x h in
+        answered-as (sym (ap (λ y. evaluate (loopTest y) (storeOf (lent ss vs))) (t .is)))
+        (f .is (t .first) (t .middle) (t .first-at));
   }
 
-  pub for-tests : {q r : ℕ} → commandAt file at ≡ For q r → {b : Bool} →
-      b ≡ leZ (getD ss q (pos 0)) (getD ss r (pos 0)) → TestsLoop file at (lent ss vs) (Tested.Is b)
+  pub for-tests : {q r : ℕ} {b : Bool} → commandAt w at ≡ For q r → b ≡ leZ (getD ss q (pos 0)) (getD ss r (pos 0)) →
+      TestsLoop w ends at (lent ss vs) s b s
   unfolding evaluate
   for-tests h e = record {
-    is = λ c p s.
-        let t = command-parts c s h .0 in
-        ap worked e ∙ sym (ap (λ y. evaluate (loopTest y) (storeOf (lent ss vs))) (t .is));
+    is = λ c p x.
+        let t = command-parts c x h .0 in
+        answered-as (sym (ap (λ y. evaluate (loopTest y) (storeOf (lent ss vs))) (t .is))) (answered e);
   }
 
-module _ {ss : List ℤ} {q at n : ℕ} (v : Worked)
-    (o : outcome v ≡ checked (getD ss q (pos 0) +ℤ pos 1)) {e : End} {after : List ℤ}
-    (f : StoresScalar ss q (outcome v) at n e after) where
-  incremented : (vs : List ℤ) → endAt e (lent after vs) ≡ assigns (increment q) at n (lent ss vs)
-  unfolding evaluate checked
-  incremented vs =
-      f .is vs
-      ∙ ap (λ y. step at n (lent ss vs) (onWorked y λ z. worked (lent (set ss q z) vs)) λ m l. ended l m) o
+-- the increment: the next value as the code holds it, of the scalar's value a
+pub incremented : {ss : List ℤ} {q at : ℕ} {s s₁ s₂ : List ℕ} {a v : ℤ} {after : List ℤ} → number s ≡ 0 →
+    SFits w64 a → a ≡ getD ss q (pos 0) → Answered s (checked (toZ w64 (ofZ w64 a) +ℤ pos 1)) v s₁ → SFits w64 v →
+    StoresScalar ss q (toZ w64 (ofZ w64 v)) at s₁ s₂ after → Increments ss q at s s₂ after
+unfolding evaluate checked
+incremented {ss} {q} {at} {s} {s₁} {s₂} {a} {v} {after} z fa e h fv g = record {
+  is = λ vs.
+      let m = lent ss vs in
+      let to : ℤ → Lent = λ z. lent (set ss q z) vs in
+      let n = answered-as (ap (λ y. checked (y +ℤ pos 1)) (back fa ∙ e)) h in
+      g .is vs
+      ∙ ap (λ y. step at (stepsLeft s₁) m (answer y (number s₁)) λ z l. ended l (to z)) (back fv)
+      ∙ due n z (λ n x. step at n m x λ z l. ended l (to z))
+      ∙ given-step at (stepsLeft s) m (checked (getD ss q (pos 0) +ℤ pos 1)) to;
+}
 
-  pub increment-again : {k : ℕ} → e ≡ Ended k → Increments ss q at n (Turn.Again k) after
-  increment-again i = record { is = λ vs. ap goOn (ap (λ y. endAt y (lent after vs)) (sym i) ∙ incremented vs) }
-
-  pub increment-stopped : {k z l : ℕ} → e ≡ Stopped k z l → Increments ss q at n (Turn.Stopped k z l) after
-  increment-stopped i = record { is = λ vs. ap goOn (ap (λ y. endAt y (lent after vs)) (sym i) ∙ incremented vs) }
-
-module _ {ss : List ℤ} {at : ℕ} {kind : Loop} {body : End} where
-  pub pass-while : {k : ℕ} → body ≡ Ended k → kind ≡ Test → EndsPass ss at kind body (Turn.Again k) ss
-  pass-while e i = record {
-    is = λ vs. ap₂ (λ y z. goOn (onEnded (endAt y (lent ss vs)) (afterBody z at))) (sym e)
-        (sym i);
+module _ {ss : List ℤ} {at : ℕ} {kind : Loop} {s : List ℕ} where
+  pub pass-while : kind ≡ Test → EndsPass ss at kind s s ss
+  pass-while e = record {
+    is = λ vs. sym (ap (λ y. onEnded (endAt s (lent ss vs)) (afterBody y at)) e ∙ ended-same (endAt s (lent ss vs)));
   }
 
-  pub pass-for : {k q r : ℕ} → body ≡ Ended k → kind ≡ Count q r → {t : Turn} {after : List ℤ} →
-      Increments ss q at k t after →
-      EndsPass ss at kind body t after
-  pass-for e i f = record {
+  pub pass-for : {q r : ℕ} {s′ : List ℕ} {after : List ℤ} → kind ≡ Count q r → number s ≡ 0 →
+      Increments ss q at s s′ after → EndsPass ss at kind s s′ after
+  pass-for {q} {r} e z f = record {
     is = λ vs.
-        f .is vs ∙ ap₂ (λ y z. goOn (onEnded (endAt y (lent ss vs)) (afterBody z at))) (sym e) (sym i);
+        f .is vs ∙ sym (ended-on s z (lent ss vs) (afterBody (Count q r) at))
+        ∙ ap (λ y. onEnded (endAt s (lent ss vs)) (afterBody y at)) (sym e);
   }
 
-  pub pass-stopped : {k z l : ℕ} → body ≡ Stopped k z l → EndsPass ss at kind body (Turn.Stopped k z l) ss
-  pass-stopped e = record { is = λ vs. ap (λ y. goOn (onEnded (endAt y (lent ss vs)) (afterBody kind at))) (sym e) }
+  pub pass-stopped : (number s ≡ 0 → ⊥) → EndsPass ss at kind s s ss
+  pass-stopped h = record { is = λ vs. sym (stopped-on s h (lent ss vs) (afterBody kind at)) }
 
 -- two scalars compared, as the code holds them
 pub both-read : {a b x y : ℤ} {t : Bool} → SFits w64 a → SFits w64 b →
-    t ≡ leZ (toZ w64 (ofZ w64 a)) (toZ w64 (ofZ w64 b)) →
-    a ≡ x → b ≡ y → t ≡ leZ x y
+    t ≡ leZ (toZ w64 (ofZ w64 a)) (toZ w64 (ofZ w64 b)) → a ≡ x → b ≡ y → t ≡ leZ x y
 both-read f g h p q = h ∙ held-two leZ f g ∙ ap₂ leZ p q
-
--- a scalar and one more, as the code holds them
-pub next-count : {o : Outcome ℤ} {a x : ℤ} → SFits w64 a → o ≡ checked (toZ w64 (ofZ w64 a) +ℤ pos 1) → a ≡ x →
-    o ≡ checked (x +ℤ pos 1)
-next-count f h p = h ∙ ap (λ y. checked (y +ℤ pos 1)) (back f ∙ p)

@@ -1,196 +1,160 @@
--- One step: as the code takes it, and as the definition does.
+-- One step, as the code takes it and as the definition has it.
 -- Assumes nothing.
---     pass-.., assert-.., choose-..          the cases of the code
---     scalar-.., array-..                    the same where an identifier is given a value
---     passed-is, asserted-is                 skip and assert are the definition's step
---     step-then, step-else, step-stopped     a test is the definition's step
-use mathlib.Core.Path.{_≡_, refl, sym, ap, subst, _∙_}
+--     stepped-none, stepped-one, stepped-held     a step by the progress of the run
+--     running, step-taken, step-refused           what the definition's step comes to
+--     given-step                                  an assignment's step
+--     left-kept, due                              after operands were worked out
+--     ended-on, stopped-on                        going on from an end
+--     stepped-skip, stores                        skip; a step that gives the store a value
+--     asserts-true, asserts-false, asserts-not    an assertion
+--     scalar-stored, scalar-kept, array-stored, array-kept      an assignment
+use mathlib.Core.Path.{_≡_, refl, sym, ap, ap₂, _∙_}
 use mathlib.Core.Bool.{Bool, true, false, cond}
-use mathlib.Core.List.{List}
+use mathlib.Core.List.{List, [], _∷_}
 use Prim.Native.Nat.{ℕ, zero, suc, _-_, _*_}
 use native.Mathlib.Omega.{arith}
 use lib.IntN.{ℤ}
-use lib.ListN.{set, drop}
-use lib.Seq.{paste}
+use lib.ListN.{length, getD, set}
+use lib.Seq.{paste, getD-drop}
 use mir.Syntax.{w64}
 use mir.Val.{SFits, toZ, ofZ}
 use Rattle.execution.specs.Lent.{Lent, lent}
 use Rattle.execution.specs.Evaluate.{Outcome, worked, stops, onWorked}
-use Rattle.execution.specs.Run as definition
-use Rattle.execution.specs.Run.{ended, stopped, step}
-use Rattle.arithmetic.specs.Worked.{outcome}
-use Rattle.arithmetic.specs.declared.Worked.{Worked}
-use Rattle.arithmetic.specs.declared.Worked.the-variants as Worked
+use Rattle.execution.specs.Run.{End, ended, stopped, onEnded, step}
 use Rattle.arithmetic.proofs.Signed.{back}
-use Rattle.evaluate.specs.Evaluated.{testOutcome, fillOutcome}
-use Rattle.evaluate.specs.declared.Tested.{Tested}
-use Rattle.evaluate.specs.declared.Tested.the-variants as Tested
-use Rattle.evaluate.specs.declared.Filled.{Filled}
-use Rattle.evaluate.specs.declared.Filled.the-variants as Filled
-use Rattle.run.specs.Steps.{endAt, passed, asserted, chosen, StoresScalar, StoresArray}
-use Rattle.run.specs.declared.End.{End}
-use Rattle.run.specs.declared.End.the-variants.{Ended, Stopped}
-use Rattle.run.specs.declared.Choice.{Choice}
-use Rattle.run.specs.declared.Choice.the-variants as Choice
+use Rattle.evaluate.specs.Evaluated.{number, answer, after, Answered}
+use Rattle.run.specs.Steps.{stepsLeft, stopPlace, endBy, endAt, Stepped, step-none, step-one, step-held, Asserts}
+use Rattle.run.specs.Steps.{StoresScalar, StoresArray}
 
-less : (k : ℕ) → suc k - 1 ≡ k
-less k = omega arith
+-- ---- the code's step
+-- progress has three numbers
+three : (P : List ℕ → Type 0) (s : List ℕ) → length s ≡ 3 → ((a b c : ℕ) → P (a ∷ (b ∷ (c ∷ [])))) → P s
+three P [] h f = absurd (omega arith)
+three P (a ∷ []) h f = absurd (omega arith)
+three P (a ∷ (b ∷ [])) h f = absurd (omega arith)
+three P (a ∷ (b ∷ (c ∷ []))) h f = f a b c
+three P (a ∷ (b ∷ (c ∷ (d ∷ l)))) h f = absurd (omega arith)
 
-pub never {ℓ} : {X : Type ℓ} → _≡_ {A = ℕ} 0 1 → X
-never z = absurd (omega arith)
+module _ (at : ℕ) (s : List ℕ) (l : length s ≡ 3) where
+  pub stepped-none : stepsLeft s ≡ 0 → Stepped at s (set (set s 0 13) 2 at) false
+  stepped-none =
+      three (λ s. stepsLeft s ≡ 0 → Stepped at s (set (set s 0 13) 2 at) false) s l (λ a b c e. step-none e refl refl e)
 
--- no step is left
-module _ (at : ℕ) where
-  pub pass-none : (n : ℕ) → n ≡ 0 → Stopped 13 at n ≡ passed at n
-  pass-none zero h = refl
-  pass-none (suc n) h = absurd (omega arith)
+  pub stepped-held : (stepsLeft s ≡ 0 → ⊥) → (number s ≡ 0 → ⊥) → Stepped at s (set s 2 at) false
+  stepped-held =
+      three (λ s. (stepsLeft s ≡ 0 → ⊥) → (number s ≡ 0 → ⊥) → Stepped at s (set s 2 at) false) s l
+      (λ a b c f g. step-held f g refl refl refl)
 
-  pub assert-none : (n : ℕ) (o : Outcome Bool) → n ≡ 0 → Stopped 13 at n ≡ asserted at n o
-  assert-none zero o h = refl
-  assert-none (suc n) o h = absurd (omega arith)
+  pub stepped-one : (stepsLeft s ≡ 0 → ⊥) → number s ≡ 0 → Stepped at s (set s 1 (stepsLeft s - 1)) true
+  stepped-one =
+      three (λ s. (stepsLeft s ≡ 0 → ⊥) → number s ≡ 0 → Stepped at s (set s 1 (stepsLeft s - 1)) true) s l
+      (λ a b c f e. step-one (one b f) e e)
+    where
+      one : (b : ℕ) → (b ≡ 0 → ⊥) → b ≡ suc (b - 1)
+      one b f = omega arith
 
-  pub choose-none : (n : ℕ) (o : Outcome Bool) → n ≡ 0 → Choice.Stopped 13 at n ≡ chosen at n o
-  choose-none zero o h = refl
-  choose-none (suc n) o h = absurd (omega arith)
+-- ---- the definition's
+pub ended-on : (s : List ℕ) → number s ≡ 0 → (m : Lent) (f : ℕ → Lent → End) → onEnded (endAt s m) f ≡ f (stepsLeft s) m
+ended-on s e m f = ap (λ k. onEnded (endBy k (stopPlace s) (stepsLeft s) m) f) e
 
-  pub pass-one : (n : ℕ) → (n ≡ 0 → ⊥) → Ended (n - 1) ≡ passed at n
-  pass-one zero z = absurd (z refl)
-  pass-one (suc k) z = ap Ended (less k)
+stays : (k p n : ℕ) (m : Lent) (f : ℕ → Lent → End) → (k ≡ 0 → ⊥) → onEnded (endBy k p n m) f ≡ endBy k p n m
+stays zero p n m f h = absurd (h refl)
+stays (suc k) p n m f h = refl
 
-  pub assert-true : (n : ℕ) {t : Tested} {b : Bool} → (n ≡ 0 → ⊥) → t ≡ Tested.Is b → b ≡ true →
-      Ended (n - 1) ≡ asserted at n (testOutcome t)
-  assert-true zero z p q = absurd (z refl)
-  assert-true (suc k) z p q = ap Ended (less k) ∙ ap (λ o. asserted at (suc k) o) (ap worked (sym q)
-      ∙ ap testOutcome (sym p))
+pub stopped-on : (s : List ℕ) → (number s ≡ 0 → ⊥) → (m : Lent) (f : ℕ → Lent → End) → onEnded (endAt s m) f ≡ endAt s m
+stopped-on s h m f = stays (number s) (stopPlace s) (stepsLeft s) m f h
 
-  pub assert-false : (n : ℕ) {t : Tested} {b : Bool} → (n ≡ 0 → ⊥) → t ≡ Tested.Is b → b ≡ false →
-      Stopped 12 at n ≡ asserted at n (testOutcome t)
-  assert-false zero z p q = absurd (z refl)
-  assert-false (suc k) z p q = ap (λ o. asserted at (suc k) o) (ap worked (sym q) ∙ ap testOutcome (sym p))
+pub running : {at : ℕ} {s s′ : List ℕ} → Stepped at s s′ true → number s′ ≡ 0
+running (step-one e h i) = i
 
-  pub assert-stops : (n : ℕ) {t : Tested} {j : ℕ} → (n ≡ 0 → ⊥) → t ≡ Tested.Stops j →
-      Stopped j at n ≡ asserted at n (testOutcome t)
-  assert-stops zero z p = absurd (z refl)
-  assert-stops (suc k) z p = ap (λ o. asserted at (suc k) o) (ap testOutcome (sym p))
+module _ {A : Type 0} (at : ℕ) (m : Lent) (v : A) (f : A → ℕ → End) where
+  held-step : (n k : ℕ) → (n ≡ 0 → ⊥) → (k ≡ 0 → ⊥) → endBy k at n m ≡ step at n m (answer v k) f
+  held-step zero k g h = absurd (g refl)
+  held-step (suc n) zero g h = absurd (h refl)
+  held-step (suc n) (suc k) g h = refl
 
-  pub choose-then : (n : ℕ) {t : Tested} {b : Bool} → (n ≡ 0 → ⊥) → t ≡ Tested.Is b → b ≡ true →
-      Choice.Then (n - 1) ≡ chosen at n (testOutcome t)
-  choose-then zero z p q = absurd (z refl)
-  choose-then (suc k) z p q = ap Choice.Then (less k) ∙ ap (λ o. chosen at (suc k) o) (ap worked (sym q)
-      ∙ ap testOutcome (sym p))
+  pub step-taken : {s s′ : List ℕ} → Stepped at s s′ true →
+      f v (stepsLeft s′) ≡ step at (stepsLeft s) m (answer v (number s)) f
+  step-taken (step-one e h i) = ap₂ (λ n k. step at n m (answer v k) f) (sym e) (sym h)
 
-  pub choose-else : (n : ℕ) {t : Tested} {b : Bool} → (n ≡ 0 → ⊥) → t ≡ Tested.Is b → b ≡ false →
-      Choice.Else (n - 1) ≡ chosen at n (testOutcome t)
-  choose-else zero z p q = absurd (z refl)
-  choose-else (suc k) z p q = ap Choice.Else (less k) ∙ ap (λ o. chosen at (suc k) o) (ap worked (sym q)
-      ∙ ap testOutcome (sym p))
+  pub step-refused : {s s′ : List ℕ} → Stepped at s s′ false →
+      endAt s′ m ≡ step at (stepsLeft s) m (answer v (number s)) f
+  step-refused {s} {s′} (step-none e k p n) =
+      ap (λ k. endBy k (stopPlace s′) (stepsLeft s′) m) k ∙ ap₂ (λ p n. endBy 13 p n m) p n
+      ∙ ap (λ n. step at n m (answer v (number s)) f) (sym e)
+  step-refused {s} {s′} (step-held g h k p n) =
+      ap (λ k. endBy k (stopPlace s′) (stepsLeft s′) m) k ∙ ap₂ (λ p n. endBy (number s) p n m) p n
+      ∙ held-step (stepsLeft s) (number s) g h
 
-  pub choose-stops : (n : ℕ) {t : Tested} {j : ℕ} → (n ≡ 0 → ⊥) → t ≡ Tested.Stops j →
-      Choice.Stopped j at n ≡ chosen at n (testOutcome t)
-  choose-stops zero z p = absurd (z refl)
-  choose-stops (suc k) z p = ap (λ o. chosen at (suc k) o) (ap testOutcome (sym p))
+-- a step after which the store is what g makes of the value
+pub stores : {A : Type 0} {at : ℕ} {s s′ : List ℕ} (v : A) (m : Lent) (g : A → Lent) → Stepped at s s′ true →
+    endAt s′ (g v) ≡ step at (stepsLeft s) m (answer v (number s)) λ x l. ended l (g x)
+stores {at = at} {s′ = s′} v m g h =
+    ap (λ k. endBy k (stopPlace s′) (stepsLeft s′) (g v)) (running h) ∙ step-taken at m v (λ x l. ended l (g x)) h
 
-  -- the definition's step, by what is left and what was worked out
-  module _ {A : Type 0} (n : ℕ) (m : Lent) (f : A → ℕ → definition.End) where
-    step-none : (o : Outcome A) → n ≡ 0 → stopped 13 at n m ≡ step at n m o f
-    step-none o h = subst (λ k. stopped 13 at k m ≡ step at k m o f) (sym h) refl
+pub stepped-skip : {at : ℕ} {s s′ : List ℕ} (t : Bool) (m : Lent) → number s ≡ 0 → Stepped at s s′ t →
+    endAt s′ m ≡ step at (stepsLeft s) m (worked m) λ m′ l. ended l m′
+stepped-skip {at} {s} {s′} true m e h =
+    stores m m (λ x. x) h ∙ ap (λ k. step at (stepsLeft s) m (answer m k) λ m′ l. ended l m′) e
+stepped-skip {at} {s} {s′} false m e h =
+    step-refused at m m (λ m′ l. ended l m′) h ∙ ap (λ k. step at (stepsLeft s) m (answer m k) λ m′ l. ended l m′) e
 
-    step-worked : (v : A) → (n ≡ 0 → ⊥) → f v (n - 1) ≡ step at n m (worked v) f
-    step-worked v z = go n z
-      where
-        go : (k : ℕ) → (k ≡ 0 → ⊥) → f v (k - 1) ≡ step at k m (worked v) f
-        go zero z = absurd (z refl)
-        go (suc k) z = ap (f v) (less k)
+-- an assignment's step, by the value
+pub given-step : {A : Type 0} (at n : ℕ) (m : Lent) (o : Outcome A) (g : A → Lent) →
+    (step at n m o λ v l. ended l (g v)) ≡ step at n m (onWorked o λ v. worked (g v)) λ m′ l. ended l m′
+given-step at zero m o g = refl
+given-step at (suc n) m (worked v) g = refl
+given-step at (suc n) m (stops k) g = refl
 
-    step-stops : (j : ℕ) → (n ≡ 0 → ⊥) → stopped j at n m ≡ step at n m (stops j) f
-    step-stops j z = go n z
-      where
-        go : (k : ℕ) → (k ≡ 0 → ⊥) → stopped j at k m ≡ step at k m (stops j) f
-        go zero z = absurd (z refl)
-        go (suc k) z = refl
+-- ---- operands change the refusal alone
+module _ {A : Type 0} {s s₁ : List ℕ} {o : Outcome A} {v : A} (h : Answered s o v s₁) where
+  pub left-kept : stepsLeft s₁ ≡ stepsLeft s
+  left-kept = sym (getD-drop 1 s₁ 0 0) ∙ ap (λ l. getD l 0 0) (h .kept) ∙ getD-drop 1 s 0 0
 
-  module _ (n : ℕ) (ss : List ℤ) (x : ℕ) where
-    pub scalar-none : (o : Outcome ℤ) → n ≡ 0 → StoresScalar ss x o at n (Stopped 13 at n) ss
-    scalar-none o h =
-        record {
-          is = λ vs. step-none n (lent ss vs) (λ m l. ended l m) (onWorked o λ z.
-              worked (lent (set ss x z) vs)) h;
-        }
+  pub due : number s ≡ 0 → {B : Type 0} (f : ℕ → Outcome A → B) → f (stepsLeft s₁) (answer v (number s₁)) ≡ f (stepsLeft s) o
+  due e f = ap₂ f left-kept (h .is ∙ ap (λ k. after k o) e)
 
-    pub scalar-given : {v : Worked} {z : ℤ} (after : List ℤ) → (n ≡ 0 → ⊥) → v ≡ Worked.Value z → SFits w64 z →
-        after ≡ set ss x (toZ w64 (ofZ w64 z)) → StoresScalar ss x (outcome v) at n (Ended (n - 1)) after
-    scalar-given {v} {z} after k p f q = record {
-      is = λ vs.
-          ap (λ l. ended (n - 1) (lent l vs)) (q ∙ ap (set ss x) (back f))
-          ∙ step-worked n (lent ss vs) (λ m l. ended l m) (lent (set ss x z) vs) k
-          ∙ ap (λ w. step at n (lent ss vs) (onWorked (outcome w) λ y. worked (lent (set ss x y) vs)) λ m l. ended l m)
-          (sym p);
-    }
+-- ---- an assertion
+module _ {at : ℕ} {s s′ : List ℕ} where
+  pub asserts-true : {test : Bool} → test ≡ true → Stepped at s s′ true → Asserts s test at s′
+  asserts-true {test} e h = record {
+    is = λ m. ap (λ k. endBy k (stopPlace s′) (stepsLeft s′) m) (running h)
+        ∙ ap (λ t. cond t (ended (stepsLeft s′) m) (stopped 12 at (stepsLeft s) m)) (sym e)
+        ∙ step-taken at m test (λ v l. cond v (ended l m) (stopped 12 at (stepsLeft s) m)) h;
+  }
 
-    pub scalar-stops : {v : Worked} {j : ℕ} → (n ≡ 0 → ⊥) → v ≡ Worked.Stops j →
-        StoresScalar ss x (outcome v) at n (Stopped j at n) ss
-    scalar-stops {v} {j} k p = record {
-      is = λ vs.
-          step-stops n (lent ss vs) (λ m l. ended l m) j k
-          ∙ ap (λ w. step at n (lent ss vs) (onWorked (outcome w) λ y. worked (lent (set ss x y) vs)) λ m l. ended l m)
-          (sym p);
-    }
+  pub asserts-not : {test : Bool} → Stepped at s s′ false → Asserts s test at s′
+  asserts-not {test} h =
+      record { is = λ m. step-refused at m test (λ v l. cond v (ended l m) (stopped 12 at (stepsLeft s) m)) h }
 
-  module _ (n : ℕ) (vs : List ℤ) (a : ℕ) where
-    pub array-none : (o : Outcome (List ℤ)) → n ≡ 0 → StoresArray vs a o at n (Stopped 13 at n) vs
-    array-none o h = record {
-      is = λ ss.
-          step-none n (lent ss vs) (λ m l. ended l m) (onWorked o λ l. worked (lent ss (paste vs (64 * a) l 64))) h;
-    }
+  pub asserts-false : {test : Bool} → test ≡ false → length s′ ≡ 3 → Stepped at s s′ true →
+      Asserts s test at (set (set (set s′ 0 12) 1 (stepsLeft s)) 2 at)
+  asserts-false {test} e l h = record {
+    is = λ m. three (λ x. endAt (set (set (set x 0 12) 1 (stepsLeft s)) 2 at) m ≡ stopped 12 at (stepsLeft s) m) s′ l
+        (λ a b c. refl)
+        ∙ ap (λ t. cond t (ended (stepsLeft s′) m) (stopped 12 at (stepsLeft s) m)) (sym e)
+        ∙ step-taken at m test (λ v l. cond v (ended l m) (stopped 12 at (stepsLeft s) m)) h;
+  }
 
-    pub array-given : {v : Filled} (s after : List ℤ) → (n ≡ 0 → ⊥) → v ≡ Filled.Done →
-        after ≡ paste vs (64 * a) (drop 0 s) 64 → StoresArray vs a (fillOutcome v s) at n (Ended (n - 1)) after
-    array-given {v} s after k p q = record {
-      is = λ ss.
-          ap (λ l. ended (n - 1) (lent ss l)) q
-          ∙ step-worked n (lent ss vs) (λ m l. ended l m) (lent ss (paste vs (64 * a) s 64)) k
-          ∙ ap (λ w. step at n (lent ss vs) (onWorked (fillOutcome w s) λ l.
-          worked (lent ss (paste vs (64 * a) l 64))) λ m l.
-          ended l m) (sym p);
-    }
+-- ---- an identifier is given a value, as the code holds it, or not
+module _ {at : ℕ} {s s′ : List ℕ} where
+  pub scalar-stored : {ss after : List ℤ} {x : ℕ} {v : ℤ} → Stepped at s s′ true → SFits w64 v →
+      after ≡ set ss x (toZ w64 (ofZ w64 v)) → StoresScalar ss x v at s s′ after
+  scalar-stored {ss} {x = x} {v} h f e = record {
+    is = λ vs. ap (λ l. endAt s′ (lent l vs)) (e ∙ ap (set ss x) (back f))
+        ∙ stores v (lent ss vs) (λ z. lent (set ss x z) vs) h;
+  }
 
-    pub array-stops : {v : Filled} (s : List ℤ) {j : ℕ} → (n ≡ 0 → ⊥) → v ≡ Filled.Stops j →
-        StoresArray vs a (fillOutcome v s) at n (Stopped j at n) vs
-    array-stops {v} s {j} k p = record {
-      is = λ ss.
-          step-stops n (lent ss vs) (λ m l. ended l m) j k
-          ∙ ap (λ w. step at n (lent ss vs) (onWorked (fillOutcome w s) λ l.
-          worked (lent ss (paste vs (64 * a) l 64))) λ m l.
-          ended l m) (sym p);
-    }
+  pub scalar-kept : {ss : List ℤ} {x : ℕ} {v : ℤ} → Stepped at s s′ false → StoresScalar ss x v at s s′ ss
+  scalar-kept {ss} {x} {v} h =
+      record { is = λ vs. step-refused at (lent ss vs) v (λ z l. ended l (lent (set ss x z) vs)) h }
 
-  pub passed-is : (n : ℕ) (m : Lent) → endAt (passed at n) m ≡ step at n m (worked m) λ m′ l. ended l m′
-  passed-is zero m = refl
-  passed-is (suc n) m = refl
+  pub array-stored : {vs after v : List ℤ} {a : ℕ} → Stepped at s s′ true → after ≡ paste vs (64 * a) v 64 →
+      StoresArray vs a v at s s′ after
+  array-stored {vs} {v = v} {a} h e = record {
+    is = λ ss. ap (λ l. endAt s′ (lent ss l)) e ∙ stores v (lent ss vs) (λ z. lent ss (paste vs (64 * a) z 64)) h;
+  }
 
-  pub asserted-is : (n : ℕ) (o : Outcome Bool) (m : Lent) →
-      endAt (asserted at n o) m ≡ step at n m o λ v l. cond v (ended l m) (stopped 12 at n m)
-  asserted-is zero o m = refl
-  asserted-is (suc n) (worked true) m = refl
-  asserted-is (suc n) (worked false) m = refl
-  asserted-is (suc n) (stops k) m = refl
-
-  module _ (m : Lent) (f : Bool → ℕ → definition.End) where
-    pub step-then : (n : ℕ) (o : Outcome Bool) {k : ℕ} → Choice.Then k ≡ chosen at n o → f true k ≡ step at n m o f
-    step-then zero o e = never (cc)
-    step-then (suc n) (worked true) {k} e = let h : k ≡ n = cc in ap (f true) h
-    step-then (suc n) (worked false) e = never (cc)
-    step-then (suc n) (stops j) e = never (cc)
-
-    pub step-else : (n : ℕ) (o : Outcome Bool) {k : ℕ} → Choice.Else k ≡ chosen at n o → f false k ≡ step at n m o f
-    step-else zero o e = never (cc)
-    step-else (suc n) (worked true) e = never (cc)
-    step-else (suc n) (worked false) {k} e = let h : k ≡ n = cc in ap (f false) h
-    step-else (suc n) (stops j) e = never (cc)
-
-    pub step-stopped : (n : ℕ) (o : Outcome Bool) {k p l : ℕ} → Choice.Stopped k p l ≡ chosen at n o →
-        stopped k p l m ≡ step at n m o f
-    step-stopped zero o e = cc
-    step-stopped (suc n) (worked true) e = never (cc)
-    step-stopped (suc n) (worked false) e = never (cc)
-    step-stopped (suc n) (stops j) e = cc
+  pub array-kept : {vs v : List ℤ} {a : ℕ} → Stepped at s s′ false → StoresArray vs a v at s s′ vs
+  array-kept {vs} {v} {a} h =
+      record { is = λ ss. step-refused at (lent ss vs) v (λ z l. ended l (lent ss (paste vs (64 * a) z 64))) h }

@@ -3,7 +3,8 @@
 --     turns-again, turns-over    the definition's turns, where one more is due, and where none is
 --     turn-less                  a turn takes a step
 --     Going                      what a loop has done so far
---     going-on, going-ended ..   its turns
+--     falls                      the steps left fall
+--     going-none, going-on, going-over    its turns
 use mathlib.Core.Path.{_≡_, refl, sym, ap, _∙_}
 use mathlib.Core.Bool.{Bool, true, false}
 use mathlib.Core.List.{List}
@@ -19,14 +20,14 @@ use Rattle.execution.specs.Evaluate.{Outcome, worked, stops, evaluate}
 use Rattle.execution.specs.Run as definition
 use Rattle.execution.specs.Run.{ended, stopped, onEnded, step, turns}
 use Rattle.heads.specs.Stands.{PartAt, CommandStands}
-use Rattle.run.specs.Steps.{chosen}
+use Rattle.evaluate.specs.Evaluated.{number}
+use Rattle.run.specs.Steps.{stepsLeft}
 use Rattle.run.specs.Turns.{loopTest, loopBody, Turned, again, over, turnedAt, goOn, turnBy, turnOf, TurnsAs}
 use Rattle.run.specs.Turns.{TurnAs}
-use Rattle.run.specs.declared.End.the-variants.{Ended, Stopped}
-use Rattle.run.specs.declared.Turn.{Turn}
-use Rattle.run.specs.declared.Turn.the-variants as Turn
-use Rattle.run.proofs.Steps.{never}
 use Rattle.run.proofs.Bounds.{Bounded, body-bounded}
+
+never : {A : Type 0} → _≡_ {A = ℕ} 0 1 → A
+never z = absurd (omega arith)
 
 -- what follows a turn
 abbrev afterTurn : Turned → (ℕ → Lent → definition.End) → definition.End
@@ -40,7 +41,7 @@ go-on (stopped k p n m) f = refl
 module _ (b : Expr syntax.Boolean) (body : ℕ → Lent → definition.End) (at : ℕ) where
   turn-step : (k n : ℕ) (m : Lent) (o : Outcome Bool) →
       (step at n m o λ v l. elim v [ true ↦ onEnded (body l m) (turns k b body at) | false ↦ ended l m ])
-      ≡ afterTurn (turnBy (chosen at n o) m body) (turns k b body at)
+      ≡ afterTurn (turnBy at n o m body) (turns k b body at)
   turn-step k zero m o = refl
   turn-step k (suc n) m (worked true) = go-on (body n m) (turns k b body at)
   turn-step k (suc n) m (worked false) = refl
@@ -82,7 +83,7 @@ module _ (b : Expr syntax.Boolean) (body : ℕ → Lent → definition.End) (at 
     less-after l (ended i x) h {n} e = let q : n ≡ i = cc in omega arith
     less-after l (stopped k p i x) h e = never (cc)
 
-    less-by : (n : ℕ) (m : Lent) (o : Outcome Bool) {l : ℕ} {m′ : Lent} → again l m′ ≡ turnBy (chosen at n o) m body →
+    less-by : (n : ℕ) (m : Lent) (o : Outcome Bool) {l : ℕ} {m′ : Lent} → again l m′ ≡ turnBy at n o m body →
         l < n
     less-by zero m o e = never (cc)
     less-by (suc n) m (worked true) e = let h = less-after n (body n m) (bounded n m) e in omega arith
@@ -105,45 +106,36 @@ module _ (b : Expr syntax.Boolean) (body : ℕ → Lent → definition.End) (at 
   turns-over zero m e = cc
   turns-over (suc n) m e = ap (λ y. afterTurn y (turns n b body at)) e ∙ sym (turn-is n (suc n) m)
 
--- from m₀ with n₀ steps left, a loop has come to m with n steps left
-pub record Going (file : List ℕ) (at : ℕ) (m₀ : Lent) (n₀ : ℕ) (m : Lent) (n : ℕ) : Type 0 where
-  pub same : (c : syntax.Command) (p : ℕ) → PartAt file (commandPart c) at p →
-      turns n₀ (loopTest c) (loopBody c at) at n₀ m₀ ≡ turns n (loopTest c) (loopBody c at) at n m
-  pub scalars-kept : length (m .scalars) ≡ length (m₀ .scalars)
-  pub values-kept : length (m .values) ≡ length (m₀ .values)
+-- from m₀ with the progress s₀, a loop has come to m with the progress s, and nothing stopped it
+pub record Going (w ends : List ℕ) (at : ℕ) (m₀ : Lent) (s₀ : List ℕ) (m : Lent) (s : List ℕ) : Type 0 where
+  pub running : number s ≡ 0
+  pub same : (c : syntax.Command) (p : ℕ) → PartAt w ends (commandPart c) at p →
+      turns (stepsLeft s₀) (loopTest c) (loopBody c at) at (stepsLeft s₀) m₀
+      ≡ turns (stepsLeft s) (loopTest c) (loopBody c at) at (stepsLeft s) m
 
-pub going-none : (file : List ℕ) (at : ℕ) (m : Lent) (n : ℕ) → Going file at m n m n
-going-none file at m n = record { same = λ c p s. refl; scalars-kept = refl; values-kept = refl }
+pub going-none : (w ends : List ℕ) (at : ℕ) (m : Lent) (s : List ℕ) → number s ≡ 0 → Going w ends at m s m s
+going-none w ends at m s e = record { running = e; same = λ c p x. refl }
 
-module _ {file : List ℕ} {at : ℕ} {m m′ : Lent} {n : ℕ} {r : Turn} where
-  pub falls : CommandStands file at → TurnAs file at m n r m′ → {l : ℕ} → r ≡ Turn.Again l → l < n
+module _ {w ends : List ℕ} {at : ℕ} {m m′ : Lent} {s s′ : List ℕ} {r : Bool} where
+  pub falls : CommandStands w ends at → TurnAs w ends at m s r s′ m′ → r ≡ true → stepsLeft s′ < stepsLeft s
   falls x f e =
       let c = x .tree in
-      turn-less (loopTest c) (loopBody c at) at (at + length (commandWords c)) (body-bounded c at) n m
-      (ap (λ y. turnedAt y m′) (sym e) ∙ f .is c (x .past) (x .there))
+      turn-less (loopTest c) (loopBody c at) at (at + length (commandWords c)) (body-bounded c at) (stepsLeft s) m
+      (ap (λ y. turnedAt y s′ m′) (sym e) ∙ f .is c (x .past) (x .there))
 
-  module _ {m₀ : Lent} {n₀ : ℕ} (g : Going file at m₀ n₀ m n) (f : TurnAs file at m n r m′) where
-    pub going-on : {l : ℕ} → r ≡ Turn.Again l → length (m′ .scalars) ≡ length (m .scalars) →
-        length (m′ .values) ≡ length (m .values) → Going file at m₀ n₀ m′ l
-    going-on e ks kv = record {
-      same = λ c p s.
-          g .same c p s
-          ∙ turns-again (loopTest c) (loopBody c at) at (at + length (commandWords c)) (body-bounded c at) n m
-          (ap (λ y. turnedAt y m′) (sym e) ∙ f .is c p s);
-      scalars-kept = ks ∙ g .scalars-kept;
-      values-kept = kv ∙ g .values-kept;
+  module _ {m₀ : Lent} {s₀ : List ℕ} (g : Going w ends at m₀ s₀ m s) (f : TurnAs w ends at m s r s′ m′) where
+    pub going-on : r ≡ true → Going w ends at m₀ s₀ m′ s′
+    going-on e = record {
+      running = f .running e;
+      same = λ c p x.
+          g .same c p x
+          ∙ turns-again (loopTest c) (loopBody c at) at (at + length (commandWords c)) (body-bounded c at) (stepsLeft s) m
+          (ap (λ y. turnedAt y s′ m′) (sym e) ∙ f .is c p x);
     }
 
-    pub going-ended : {l : ℕ} → r ≡ Turn.Ended l → TurnsAs file at m₀ n₀ (Ended l) m′
-    going-ended e = record {
-      is = λ c p s.
-          turns-over (loopTest c) (loopBody c at) at n m (ap (λ y. turnedAt y m′) (sym e) ∙ f .is c p s)
-          ∙ sym (g .same c p s);
-    }
-
-    pub going-stopped : {k q l : ℕ} → r ≡ Turn.Stopped k q l → TurnsAs file at m₀ n₀ (Stopped k q l) m′
-    going-stopped e = record {
-      is = λ c p s.
-          turns-over (loopTest c) (loopBody c at) at n m (ap (λ y. turnedAt y m′) (sym e) ∙ f .is c p s)
-          ∙ sym (g .same c p s);
+    pub going-over : r ≡ false → TurnsAs w ends at m₀ s₀ s′ m′
+    going-over e = record {
+      is = λ c p x.
+          turns-over (loopTest c) (loopBody c at) at (stepsLeft s) m (ap (λ y. turnedAt y s′ m′) (sym e) ∙ f .is c p x)
+          ∙ sym (g .same c p x);
     }

@@ -4,12 +4,13 @@
 --     bodyPlace, CountsIn              the body's place; the scalars of a `for` exist
 --     Turned, turnedAt, goOn, turnBy   what comes of a turn
 --     turnOf                           a turn, by the definition's outcome of the test
+--     CanIncrement                     what the increment of a `for` asks for
 --     TestsLoop, Increments, EndsPass  what the parts of a turn promise
 --     TurnsAs, TurnAs, PassAs          what all turns, one turn and its body promise, of the loop that stands at a place
 use mathlib.Core.Path.{_≡_}
-use mathlib.Core.Bool.{false}
+use mathlib.Core.Bool.{Bool, true, false}
 use mathlib.Core.List.{List}
-use Prim.Native.Nat.{ℕ, _+_, _<_}
+use Prim.Native.Nat.{ℕ, zero, suc, _+_, _<_}
 use lib.IntN.{ℤ}
 use lib.ListN.{length, getD}
 use Rattle.language.specs.Syntax as syntax
@@ -19,20 +20,14 @@ use Rattle.language.specs.Runs.{increment}
 use Rattle.rules.specs.Words.{words}
 use Rattle.layout.specs.EvidenceWords.{commandPart}
 use Rattle.execution.specs.Lent.{Lent, lent, storeOf}
-use Rattle.execution.specs.Evaluate.{evaluate}
+use Rattle.execution.specs.Evaluate.{Outcome, worked, stops, evaluate}
 use Rattle.execution.specs.Run as definition
 use Rattle.execution.specs.Run.{ended, stopped, onEnded, assigns, turns, run}
 use Rattle.words.specs.declared.CommandWord.{CommandWord}
 use Rattle.words.specs.declared.CommandWord.the-variants.{While, For}
 use Rattle.heads.specs.Stands.{PartAt}
-use Rattle.evaluate.specs.Evaluated.{testOutcome}
-use Rattle.evaluate.specs.declared.Tested.{Tested}
-use Rattle.run.specs.Steps.{endAt, chosen}
-use Rattle.run.specs.declared.End.{End}
-use Rattle.run.specs.declared.Choice.{Choice}
-use Rattle.run.specs.declared.Choice.the-variants.{Then, Else, Stopped}
-use Rattle.run.specs.declared.Turn.{Turn}
-use Rattle.run.specs.declared.Turn.the-variants as Turn
+use Rattle.evaluate.specs.Evaluated.{number, Answered}
+use Rattle.run.specs.Steps.{stepsLeft, endAt}
 use Rattle.run.specs.declared.Loop.{Loop}
 use Rattle.run.specs.declared.Loop.the-variants.{Test, Count}
 
@@ -63,56 +58,65 @@ abbrev pub bodyPlace : List ℕ → ℕ → Loop → ℕ
 bodyPlace ends at Test = getD ends (at + 1) 0
 bodyPlace ends at (Count q m) = at + 1
 
-abbrev pub CountsIn : Loop → ℕ → Type 0
-CountsIn Test n = Unit {0}
-CountsIn (Count q m) n = q < n
+abbrev pub CountsIn : Loop → Type 0
+CountsIn Test = Unit {0}
+CountsIn (Count q m) = q < 32
 
 pub data Turned : Type 0 where
   again : ℕ → Lent → Turned
   over : definition.End → Turned
 
-abbrev pub turnedAt : Turn → Lent → Turned
-turnedAt (Turn.Again n) m = again n m
-turnedAt (Turn.Ended n) m = over (ended n m)
-turnedAt (Turn.Stopped k p n) m = over (stopped k p n m)
+-- by whether another turn may be due
+abbrev pub turnedAt : Bool → List ℕ → Lent → Turned
+turnedAt true s m = again (stepsLeft s) m
+turnedAt false s m = over (endAt s m)
 
 abbrev pub goOn : definition.End → Turned
 goOn (ended n m) = again n m
 goOn (stopped k p n m) = over (stopped k p n m)
 
-abbrev pub turnBy : Choice → Lent → (ℕ → Lent → definition.End) → Turned
-turnBy (Then n) m body = goOn (body n m)
-turnBy (Else n) m body = over (ended n m)
-turnBy (Stopped k p n) m body = over (stopped k p n m)
+-- by the steps left and the test
+abbrev pub turnBy : ℕ → ℕ → Outcome Bool → Lent → (ℕ → Lent → definition.End) → Turned
+turnBy at zero o m body = over (stopped 13 at 0 m)
+turnBy at (suc n) (worked true) m body = goOn (body n m)
+turnBy at (suc n) (worked false) m body = over (ended n m)
+turnBy at (suc n) (stops k) m body = over (stopped k at (suc n) m)
 
 abbrev pub turnOf : Expr syntax.Boolean → (ℕ → Lent → definition.End) → ℕ → ℕ → Lent → Turned
-turnOf b body at n m = turnBy (chosen at n (evaluate b (storeOf m))) m body
+turnOf b body at n m = turnBy at n (evaluate b (storeOf m)) m body
 
 -- what follows the body
 abbrev pub afterBody : Loop → ℕ → ℕ → Lent → definition.End
 afterBody Test at n m = ended n m
 afterBody (Count q r) at n m = assigns (increment q) at n m
 
-pub record TestsLoop (file : List ℕ) (at : ℕ) (m : Lent) (r : Tested) : Type 0 where
-  pub is : (c : syntax.Command) (p : ℕ) → PartAt file (commandPart c) at p →
-      testOutcome r ≡ evaluate (loopTest c) (storeOf m)
+pub record TestsLoop (w ends : List ℕ) (at : ℕ) (m : Lent) (s : List ℕ) (r : Bool) (s′ : List ℕ) : Type 0 where
+  pub is : (c : syntax.Command) (p : ℕ) → PartAt w ends (commandPart c) at p →
+      Answered s (evaluate (loopTest c) (storeOf m)) r s′
 
-pub record Increments (ss : List ℤ) (q at n : ℕ) (r : Turn) (after : List ℤ) : Type 0 where
-  pub is : (vs : List ℤ) → turnedAt r (lent after vs) ≡ goOn (assigns (increment q) at n (lent ss vs))
+pub record CanIncrement (q at : ℕ) (s : List ℕ) : Type 0 where
+  pub scalar : q < 32
+  pub small : at < 8192
+  pub running : number s ≡ 0
 
-pub record EndsPass (ss : List ℤ) (at : ℕ) (kind : Loop) (body : End) (r : Turn) (after : List ℤ) : Type 0 where
-  pub is : (vs : List ℤ) →
-      turnedAt r (lent after vs) ≡ goOn (onEnded (endAt body (lent ss vs)) (afterBody kind at))
+pub record Increments (ss : List ℤ) (q at : ℕ) (s s′ : List ℕ) (after : List ℤ) : Type 0 where
+  pub is : (vs : List ℤ) → endAt s′ (lent after vs) ≡ assigns (increment q) at (stepsLeft s) (lent ss vs)
 
-module _ (file : List ℕ) (at : ℕ) (m : Lent) (n : ℕ) where
-  pub record TurnsAs (r : End) (m′ : Lent) : Type 0 where
-    pub is : (c : syntax.Command) (p : ℕ) → PartAt file (commandPart c) at p →
-        endAt r m′ ≡ turns n (loopTest c) (loopBody c at) at n m
+pub record EndsPass (ss : List ℤ) (at : ℕ) (kind : Loop) (s s′ : List ℕ) (after : List ℤ) : Type 0 where
+  pub is : (vs : List ℤ) → endAt s′ (lent after vs) ≡ onEnded (endAt s (lent ss vs)) (afterBody kind at)
 
-  pub record TurnAs (r : Turn) (m′ : Lent) : Type 0 where
-    pub is : (c : syntax.Command) (p : ℕ) → PartAt file (commandPart c) at p →
-        turnedAt r m′ ≡ turnOf (loopTest c) (loopBody c at) at n m
+module _ (w ends : List ℕ) (at : ℕ) (m : Lent) (s : List ℕ) where
+  pub record TurnsAs (s′ : List ℕ) (m′ : Lent) : Type 0 where
+    pub is : (c : syntax.Command) (p : ℕ) → PartAt w ends (commandPart c) at p →
+        endAt s′ m′ ≡ turns (stepsLeft s) (loopTest c) (loopBody c at) at (stepsLeft s) m
 
-  pub record PassAs (r : Turn) (m′ : Lent) : Type 0 where
-    pub is : (c : syntax.Command) (p : ℕ) → PartAt file (commandPart c) at p →
-        turnedAt r m′ ≡ goOn (loopBody c at n m)
+  -- another turn is due only if nothing stopped the run
+  pub record TurnAs (r : Bool) (s′ : List ℕ) (m′ : Lent) : Type 0 where
+    pub running : r ≡ true → number s′ ≡ 0
+    pub is : (c : syntax.Command) (p : ℕ) → PartAt w ends (commandPart c) at p →
+        turnedAt r s′ m′ ≡ turnOf (loopTest c) (loopBody c at) at (stepsLeft s) m
+
+  pub record PassAs (r : Bool) (s′ : List ℕ) (m′ : Lent) : Type 0 where
+    pub running : r ≡ true → number s′ ≡ 0
+    pub is : (c : syntax.Command) (p : ℕ) → PartAt w ends (commandPart c) at p →
+        turnedAt r s′ m′ ≡ goOn (loopBody c at (stepsLeft s) m)

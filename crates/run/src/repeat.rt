@@ -1,39 +1,40 @@
 // The parts of a turn of a while and of a `for`: the test, the body's place, and what follows the body.
-use super::End;
 use super::Loop;
-use super::Turn;
 use super::step::store_scalar;
 use arithmetic::at_most;
 use arithmetic::sum;
 use ends::end_at;
-use evaluate::Tested;
+use evaluate::Progress;
 use evaluate::boolean::eval_boolean;
+use evaluate::stop::settle;
 use evaluate::store::value_at;
 ghost use mathlib.Core.Path.{_≡_};
 ghost use Prim.Native.Nat.{_+_, _<_};
 ghost use lib.ListN.{length};
 ghost use Rattle.execution.specs.Lent.{lent};
 ghost use Rattle.run.specs.Places.{CanRunAt};
-ghost use Rattle.run.specs.Turns.{loopWord, bodyPlace, CountsIn, TestsLoop, Increments, EndsPass};
+ghost use Rattle.run.specs.Turns.{loopWord, bodyPlace, CountsIn, CanIncrement, TestsLoop, Increments, EndsPass};
 
 // Whether a turn is due.
 pub fn loop_test(
-    w: &[u32],
-    ends: &[u32],
+    w: &[u32; 8192],
+    ends: &[u32; 8704],
     at: usize,
     kind: Loop,
-    scalars: &[i64],
-    values: &[i64],
-) -> Tested
-    requires { ⌜ CanRunAt (now w) (now ends) (lent (now scalars) (now values)) «at» (loopWord kind) ⌝ }
-    ensures { λ r. ⌜ TestsLoop (now (w .entry)) «at» (lent (now (scalars .entry)) (now (values .entry))) r ⌝ }
+    scalars: &[i64; 32],
+    values: &[i64; 2048],
+    progress: &mut Progress,
+) -> bool
+    requires { ⌜ CanRunAt (now w) (now ends) (now progress) «at» (loopWord kind) ⌝ }
+    ensures { λ r. ⌜ TestsLoop (now (w .entry)) (now (ends .entry)) «at»
+        (lent (now (scalars .entry)) (now (values .entry))) (now (progress .entry)) r (now (progress .exit)) ⌝ }
 {
     match kind {
-        Loop::Test => eval_boolean(w, ends, at + 1, scalars, values),
+        Loop::Test => eval_boolean(w, ends, at + 1, scalars, values, progress),
         Loop::Count(q, m) => {
             let count = value_at(scalars, q as usize);
             let bound = value_at(scalars, m as usize);
-            Tested::Is(at_most(count, bound))
+            at_most(count, bound)
         }
     }
 }
@@ -49,26 +50,26 @@ pub fn body_at(ends: &[u32], at: usize, kind: Loop) -> usize
 }
 
 // After the body: a `for` increments its scalar, which is one step.
-pub fn end_pass(scalars: &mut [i64], at: usize, kind: Loop, body: End) -> Turn
-    requires { ⌜ CountsIn kind (length (now scalars)) ⌝ }
-    ensures { λ r. ⌜ EndsPass (now (scalars .entry)) «at» kind body r (now (scalars .exit)) ⌝ }
+pub fn end_pass(scalars: &mut [i64; 32], at: usize, kind: Loop, progress: &mut Progress)
+    requires { ⌜ («at» < 8192) × CountsIn kind ⌝ }
+    ensures { λ _. ⌜ EndsPass (now (scalars .entry)) «at» kind (now (progress .entry)) (now (progress .exit))
+        (now (scalars .exit)) ⌝ }
 {
-    match body {
-        End::Ended(n) => match kind {
-            Loop::Test => Turn::Again(n),
-            Loop::Count(q, _) => increment(scalars, q as usize, at, n),
-        },
-        End::Stopped(k, p, n) => Turn::Stopped(k, p, n),
+    match kind {
+        Loop::Test => {}
+        Loop::Count(q, _) => {
+            if progress[0] == 0 {
+                increment(scalars, q as usize, at, progress);
+            }
+        }
     }
 }
 
-fn increment(scalars: &mut [i64], q: usize, at: usize, left: usize) -> Turn
-    requires { ⌜ q < length (now scalars) ⌝ }
-    ensures { λ r. ⌜ Increments (now (scalars .entry)) q «at» left r (now (scalars .exit)) ⌝ }
+fn increment(scalars: &mut [i64; 32], q: usize, at: usize, progress: &mut Progress)
+    requires { ⌜ CanIncrement q «at» (now progress) ⌝ }
+    ensures { λ _. ⌜ Increments (now (scalars .entry)) q «at» (now (progress .entry)) (now (progress .exit))
+        (now (scalars .exit)) ⌝ }
 {
-    let next = sum(value_at(scalars, q), 1);
-    match store_scalar(scalars, q, next, at, left) {
-        End::Ended(n) => Turn::Again(n),
-        End::Stopped(k, p, n) => Turn::Stopped(k, p, n),
-    }
+    let next = settle(sum(value_at(scalars, q), 1), progress);
+    store_scalar(scalars, q, next, progress, at);
 }

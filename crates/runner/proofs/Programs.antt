@@ -1,27 +1,34 @@
 -- Refusals 10 and 11, and the run of a file's command.
 -- Assumes nothing.
 --     over-budget, ill-scalars, ill-values    10 and 11
---     can-run, can-report, reported           the command can be run; the steps left are within the budget; the run
-use mathlib.Core.Path.{_≡_, refl, sym, ap, subst, _∙_}
+--     reports-done, reports-refused           what a run came to
+--     copied                                  a list that was copied whole
+--     can-report, reported                    the steps left are within the budget; the run
+use mathlib.Core.Path.{_≡_, refl, sym, ap, ap₂, subst, _∙_}
 use mathlib.Core.Bool.{Bool, true, false}
 use mathlib.Core.List.{List}
-use Prim.Native.Nat.{ℕ, _+_, _<_, _≤_}
+use Prim.Native.Nat.{ℕ, zero, suc, _+_, _-_, _<_, _≤_}
 use native.Mathlib.Omega.{arith}
 use borrow.Author.Tests.{lt-ltb, le-ltb, eq-eqb, ne-eqb}
-use lib.ListN.{length}
+use lib.IntN.{ℤ}
+use lib.ListN.{length, drop}
+use lib.Seq.{paste, take-all}
+use Rattle.language.specs.Syntax as syntax
 use Rattle.rules.specs.Words.{commandWords}
-use Rattle.layout.specs.File.{File, wordsRead}
+use Rattle.layout.specs.EvidenceWords.{commandPart}
+use Rattle.layout.specs.File.{File}
 use Rattle.execution.specs.Lent.{Lent}
 use Rattle.execution.specs.Run.{run}
 use Rattle.execution.specs.Ran.{notRun, ranOf, wellSized, runFile}
-use Rattle.context.specs.Contexts.{contextOf}
-use Rattle.context.specs.declared.Context.{Context}
-use Rattle.run.specs.Steps.{endAt}
-use Rattle.run.specs.Places.{CanRun, RunsAs}
-use Rattle.run.specs.declared.End.{End}
-use Rattle.run.specs.declared.End.the-variants.{Ended, Stopped}
+use Rattle.context.specs.Contexts.{refusal}
+use Rattle.heads.specs.Stands.{PartAt}
+use Rattle.evaluate.specs.Evaluated.{number}
+use Rattle.evaluate.proofs.Elements.{whole}
+use Rattle.run.specs.Steps.{stepsLeft, stopPlace, endBy, endAt}
+use Rattle.run.specs.Places.{RunsAs}
 use Rattle.run.proofs.Bounds.{Bounded, run-bounded}
-use Rattle.runner.specs.Running.{ranAt, refusedAt, ranBy, RanBy, CanReport, Reports, CanRunFile}
+use Rattle.runner.specs.Running.{ranAt, refusedAt, RanFile, CanReport, Reports, CanRunCopied}
+use Rattle.runner.specs.declared.Answer.the-variants.{Done, Refused}
 use Rattle.runner.specs.declared.Ran.{Ran}
 
 -- by a test's result
@@ -53,47 +60,60 @@ no-values m k h = rw (eq-eqb (length (m .scalars)) 32 k) (rw (ne-eqb (length (m 
 both-sized : (m : Lent) → length (m .scalars) ≡ 32 → length (m .values) ≡ 2048 → wellSized m ≡ true
 both-sized m k h = rw (eq-eqb (length (m .scalars)) 32 k) (rw (eq-eqb (length (m .values)) 2048 h))
 
-bounded-report : (b : ℕ) (e : End) (m : Lent) (n : ℕ) → Bounded b n (endAt e m) → CanReport e n
-bounded-report b (Ended l) m n h = h
-bounded-report b (Stopped k p l) m n h = h .0
+bounded-left : (b k p n budget : ℕ) (m : Lent) → Bounded b budget (endBy k p n m) → n ≤ budget
+bounded-left b zero p n budget m h = h
+bounded-left b (suc k) p n budget m h = h .0
 
-module _ {w ends : List ℕ} {x : Context} (c : CanRunFile w ends x) (budget : ℕ) (m : Lent) where
-  by-file : {r : Ran} {m′ : Lent} → ranAt r m′ ≡ runFile (c .tree) budget m →
-      RanBy (wordsRead (contextOf x) w) budget m r m′
-  by-file h = record { is = h ∙ ap (λ x. ranBy x budget m) (sym (c .was-read)) }
+module _ {w ends : List ℕ} (budget : ℕ) (m : Lent) {r : Ran} where
+  pub over-budget : 1000000 < budget → r ≡ refusedAt 10 0 → RanFile w ends budget m r m
+  over-budget l e = record { is = λ f x. ap (λ r. ranAt r m) e ∙ sym (over-is f budget m l) }
 
-  pub over-budget : {r : Ran} → 1000000 < budget → r ≡ refusedAt 10 0 →
-      RanBy (wordsRead (contextOf x) w) budget m r m
-  over-budget l e = by-file (ap (λ r. ranAt r m) e ∙ sym (over-is (c .tree) budget m l))
+  pub ill-scalars : budget ≤ 1000000 → (length (m .scalars) ≡ 32 → ⊥) → r ≡ refusedAt 11 0 → RanFile w ends budget m r m
+  ill-scalars l h e = record { is = λ f x. ap (λ r. ranAt r m) e ∙ sym (ill-is f budget m l (no-scalars m h)) }
 
-  pub ill-scalars : {r : Ran} → budget ≤ 1000000 → (length (m .scalars) ≡ 32 → ⊥) → r ≡ refusedAt 11 0 →
-      RanBy (wordsRead (contextOf x) w) budget m r m
-  ill-scalars l h e = by-file (ap (λ r. ranAt r m) e ∙ sym (ill-is (c .tree) budget m l (no-scalars m h)))
+  pub ill-values : budget ≤ 1000000 → length (m .scalars) ≡ 32 → (length (m .values) ≡ 2048 → ⊥) → r ≡ refusedAt 11 0 →
+      RanFile w ends budget m r m
+  ill-values l k h e = record { is = λ f x. ap (λ r. ranAt r m) e ∙ sym (ill-is f budget m l (no-values m k h)) }
 
-  pub ill-values : {r : Ran} → budget ≤ 1000000 → length (m .scalars) ≡ 32 → (length (m .values) ≡ 2048 → ⊥) →
-      r ≡ refusedAt 11 0 → RanBy (wordsRead (contextOf x) w) budget m r m
-  ill-values l k h e = by-file (ap (λ r. ranAt r m) e ∙ sym (ill-is (c .tree) budget m l (no-values m k h)))
+-- ---- a run, by its progress
+pub reports-done : {s : List ℕ} {budget n : ℕ} → number s ≡ 0 → n ≡ stepsLeft s →
+    Reports s budget (record { answer = Done; steps = budget - n })
+reports-done {s} {budget} e h =
+    record { is = λ m. ap₂ (λ k n. ranOf budget (endBy k (stopPlace s) n m)) (sym e) h }
 
-  pub can-run : length (m .scalars) ≡ 32 → length (m .values) ≡ 2048 → CanRun w ends m 1
-  can-run k h = record {
-    ends-of = c .ends-of;
-    command = record { tree = c .tree .program; past = c .tree .preAt; there = c .program };
-    scalars-sized = k;
-    values-sized = h;
+by-refusal : (k p n budget : ℕ) (m : Lent) → (k ≡ 0 → ⊥) →
+    ranAt (record { answer = Refused (refusal k p); steps = budget - n }) m ≡ ranOf budget (endBy k p n m)
+by-refusal zero p n budget m h = absurd (h refl)
+by-refusal (suc k) p n budget m h = refl
+
+pub reports-refused : {s : List ℕ} {budget n p : ℕ} → (number s ≡ 0 → ⊥) → n ≡ stepsLeft s → p ≡ stopPlace s →
+    Reports s budget (record { answer = Refused (refusal (number s) p); steps = budget - n })
+reports-refused {s} {budget} {n} {p} z h i = record {
+  is = λ m. by-refusal (number s) p n budget m z ∙ ap₂ (λ p n. ranOf budget (endBy (number s) p n m)) i h;
+}
+
+-- a list that was copied whole
+pub copied : (n : ℕ) (d s : List ℤ) {l : List ℤ} → length d ≡ n → length s ≡ n → l ≡ paste d 0 (drop 0 s) n → l ≡ s
+copied n d s h k e = e ∙ whole n d s h ∙ take-all n s (omega arith)
+
+-- the run from the copies m₁ of the store to m₂, which are put back as m₃
+module _ {w ends : List ℕ} {m m₁ m₂ : Lent} {budget : ℕ} (c : CanRunCopied w ends m budget) (to : m₁ ≡ m)
+    {s s′ : List ℕ} (f : RunsAs w ends 1 m₁ s s′ m₂) (b : stepsLeft s ≡ budget) where
+  came : (d : syntax.Command) {p : ℕ} → PartAt w ends (commandPart d) 1 p → endAt s′ m₂ ≡ run d 1 budget m
+  came d {p} x = f .is d p x ∙ ap₂ (λ n k. run d 1 n k) b to
+
+  pub can-report : CanReport s′ budget
+  can-report =
+      let d = c .command .tree in
+      let past = 1 + length (commandWords d) in
+      record {
+        within = bounded-left past (number s′) (stopPlace s′) (stepsLeft s′) budget m₂
+            (subst (Bounded past budget) (sym (came d (c .command .there))) (run-bounded past d 1 budget m (omega arith)));
+      }
+
+  pub reported : {r : Ran} {m₃ : Lent} → m₃ ≡ m₂ → Reports s′ budget r → RanFile w ends budget m r m₃
+  reported {r} back g = record {
+    is = λ y x.
+        ap (ranAt r) back ∙ g .is m₂ ∙ ap (ranOf budget) (came (y .program) x)
+        ∙ sym (run-is y budget m (c .few) (both-sized m (c .scalars-sized) (c .values-sized)));
   }
-
-  module _ {e : End} {m′ : Lent} (f : RunsAs w 1 m budget e m′) where
-    came : endAt e m′ ≡ run (c .tree .program) 1 budget m
-    came = f .is (c .tree .program) (c .tree .preAt) (c .program)
-
-    pub can-report : CanReport e budget
-    can-report =
-        let past = 1 + length (commandWords (c .tree .program)) in
-        bounded-report past e m′ budget
-        (subst (Bounded past budget) (sym came) (run-bounded past (c .tree .program) 1 budget m (omega arith)))
-
-    pub reported : {r : Ran} → budget ≤ 1000000 → length (m .scalars) ≡ 32 → length (m .values) ≡ 2048 →
-        Reports e budget r →
-        RanBy (wordsRead (contextOf x) w) budget m r m′
-    reported l k h g =
-        by-file (g .is m′ ∙ ap (ranOf budget) came ∙ sym (run-is (c .tree) budget m l (both-sized m k h)))

@@ -3,26 +3,23 @@
 -- nothing.
 --     ranAt, refusedAt            the code's answer and the store then, as the definition's; a refusal before the run
 --     ranBy, RanBy                by what reading gives; what the functions promise
---     CanReport, Reports          what a run came to
---     CanRunFile                  the words of a file that refusals 1 to 7 let pass
+--     RanFile                     what a run of words comes to
+--     CanReport, Reports          a run, by its progress
+--     CanRunCopied                a run that refusals 10 and 11 let pass
 --     SmallRan, CanPack           an answer that can be packed
 use mathlib.Core.Path.{_≡_}
 use mathlib.Core.List.{List}
 use Prim.Native.Nat.{ℕ, _≤_}
+use lib.ListN.{length}
 use Rattle.layout.specs.Reading.{Reading, read, fault}
-use Rattle.layout.specs.File.{File, wordsRead}
+use Rattle.layout.specs.File.{File}
 use Rattle.layout.specs.EvidenceWords.{commandPart}
 use Rattle.execution.specs.Lent.{Lent}
 use Rattle.execution.specs.Ran as definition
 use Rattle.execution.specs.Ran.{notRun, ranOf, runFile}
-use Rattle.ends.specs.Ends.{EndsOf}
-use Rattle.context.specs.Contexts.{contextOf, refusal}
-use Rattle.context.specs.declared.Context.{Context}
-use Rattle.reader.specs.declared.Layout.the-variants as Layout
-use Rattle.heads.specs.Stands.{PartAt}
-use Rattle.run.specs.Steps.{endAt}
-use Rattle.run.specs.declared.End.{End}
-use Rattle.run.specs.declared.End.the-variants.{Ended, Stopped}
+use Rattle.context.specs.Contexts.{refusal}
+use Rattle.heads.specs.Stands.{PartAt, CommandStands}
+use Rattle.run.specs.Steps.{stepsLeft, endAt}
 use Rattle.runner.specs.Ran.{answerOf}
 use Rattle.runner.specs.declared.Answer.the-variants.{Refused}
 use Rattle.runner.specs.declared.Ran.{Ran}
@@ -40,20 +37,23 @@ ranBy (fault k p) budget m = notRun k p m
 pub record RanBy (x : Reading File) (budget : ℕ) (m : Lent) (r : Ran) (m′ : Lent) : Type 0 where
   pub is : ranAt r m′ ≡ ranBy x budget m
 
+-- what a run of words comes to, whatever file they are of
+pub record RanFile (w ends : List ℕ) (budget : ℕ) (m : Lent) (r : Ran) (m′ : Lent) : Type 0 where
+  pub is : (f : File) → PartAt w ends (commandPart (f .program)) 1 (f .preAt) → ranAt r m′ ≡ runFile f budget m
+
 -- the steps left are within the budget
-abbrev pub CanReport : End → ℕ → Type 0
-CanReport (Ended n) budget = n ≤ budget
-CanReport (Stopped k p n) budget = n ≤ budget
+pub record CanReport (s : List ℕ) (budget : ℕ) : Type 0 where
+  pub within : stepsLeft s ≤ budget
 
-pub record Reports (e : End) (budget : ℕ) (r : Ran) : Type 0 where
-  pub is : (m : Lent) → ranAt r m ≡ ranOf budget (endAt e m)
+pub record Reports (s : List ℕ) (budget : ℕ) (r : Ran) : Type 0 where
+  pub is : (m : Lent) → ranAt r m ≡ ranOf budget (endAt s m)
 
-pub record CanRunFile (file ends : List ℕ) (x : Context) : Type 0 where
-  pub ends-of : EndsOf file ends
-  pub tree : File
-  pub end : ℕ
-  pub was-read : wordsRead (contextOf x) file ≡ read tree end
-  pub program : PartAt file (commandPart (tree .program)) 1 (tree .preAt)
+-- 10 and 11 are not due
+pub record CanRunCopied (w ends : List ℕ) (m : Lent) (budget : ℕ) : Type 0 where
+  pub command : CommandStands w ends 1
+  pub few : budget ≤ 1000000
+  pub scalars-sized : length (m .scalars) ≡ 32
+  pub values-sized : length (m .values) ≡ 2048
 
 -- the steps and the place of an answer are small, so that it can be packed
 abbrev pub SmallAnswer : definition.Answer → Type 0

@@ -3,15 +3,17 @@ use super::Answer;
 use super::Ran;
 use context::Context;
 use context::Refusal;
+use evaluate::Progress;
+use evaluate::store::copy;
 use file::read_file;
 use reader::Layout;
-use run::End;
 use run::command::run_command;
 ghost use mathlib.Core.Path.{_≡_};
-ghost use Rattle.layout.specs.File.{fileOf, wordsRead};
+ghost use Rattle.layout.specs.File.{fileOf};
 ghost use Rattle.context.specs.Contexts.{contextOf};
 ghost use Rattle.execution.specs.Lent.{lent};
-ghost use Rattle.runner.specs.Running.{refusedAt, CanReport, Reports, RanBy, CanRunFile};
+ghost use Rattle.heads.specs.Stands.{CommandStands};
+ghost use Rattle.runner.specs.Running.{refusedAt, CanReport, Reports, CanRunCopied, RanFile, RanBy};
 
 // A refusal before the run: no step is finished.
 fn refused(number: u32, place: usize) -> Ran
@@ -23,34 +25,68 @@ fn refused(number: u32, place: usize) -> Ran
     }
 }
 
-// What a run on a budget came to.
-fn report(end: End, budget: usize) -> Ran
-    requires { ⌜ CanReport end budget ⌝ }
-    ensures { λ r. ⌜ Reports end budget r ⌝ }
+fn wide(x: u32) -> usize
+    ensures { λ r. ⌜ r ≡ x ⌝ }
 {
-    match end {
-        End::Ended(left) => Ran {
+    x as usize
+}
+
+// What a run on a budget came to.
+fn report(progress: &Progress, budget: usize) -> Ran
+    requires { ⌜ CanReport (now progress) budget ⌝ }
+    ensures { λ r. ⌜ Reports (now (progress .entry)) budget r ⌝ }
+{
+    let number = progress[0];
+    let left = wide(progress[1]);
+    let place = wide(progress[2]);
+    let steps = budget - left;
+    if number == 0 {
+        return Ran {
             answer: Answer::Done,
-            steps: budget - left,
-        },
-        End::Stopped(number, place, left) => Ran {
-            answer: Answer::Refused(Refusal { number, place }),
-            steps: budget - left,
-        },
+            steps,
+        };
+    }
+    Ran {
+        answer: Answer::Refused(Refusal { number, place }),
+        steps,
     }
 }
 
-// Refusals 10 to 15, of words that refusals 2 to 7 let pass. The command stands at place 1.
-fn run_program(
-    w: &[u32],
-    ends: &[u32],
-    context: Context,
+// The run of the command at place 1, in copies of the store that have their length in their type: so the calls of a run
+// hand on addresses alone.
+fn run_copied(
+    w: &[u32; 8192],
+    ends: &[u32; 8704],
+    own_scalars: &mut [i64; 32],
+    own_values: &mut [i64; 2048],
     scalars: &mut [i64],
     values: &mut [i64],
     budget: usize,
 ) -> Ran
-    requires { ⌜ CanRunFile (now w) (now ends) context ⌝ }
-    ensures { λ r. ⌜ RanBy (wordsRead (contextOf context) (now (w .entry))) budget
+    requires { ⌜ CanRunCopied (now w) (now ends) (lent (now scalars) (now values)) budget ⌝ }
+    ensures { λ r. ⌜ RanFile (now (w .entry)) (now (ends .entry)) budget
+        (lent (now (scalars .entry)) (now (values .entry))) r (lent (now (scalars .exit)) (now (values .exit))) ⌝ }
+{
+    copy(own_scalars, 0, scalars, 0, 32);
+    copy(own_values, 0, values, 0, 2048);
+    let mut progress = [0u32; 3];
+    progress[1] = budget as u32;
+    run_command(w, ends, 1, own_scalars, own_values, &mut progress);
+    copy(scalars, 0, own_scalars, 0, 32);
+    copy(values, 0, own_values, 0, 2048);
+    report(&progress, budget)
+}
+
+// Refusals 10 to 15, of words that refusals 2 to 7 let pass. The command stands at place 1.
+fn run_program(
+    w: &[u32; 8192],
+    ends: &[u32; 8704],
+    scalars: &mut [i64],
+    values: &mut [i64],
+    budget: usize,
+) -> Ran
+    requires { ⌜ CommandStands (now w) (now ends) 1 ⌝ }
+    ensures { λ r. ⌜ RanFile (now (w .entry)) (now (ends .entry)) budget
         (lent (now (scalars .entry)) (now (values .entry))) r (lent (now (scalars .exit)) (now (values .exit))) ⌝ }
 {
     if 1000000 < budget {
@@ -62,8 +98,17 @@ fn run_program(
     if values.len() != 2048 {
         return refused(11, 0);
     }
-    let end = run_command(w, ends, 1, scalars, values, budget);
-    report(end, budget)
+    let mut own_scalars = [0i64; 32];
+    let mut own_values = [0i64; 2048];
+    run_copied(
+        w,
+        ends,
+        &mut own_scalars,
+        &mut own_values,
+        scalars,
+        values,
+        budget,
+    )
 }
 
 // Refusals 1 to 7, then the rest.
@@ -81,10 +126,7 @@ pub(crate) fn run_bytes(
     let mut table = [0u32; 8704];
     let layout = read_file(file, &mut words, &mut table, context);
     match layout {
-        Layout::Found(_) => {
-            let n = file.len() / 4;
-            run_program(&words[..n], &table, context, scalars, values, budget)
-        }
+        Layout::Found(_) => run_program(&words, &table, scalars, values, budget),
         Layout::Refused(refusal) => refused(refusal.number, refusal.place),
     }
 }

@@ -1,6 +1,6 @@
 -- Sets as lists of their members' halves, compared as document 01 compares sets ("Language", "Rules").
 -- Working: `stands-numbers`, `within-numbers`, `same-numbers` and `without-numbers` of proofs/Tests say that these are
--- the tests of `Tests` in rules, `seen-all` and `written-is` of proofs/Trees that they are of the sets that stand
+-- the tests of rules/specs/Tests, `seen-all` and `written-is` of proofs/Trees that they are of the sets that stand
 -- there. Assumes nothing.
 --     seenAll, written               the members that stand one after the other, seen as a view says; as they stand
 --     standsIn, withinAll, sameAll   one of a list; each of a list is one of another; two lists with the same elements

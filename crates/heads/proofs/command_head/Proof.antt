@@ -9,7 +9,7 @@ use lib.Dec.{leb}
 use Rattle.layout.specs.Bytes.{payloadAt}
 use Rattle.words.specs.Decode.{commandOf}
 use Rattle.words.specs.declared.CommandWord.the-variants.{Skip, Sequence, Assert, AssignScalar, AssignArray, If, While, For}
-use Rattle.heads.proofs.Parts.{command-starts, command-settled}
+use Rattle.heads.proofs.Parts.{settled}
 use Rattle.heads.proofs.command_head.Statement.{statement}
 use Rattle.heads.proofs.command_head.Tie as tie
 
@@ -18,29 +18,29 @@ unfolding commandOf
 command-head-spec =
     tie.close
     (tie.spec
-    (λ c. let h = command-starts (c .before .pre) in omega arith)
-    (λ c. command-starts (c .before .before .pre))
+    (λ c. let h = c .before .pre .inside in omega arith)
+    (λ c. c .before .before .pre .inside)
     (λ c κs. search needs)
     (λ c κs. search needs)
     (λ c. let s = c .before .before .before .before .before in let p = payloadAt (s .args .w .now) (s .args .at) in
-    command-settled (c .before .before .kind .ensures) 24 (c .match .keys1) (leb p 0) Skip (s .pre) refl)
+    settled (s .pre) (c .before .before .kind .ensures) 24 (c .match .keys1) (leb p 0) Skip refl)
     (λ c. let s = c .before .before .before .before .before in let p = payloadAt (s .args .w .now) (s .args .at) in
-    command-settled (c .before .before .kind .ensures) 25 (c .match .keys2) (leb p 0) Sequence (s .pre) refl)
+    settled (s .pre) (c .before .before .kind .ensures) 25 (c .match .keys2) (leb p 0) Sequence refl)
     (λ c. let s = c .before .before .before .before .before in let p = payloadAt (s .args .w .now) (s .args .at) in
-    command-settled (c .before .before .kind .ensures) 26 (c .match .keys3) (leb p 0) Assert (s .pre) refl)
+    settled (s .pre) (c .before .before .kind .ensures) 26 (c .match .keys3) (leb p 0) Assert refl)
     (λ c. let s = c .before .before .before .before .before in let p = payloadAt (s .args .w .now) (s .args .at) in
-    ap AssignScalar (c .before .payload .ensures) ∙ command-settled (c .before .before .kind .ensures) 27
-    (c .match .keys4) (leb p 31) (AssignScalar p) (s .pre) refl)
+    ap AssignScalar (c .before .payload .ensures) ∙ settled (s .pre) (c .before .before .kind .ensures) 27
+    (c .match .keys4) (leb p 31) (AssignScalar p) refl)
     (λ c. let s = c .before .before .before .before .before in let p = payloadAt (s .args .w .now) (s .args .at) in
-    ap AssignArray (c .before .payload .ensures) ∙ command-settled (c .before .before .kind .ensures) 28
-    (c .match .keys5) (leb p 31) (AssignArray p) (s .pre) refl)
+    ap AssignArray (c .before .payload .ensures) ∙ settled (s .pre) (c .before .before .kind .ensures) 28
+    (c .match .keys5) (leb p 31) (AssignArray p) refl)
     (λ c. let s = c .before .before .before .before .before in let p = payloadAt (s .args .w .now) (s .args .at) in
-    command-settled (c .before .before .kind .ensures) 29 (c .match .keys6) (leb p 0) If (s .pre) refl)
+    settled (s .pre) (c .before .before .kind .ensures) 29 (c .match .keys6) (leb p 0) If refl)
     (λ c. let s = c .before .before .before .before .before in let p = payloadAt (s .args .w .now) (s .args .at) in
-    command-settled (c .before .before .kind .ensures) 30 (c .match .keys7) (leb p 0) While (s .pre) refl)
+    settled (s .pre) (c .before .before .kind .ensures) 30 (c .match .keys7) (leb p 0) While refl)
     (λ c. let s = c .before .before .before .before .before in let p = payloadAt (s .args .w .now) (s .args .at) in
-    ap (λ (z : ℕ). For (z % 32) (z / 32)) (c .before .payload .ensures) ∙ command-settled
-    (c .before .before .kind .ensures) 31 (c .match .keys8) (leb p 1023) (For (p % 32) (p / 32)) (s .pre) refl)
+    ap (λ (z : ℕ). For (z % 32) (z / 32)) (c .before .payload .ensures) ∙ settled (s .pre)
+    (c .before .before .kind .ensures) 31 (c .match .keys8) (leb p 1023) (For (p % 32) (p / 32)) refl)
     (λ c. let r = c .match .rest in simp (
       ne-eqb _ _ (λ e. r .1 (c .before .before .kind .ensures ∙ e)),
       ne-eqb _ _ (λ e. r .0 .1 (c .before .before .kind .ensures ∙ e)),

@@ -12,5 +12,5 @@ body-at-spec =
     (λ c. search needs) (λ c. search needs) (λ c κs. search needs) (λ c. search needs) (λ c. search needs)
     (λ c. let s = (c .before .before .before .before) in
     c .end-at .ensures ∙ ap (bodyPlace (s .args .ends .now) (s .args .at)) (sym (c .before .enum-told .given .1)))
-    (λ c. let s = (c .before .before .before) in
-    ap (bodyPlace (s .args .ends .now) (s .args .at)) (sym (c .enum-told2 .given .1))))
+    (λ c. let s = (c .before .before .before) in ap (bodyPlace (s .args .ends .now) (s .args .at)) (sym
+    (c .enum-told2 .given .1))))

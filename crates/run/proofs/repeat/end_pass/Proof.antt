@@ -1,6 +1,5 @@
 -- `run::repeat::end_pass` meets its contract. Assumes nothing.
 use mathlib.Core.Path.{subst}
-use lib.ListN.{length}
 use Rattle.run.specs.Turns.{CountsIn}
 use Rattle.run.proofs.Commands.{pass-while, pass-for, pass-stopped}
 use borrow.Author.Needs.{needs}
@@ -12,11 +11,13 @@ end-pass-spec =
     tie.close
     (tie.spec
     (λ c. search needs) (λ c. search needs) (λ c. search needs) (λ c. search needs)
-    (λ c κs. let s = (c .before .before .before .before .before .before .before) in
-    subst (λ k. CountsIn k (length (s .args .scalars .now))) (c .before .before .kind .given .1) (s .pre))
-    (λ c. search needs)
-    (λ c. pass-while (c .before .before .before .body .given .1) (c .enum-told .given .1))
-    (λ c. search needs)
-    (λ c. pass-for (c .before .before .before .before .before .before .before .body .given .1)
-    (c .before .before .before .before .kind .given .1) (c .before .increment .ensures))
-    (λ c. pass-stopped (c .before .body2 .given .1)))
+    (λ c κs. record {
+      scalar = subst CountsIn (c .before .before .before .before .before .kind .given .1)
+          ((c .before .before .before .before .before .before .before) .pre .1);
+      small = (c .before .before .before .before .before .before .before) .pre .0;
+      running = c .before .before .if1 .taken;
+    })
+    (λ c. pass-while (c .enum-told .given .1))
+    (λ c. pass-for (c .before .before .before .before .before .before .kind .given .1)
+    (c .before .before .before .if1 .taken) (c .increment .ensures))
+    (λ c. pass-stopped (c .if1 .left)))

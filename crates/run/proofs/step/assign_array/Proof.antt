@@ -1,6 +1,6 @@
 -- `run::step::assign_array` meets its contract. Assumes nothing.
 use native.Mathlib.Omega.{arith}
-use Rattle.heads.proofs.Parts.{command-starts}
+use Rattle.heads.proofs.Parts.{command-early}
 use Rattle.run.proofs.Bodies.{array-can}
 use Rattle.run.proofs.Commands.{array-runs}
 use borrow.Author.Needs.{needs}
@@ -11,12 +11,16 @@ pub assign-array-spec : {M : Type 1} → statement M
 assign-array-spec =
     tie.close
     (tie.spec
-    (λ c. let s = (c .before .before) in let h = command-starts (s .pre .can .command) in omega arith)
-    (λ c. search needs)
-    (λ c κs. (array-can ((c .before .before .before .before) .pre) .0, search needs))
-    (λ c. search needs)
-    (λ c κs. let s = (c .before .before .before .before .before .before .before .before) in
-    record { values-sized = s .pre .can .values-sized; array = array-can (s .pre) .1; scratch-sized = search needs })
-    (λ c. search needs)
-    (λ c. array-runs ((c .before .before .before .before .before .before .before .before .before .before) .pre .head)
-    (c .before .before .before .before .before .eval-array .ensures) (c .before .store-array .ensures)))
+    (λ c. let h = command-early (c .pre .can .command) in omega arith)
+    (λ c κs. array-can ((c .before .before .before) .pre) .0)
+    (λ c κs. (
+      array-can ((c .before .before .before .before .before .before .before) .pre) .1,
+      record {
+        sized = search
+            needs;
+        small = command-early ((c .before .before .before .before .before .before .before) .pre .can .command);
+      },
+    ))
+    (λ c. let p = (c .before .before .before .before .before .before .before .before) .pre in
+    array-runs (p .can .running) (p .head) (c .before .before .before .before .eval-array .ensures)
+    (c .store-array .ensures)))

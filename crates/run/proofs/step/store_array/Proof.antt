@@ -1,6 +1,7 @@
 -- `run::step::store_array` meets its contract. Assumes nothing.
-use Rattle.evaluate.specs.Evaluated.{fillOutcome}
-use Rattle.run.proofs.Steps.{array-none, array-given, array-stops}
+use mathlib.Core.Path.{subst}
+use Rattle.run.specs.Steps.{Stepped}
+use Rattle.run.proofs.Steps.{array-stored, array-kept}
 use borrow.Author.Needs.{needs}
 use Rattle.run.proofs.step.store_array.Statement.{statement}
 use Rattle.run.proofs.step.store_array.Tie as tie
@@ -9,14 +10,8 @@ pub store-array-spec : {M : Type 1} → statement M
 store-array-spec =
     tie.close
     (tie.spec
-    (λ c. let a = (c .before) .args in
-    array-none (a .at) (a .left) (a .values .now) (a .a) (fillOutcome (a .array) (a .scratch .now)) (c .if1 .taken))
-    (λ c. search needs) (λ c. search needs) (λ c κs. search needs) (λ c. search needs) (λ c. search needs)
+    (λ c κs. search needs) (λ c. search needs) (λ c κs. search needs) (λ c. search needs)
+    (λ c. array-stored (subst (Stepped _ _ _) (c .before .before .before .if1 .taken)
+    (c .before .before .before .before .before .before .take-step .ensures)) (c .copy .ensures))
     (λ c. search needs)
-    (λ c. let a = (c .before .before .before .before .before .before) .args in
-    array-given (a .at) (a .left) (a .values .now) (a .a) (a .scratch .now) _
-    (c .before .before .before .before .before .if1 .left) (c .before .before .before .enum-told .given .1)
-    (c .before .copy .ensures))
-    (λ c. let a = (c .before .before .before .before) .args in
-    array-stops (a .at) (a .left) (a .values .now) (a .a) (a .scratch .now) (c .before .before .before .if1 .left)
-    (c .before .array .given .1)))
+    (λ c. array-kept (subst (Stepped _ _ _) (c .if1 .left) (c .before .before .before .take-step .ensures))))
