@@ -1,5 +1,5 @@
 -- What the functions that walk an expression ask for and promise.
--- Working: `written-any` of proofs/Operands says that a written expression stands so; `replaced-at` of pre_rules/proofs/Assertions
+-- Working: `written-any` of proofs/Operands says that a written expression stands so; `replaced-at` of pre_compound/proofs/Assertions
 -- ties what is matched to the rules' `replace`. Assumes nothing.
 --     ExpressionAt, AnyAt, Chained    an expression of a sort; one of any sort; so many of them, one after the other
 --     CanMatch, CanMatchAny           what the functions ask for
