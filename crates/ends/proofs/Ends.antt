@@ -10,7 +10,7 @@ use lib.ListN.{length, getD, drop}
 use Rattle.layout.specs.Bytes.{kindAt, payloadAt}
 use Rattle.layout.specs.Nodes.{Node, nodePart, partsOf, countOf}
 use Rattle.layout.specs.Standing.{PartStands, Chain}
-use Rattle.layout.proofs.Nodes.{law, no-level, Opened, opened}
+use Rattle.layout.proofs.Nodes.{node-law, no-level, Opened, opened}
 use Rattle.ends.specs.Sizes.{past, sizes}
 use Rattle.ends.proofs.Sizes.{sizes-length, sizes-at, past-more}
 
@@ -59,5 +59,5 @@ module _ (file : List ℕ) where
   node-sized zero x at p s = absurd (no-level x (s .fit))
   node-sized (suc d) x at p s =
       let o = opened x d s in
-      by-word x o (ap₂ countOf (o .kind) (o .content) ∙ law x .count)
+      by-word x o (ap₂ countOf (o .kind) (o .content) ∙ node-law x .count)
       (parts-run (λ y i j t. node-sized d y i j t) (partsOf x) (at + 1) p (o .parts-at))

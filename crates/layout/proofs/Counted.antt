@@ -33,7 +33,7 @@ use Rattle.layout.specs.Nodes.{kindOf, AllInRange}
 use Rattle.layout.specs.File.{File}
 use Rattle.layout.specs.FileWords.{fileParts, FileSpelled}
 use Rattle.layout.specs.Counted.{isEvidence, countEvidence}
-use Rattle.layout.proofs.Nodes.{law, no-level, kind-at}
+use Rattle.layout.proofs.Nodes.{node-law, no-level, kind-at}
 use Rattle.layout.proofs.Forms.{sort-kind, low-kind}
 use Rattle.layout.proofs.Range.{parts-range}
 
@@ -94,7 +94,7 @@ node-none : (d : ℕ) (x : Node) → FitsNode x d → evidenceIn (nodeWords x) �
 unfolding evidenceIn
 node-none zero x h = absurd (no-level x h)
 node-none (suc d) x h =
-    rw (law x .spelling, head-none x) (parts-none (λ y g. node-none d y g) (partsOf x) 0 (law x .fits d 0 h .1))
+    rw (node-law x .spelling, head-none x) (parts-none (λ y g. node-none d y g) (partsOf x) 0 (node-law x .fits d 0 h .1))
 
 -- the count of parts, one after the other
 abbrev counts : List Part → ℕ

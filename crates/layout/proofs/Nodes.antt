@@ -1,7 +1,8 @@
 -- What stands at a place has the kind and the payload of its first word there, and its parts stand one after the other from the
 -- next place on (document 01, "Layout"). One law for each form of expression, command and set, and what follows for all.
 -- Assumes nothing.
---     Law, law                             the words of a node are its first word and its parts'; so is what fits
+--     constant-range .. truth-range        words of kinds 1, 3, 8 and 9 are in range
+--     NodeLaw, node-law                    the words of a node are its first word and its parts'; so is what fits
 --     node-deeper                          what fits with some levels left fits with more
 --     encode-tells                         a word in range is told by its number
 --     kind-at, content-at                  the kind and the payload of a word that stands there
@@ -51,7 +52,7 @@ truth-range false = (omega arith, refl, refl)
 truth-range true = (omega arith, refl, refl)
 
 -- w is the first word of x, and l its parts
-pub record Law (x : Node) (w : Word) (l : List Node) : Type 0 where
+pub record NodeLaw (x : Node) (w : Word) (l : List Node) : Type 0 where
   pub spelling : nodeWords x ≡ w ∷ joined (map nodePart l)
   pub fits : (d at : ℕ) → FitsNode x (suc d) → InRange w × EachFits (map nodePart l) d at
   pub deeper : (d n at : ℕ) → FitsNode x (suc d) → EachFits (map nodePart l) n at → FitsNode x (suc n)
@@ -59,13 +60,13 @@ pub record Law (x : Node) (w : Word) (l : List Node) : Type 0 where
 
 module _ {x : Node} {w : Word} where
   leaf : nodeWords x ≡ w ∷ [] → ((d : ℕ) → FitsNode x (suc d) → InRange w) →
-      ((d n : ℕ) → FitsNode x (suc d) → FitsNode x (suc n)) → countOf (kindOf w) (contentOf w) ≡ 0 → Law x w []
+      ((d n : ℕ) → FitsNode x (suc d) → FitsNode x (suc n)) → countOf (kindOf w) (contentOf w) ≡ 0 → NodeLaw x w []
   unfolding joined EachFits
   leaf e f g n = record { spelling = e; fits = λ d at h. (f d h, tt); deeper = λ d n at h k. g d n h; count = n }
 
   one : {y : Node} → nodeWords x ≡ w ∷ nodeWords y → ((d : ℕ) → FitsNode x (suc d) → InRange w × FitsNode y d) →
       ((d n : ℕ) → FitsNode x (suc d) → FitsNode y n → FitsNode x (suc n)) → countOf (kindOf w) (contentOf w) ≡ 1 →
-      Law x w (y ∷ [])
+      NodeLaw x w (y ∷ [])
   unfolding joined EachFits
   one {y} e f g n = record {
     spelling = e ∙ ap (λ l. w ∷ l) (sym (append-nil (nodeWords y)));
@@ -77,7 +78,7 @@ module _ {x : Node} {w : Word} where
   two : {y z : Node} → nodeWords x ≡ w ∷ (nodeWords y ++ nodeWords z) →
       ((d : ℕ) → FitsNode x (suc d) → InRange w × (FitsNode y d × FitsNode z d)) →
       ((n : ℕ) → FitsNode y n × FitsNode z n → FitsNode x (suc n)) → countOf (kindOf w) (contentOf w) ≡ 2 →
-      Law x w (y ∷ z ∷ [])
+      NodeLaw x w (y ∷ z ∷ [])
   unfolding joined EachFits
   two {y} {z} e f g n = record {
     spelling = e ∙ ap (λ l. w ∷ (nodeWords y ++ l)) (sym (append-nil (nodeWords z)));
@@ -89,7 +90,7 @@ module _ {x : Node} {w : Word} where
   three : {y z u : Node} → nodeWords x ≡ w ∷ (nodeWords y ++ (nodeWords z ++ nodeWords u)) →
       ((d : ℕ) → FitsNode x (suc d) → InRange w × (FitsNode y d × (FitsNode z d × FitsNode u d))) →
       ((n : ℕ) → FitsNode y n × (FitsNode z n × FitsNode u n) → FitsNode x (suc n)) →
-      countOf (kindOf w) (contentOf w) ≡ 3 → Law x w (y ∷ z ∷ u ∷ [])
+      countOf (kindOf w) (contentOf w) ≡ 3 → NodeLaw x w (y ∷ z ∷ u ∷ [])
   unfolding joined EachFits
   three {y} {z} {u} e f g n = record {
     spelling = e ∙ ap (λ l. w ∷ (nodeWords y ++ (nodeWords z ++ l))) (sym (append-nil (nodeWords u)));
@@ -119,29 +120,29 @@ members-count : (p : Members) → 2 * length p ≡ length (halves p)
 members-count [] = refl
 members-count (m ∷ p) = let e = members-count p in omega arith
 
-pub law : (x : Node) → Law x (headOf x) (partsOf x)
+pub node-law : (x : Node) → NodeLaw x (headOf x) (partsOf x)
 unfolding words commandWords FitsExpression FitsCommand FitsSet countOf
-law (expressionNode (constant z)) = leaf refl (λ d h. constant-range z h) (λ d n h. h) refl
-law (expressionNode (scalar x)) = leaf refl (λ d h. (omega arith, refl, refl)) (λ d n h. h) refl
-law (expressionNode (operation o a b)) = two refl (λ d h. (operator-range o, h)) (λ n g. g) refl
-law (expressionNode (select a i)) = two refl (λ d h. ((omega arith, refl, refl), h)) (λ n g. g) refl
-law (expressionNode (compare r a b)) = two refl (λ d h. (comparison-range r, h)) (λ n g. g) refl
-law (expressionNode (truth t)) = leaf refl (λ d h. truth-range t) (λ d n h. h) refl
-law (expressionNode (and b c)) = two refl (λ d h. ((omega arith, refl, refl), h)) (λ n g. g) refl
-law (expressionNode (or b c)) = two refl (λ d h. ((omega arith, refl, refl), h)) (λ n g. g) refl
-law (expressionNode (neg b)) = one refl (λ d h. ((omega arith, refl, refl), h)) (λ d n h g. g) refl
-law (expressionNode (array a)) = leaf refl (λ d h. (omega arith, refl, refl)) (λ d n h. h) refl
-law (expressionNode zeros) = leaf refl (λ d h. (omega arith, refl, refl)) (λ d n h. h) refl
-law (expressionNode (update a i b)) = three refl (λ d h. ((omega arith, refl, refl), h)) (λ n g. g) refl
-law (commandNode skip) = leaf refl (λ d h. (omega arith, refl, refl)) (λ d n h. h) refl
-law (commandNode (sequence c₁ c₂)) = two refl (λ d h. ((omega arith, refl, refl), h)) (λ n g. g) refl
-law (commandNode (assert b)) = one refl (λ d h. ((omega arith, refl, refl), h)) (λ d n h g. g) refl
-law (commandNode (assign (toScalar x e))) = one refl (λ d h. ((omega (arith, h .0), refl, refl), h .1)) (λ d n h g. (h .0, g)) refl
-law (commandNode (assign (toArray a e))) = one refl (λ d h. ((omega (arith, h .0), refl, refl), h .1)) (λ d n h g. (h .0, g)) refl
-law (commandNode (ifElse b c₁ c₂)) = three refl (λ d h. ((omega arith, refl, refl), h)) (λ n g. g) refl
-law (commandNode (while b c)) = two refl (λ d h. ((omega arith, refl, refl), h)) (λ n g. g) refl
-law (commandNode (for q m c)) = one refl (λ d h. h) (λ d n h g. (h .0, g)) refl
-law (setNode Γ p) = record {
+node-law (expressionNode (constant z)) = leaf refl (λ d h. constant-range z h) (λ d n h. h) refl
+node-law (expressionNode (scalar x)) = leaf refl (λ d h. (omega arith, refl, refl)) (λ d n h. h) refl
+node-law (expressionNode (operation o a b)) = two refl (λ d h. (operator-range o, h)) (λ n g. g) refl
+node-law (expressionNode (select a i)) = two refl (λ d h. ((omega arith, refl, refl), h)) (λ n g. g) refl
+node-law (expressionNode (compare r a b)) = two refl (λ d h. (comparison-range r, h)) (λ n g. g) refl
+node-law (expressionNode (truth t)) = leaf refl (λ d h. truth-range t) (λ d n h. h) refl
+node-law (expressionNode (and b c)) = two refl (λ d h. ((omega arith, refl, refl), h)) (λ n g. g) refl
+node-law (expressionNode (or b c)) = two refl (λ d h. ((omega arith, refl, refl), h)) (λ n g. g) refl
+node-law (expressionNode (neg b)) = one refl (λ d h. ((omega arith, refl, refl), h)) (λ d n h g. g) refl
+node-law (expressionNode (array a)) = leaf refl (λ d h. (omega arith, refl, refl)) (λ d n h. h) refl
+node-law (expressionNode zeros) = leaf refl (λ d h. (omega arith, refl, refl)) (λ d n h. h) refl
+node-law (expressionNode (update a i b)) = three refl (λ d h. ((omega arith, refl, refl), h)) (λ n g. g) refl
+node-law (commandNode skip) = leaf refl (λ d h. (omega arith, refl, refl)) (λ d n h. h) refl
+node-law (commandNode (sequence c₁ c₂)) = two refl (λ d h. ((omega arith, refl, refl), h)) (λ n g. g) refl
+node-law (commandNode (assert b)) = one refl (λ d h. ((omega arith, refl, refl), h)) (λ d n h g. g) refl
+node-law (commandNode (assign (toScalar x e))) = one refl (λ d h. ((omega (arith, h .0), refl, refl), h .1)) (λ d n h g. (h .0, g)) refl
+node-law (commandNode (assign (toArray a e))) = one refl (λ d h. ((omega (arith, h .0), refl, refl), h .1)) (λ d n h g. (h .0, g)) refl
+node-law (commandNode (ifElse b c₁ c₂)) = three refl (λ d h. ((omega arith, refl, refl), h)) (λ n g. g) refl
+node-law (commandNode (while b c)) = two refl (λ d h. ((omega arith, refl, refl), h)) (λ n g. g) refl
+node-law (commandNode (for q m c)) = one refl (λ d h. h) (λ d n h g. (h .0, g)) refl
+node-law (setNode Γ p) = record {
   spelling = ap (λ l. word 32 (pos (length p)) ∷ l) (members-words p);
   fits = λ d at h. ((h .0 .1, refl, refl), members-fit p d at (h .1));
   deeper = λ d n at h g. (h .0, fit-members p n at g);
@@ -166,7 +167,7 @@ pub node-deeper : (d n : ℕ) → d ≤ n → (x : Node) → FitsNode x d → Fi
 node-deeper zero n l x h = absurd (no-level x h)
 node-deeper (suc d) zero l x h = absurd (omega arith)
 node-deeper (suc d) (suc n) l x h =
-    law x .deeper d n 0 h (parts-deeper (λ y g. node-deeper d n (omega arith) y g) (partsOf x) 0 (law x .fits d 0 h .1))
+    node-law x .deeper d n 0 h (parts-deeper (λ y g. node-deeper d n (omega arith) y g) (partsOf x) 0 (node-law x .fits d 0 h .1))
 
 -- ---- words that stand in a file
 range-small : (k n : ℕ) → n < rangeOf k → n < payloads
@@ -234,12 +235,12 @@ pub record Opened (file : List ℕ) (x : Node) (d at p : ℕ) : Type 0 where
 module _ {file : List ℕ} where
   spelled-at : (x : Node) {F : Type 0} {at p : ℕ} → Stands file (nodeWords x) F at p →
       StandsTo file at (headOf x ∷ joined (map nodePart (partsOf x))) p
-  spelled-at x {at = at} {p = p} s = subst (λ l. StandsTo file at l p) (law x .spelling) (s .stand)
+  spelled-at x {at = at} {p = p} s = subst (λ l. StandsTo file at l p) (node-law x .spelling) (s .stand)
 
   pub opened : (x : Node) (d : ℕ) {at p : ℕ} → PartStands file (nodePart x) (suc d) at p → Opened file x d at p
   opened x d {at} {p} s =
       let t = spelled-at x s in
-      let f = law x .fits d (at + 1) (s .fit) in
+      let f = node-law x .fits d (at + 1) (s .fit) in
       record {
         inside = t .0;
         in-range = f .0;
@@ -276,5 +277,5 @@ parts-range f (x ∷ l) at h =
 pub node-range : (d : ℕ) (x : Node) → FitsNode x d → AllInRange (nodeWords x)
 node-range zero x h = absurd (no-level x h)
 node-range (suc d) x h =
-    let f = law x .fits d 0 h in
-    subst AllInRange (sym (law x .spelling)) (f .0, parts-range (λ y. node-range d y) (partsOf x) 0 (f .1))
+    let f = node-law x .fits d 0 h in
+    subst AllInRange (sym (node-law x .spelling)) (f .0, parts-range (λ y. node-range d y) (partsOf x) 0 (f .1))
