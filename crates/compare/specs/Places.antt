@@ -1,6 +1,6 @@
 -- An expression stands at a place of a file, and its end is in the list of ends.
 -- Working: `expression-is` of sets/proofs/Trees says that an expression that stands in the file stands so, with its own
--- numbers; `replaced-at` of pre_rules/proofs/Assertions ties what is matched to the rules' `replace`. Assumes nothing.
+-- numbers; `replaced-at` of pre_compound/proofs/Assertions ties what is matched to the rules' `replace`. Assumes nothing.
 --     endAt                       the place past the part that starts at a place
 --     PartKnown                   a place is in the list of ends, and its end lies further on, in the file
 --     ExpressionTo, ExpressionAt  an expression of a sort stands from a place up to another; up to its end in the list
