@@ -10,10 +10,10 @@ child-16-spec =
     tie.close
     (tie.spec
     (λ c. search needs) (λ c κs. search needs)
-    (λ c. rw (c .if1 .taken, c .before .end-or-zero .ensures))
+    (λ c. simp (c .if1 .taken, c .before .end-or-zero .ensures))
     (λ c κs. search needs) (λ c κs. search needs)
     (λ c. let c₁ = c .before in let c₂ = c₁ .before in let c₃ = c₂ .before in let c₅ = c₃ .before .before in
-    rw (
+    simp (
       is-second (c₅ .pre .1) (c₂ .if1 .left),
       c .end-or-zero3 .ensures,
       c₁ .end-or-zero2 .ensures,

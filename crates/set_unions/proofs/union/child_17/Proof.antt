@@ -10,7 +10,7 @@ child-17-spec =
     tie.close
     (tie.spec
     (λ c. search needs) (λ c κs. search needs)
-    (λ c. rw (c .if1 .taken, c .before .end-or-zero .ensures))
+    (λ c. simp (c .if1 .taken, c .before .end-or-zero .ensures))
     (λ c κs. search needs)
     (λ c.
-    rw (is-second (c .before .before .before .before .pre .1) (c .before .if1 .left), c .end-or-zero2 .ensures, c .before .before .end-or-zero .ensures)))
+    simp (is-second (c .before .before .before .before .pre .1) (c .before .if1 .left), c .end-or-zero2 .ensures, c .before .before .end-or-zero .ensures)))
