@@ -15,7 +15,7 @@ use mir.Val.{SFits, toZ, ofZ}
 use borrow.Author.Tests.{le-leb, lt-leb, eqb-true, eqb-false, eq-eqb, ne-eqb}
 use Rattle.arithmetic.proofs.Signed.{no-way, back}
 use Rattle.language.specs.Store.{sameInteger}
-use Rattle.execution.specs.Evaluate.{Outcome, worked, stops, index}
+use Rattle.execution.specs.Evaluate.{Evaluation, worked, stops, index}
 use Rattle.arithmetic.specs.Worked.{outcome}
 use Rattle.arithmetic.specs.declared.Worked.{Worked}
 use Rattle.arithmetic.specs.declared.Worked.the-variants.{Value}
@@ -46,6 +46,6 @@ index-neg (pos n) h = no-way (sym h ∙ le-leb 0 n (omega arith))
 index-neg (negsuc n) h = refl
 
 -- an index that was worked out, as the code holds it
-pub index-of : {i : Worked} (z : ℤ) (o : Outcome ℤ) → SFits w64 z → i ≡ Value z →
+pub index-of : {i : Worked} (z : ℤ) (o : Evaluation ℤ) → SFits w64 z → i ≡ Value z →
     o ≡ index (worked (toZ w64 (ofZ w64 z))) → o ≡ index (outcome i)
 index-of z o f e h = h ∙ ap (λ y. index (worked y)) (back f) ∙ ap (λ w. index (outcome w)) (sym e)

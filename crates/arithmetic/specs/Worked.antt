@@ -6,21 +6,21 @@
 --     mostOf                   the largest size of a product in range, by the factors' signs
 use Prim.Native.Nat.{ℕ}
 use lib.IntN.{ℤ, pos, negsuc}
-use Rattle.execution.specs.Evaluate.{Outcome, worked, stops, inRange, tested}
+use Rattle.execution.specs.Evaluate.{Evaluation, worked, stops, inRange, tested}
 use Rattle.arithmetic.specs.declared.Worked.{Worked}
 use Rattle.arithmetic.specs.declared.Worked.the-variants.{Value, Stops}
 use Rattle.arithmetic.specs.declared.Index.{Index}
 use Rattle.arithmetic.specs.declared.Index.the-variants as Index
 
-abbrev pub outcome : Worked → Outcome ℤ
+abbrev pub outcome : Worked → Evaluation ℤ
 outcome (Value z) = worked z
 outcome (Stops k) = stops k
 
-abbrev pub indexOutcome : Index → Outcome ℤ
+abbrev pub indexOutcome : Index → Evaluation ℤ
 indexOutcome (Index.At n) = worked (pos n)
 indexOutcome (Index.Stops k) = stops k
 
-unfoldable pub checked : ℤ → Outcome ℤ
+unfoldable pub checked : ℤ → Evaluation ℤ
 checked z = tested (inRange z) 14 z
 
 abbrev pub mostOf : ℤ → ℤ → ℕ

@@ -14,7 +14,7 @@ use Rattle.execution.specs.Ran.{Answer, Ran, runOf}
 use Rattle.execution.specs.Executes.{Executes, ends, stops}
 use Rattle.execution.proofs.ReadFile.{file-refused}
 use Rattle.execution.proofs.Order.{not-read-is, over-budget-is, ill-sized-is}
-use Rattle.execution.proofs.Order.{Judged, not-read, over-budget, ill-sized, is-run, judged}
+use Rattle.execution.proofs.Order.{StepJudged, not-read, over-budget, ill-sized, is-run, judged}
 use Rattle.execution.proofs.Exact.{held-itself, executes-number, executed, reported, steps-within}
 use Rattle.claims.specs.Runner.{Starts, OfRun, Runner}
 
@@ -29,7 +29,7 @@ module _ (Γ : Context) (bytes : List ℕ) (budget : ℕ) (m : Lent) where
       let x = executed Γ bytes budget m f (h .end) (h .reads) (h .affordable) (h .sized) (storeOf m) (held-itself m) in
       subst OfRun (sym (x .reports .answer)) (of-run (x .executes))
 
-  only-run : {r : Ran} → Judged Γ bytes budget m r → OfRun (r .answer) → (f : File) × Starts Γ bytes budget m f
+  only-run : {r : Ran} → StepJudged Γ bytes budget m r → OfRun (r .answer) → (f : File) × Starts Γ bytes budget m f
   only-run (not-read {k = k} {p = p} e) x = let h = file-refused Γ bytes k p e in absurd (omega arith)
   only-run (over-budget e l) x = absurd (omega arith)
   only-run (ill-sized e l h) x = absurd (omega arith)

@@ -20,10 +20,10 @@ use Rattle.layout.specs.Verdict.{verdictOf}
 use Rattle.execution.specs.Evaluate.{evaluate}
 use Rattle.execution.specs.Run.{turns, run}
 use Rattle.execution.specs.Ran.{runFile, runOf}
-use Rattle.claims.specs.Table.{AllRight, table}
+use Rattle.claims.specs.Table.{AllRight, starredRows}
 
-pub table-right : AllRight table
-unfolding table verdictOf fileOf wordsOf wordsRead parts finish steadyFile unsteadyAt firstUnsteady standard words commandWords
+pub table-right : AllRight starredRows
+unfolding starredRows verdictOf fileOf wordsOf wordsRead parts finish steadyFile unsteadyAt firstUnsteady standard words commandWords
     replace test byForm oneMore judgeWord flowRule judge _⊛_ several wordDue expression command set evidence value
     identifiers setIdentifiers evaluate turns run runFile runOf
 table-right =

@@ -1,9 +1,9 @@
 -- The starred rows of document 01's "Table of files".
 -- Trusted. Assumes nothing.
---     bytesOf      the bytes of words that are written as kind and payload
---     Row          a file with its verdict; a constant's payload with its integer; a run of a `for` over skip
---     Right        a row is as the definitions say
---     table        the rows
+--     bytesOf        the bytes of words that are written as kind and payload
+--     TableRow       a file with its verdict; a constant's payload with its integer; a run of a `for` over skip
+--     Right          a row is as the definitions say
+--     starredRows    the rows
 use mathlib.Core.Path.{_≡_}
 use mathlib.Core.List.{List, [], _∷_}
 use Prim.Native.Nat.{ℕ, _+_, _*_, _/_, _%_}
@@ -29,10 +29,10 @@ bytesOf (w ∷ l) =
 
 -- `forSkip m budget a n q` runs a `for` over scalar 0 up to scalar 1, which holds m, and is answered a after n steps,
 -- with q in scalar 0
-pub data Row : Type 0 where
-  file : List (ℕ × ℕ) → Verdict → Row
-  constant : ℕ → ℤ → Row
-  forSkip : ℤ → ℕ → Answer → ℕ → ℤ → Row
+pub data TableRow : Type 0 where
+  file : List (ℕ × ℕ) → Verdict → TableRow
+  constant : ℕ → ℤ → TableRow
+  forSkip : ℤ → ℕ → Answer → ℕ → ℤ → TableRow
 
 -- 0 everywhere but for scalar 1
 abbrev pub storeWith : ℤ → Lent
@@ -54,17 +54,17 @@ skipped = (63, 6) ∷ (31, 32) ∷ (24, 0) ∷ (32, 0) ∷ (32, 0) ∷ (33, 10) 
 abbrev pub RanAs : Ran → Answer → ℕ → ℤ → Type 0
 RanAs r a n q = (r .answer ≡ a) × (r .steps ≡ n) × (getD (r .store .scalars) 0 (pos 0) ≡ q)
 
-abbrev pub Right : Row → Type 0
+abbrev pub Right : TableRow → Type 0
 Right (file l v) = verdictOf standard (bytesOf l) ≡ v
 Right (constant p z) = ConstantIs (expression (wordsOf (bytesOf ((1, p) ∷ []))) 1 Arithmetic 0) z
 Right (forSkip m budget a n q) = RanAs (runOf standard (bytesOf skipped) budget (storeWith m)) a n q
 
-abbrev pub AllRight : List Row → Type 0
+abbrev pub AllRight : List TableRow → Type 0
 AllRight [] = Unit {0}
 AllRight (r ∷ l) = Right r × AllRight l
 
-unfoldable pub table : List Row
-table =
+unfoldable pub starredRows : List TableRow
+starredRows =
     file ((63, 5) ∷ (24, 0) ∷ (32, 0) ∷ (32, 0) ∷ (33, 1) ∷ []) (accepted 1)
     ∷ file (copying 1) (accepted 1)
     ∷ file (copying 2) (refused 8 9)

@@ -29,19 +29,19 @@ use Rattle.compare.proofs.Whole.{cursor}
 use Rattle.compare.proofs.SameNumbers.{came-same}
 
 -- a cursor after numbers
-record Step (file : List ℕ) (m : Match) (l : List ℕ) (n : Match) : Type 0 where
+record NumbersMatched (file : List ℕ) (m : Match) (l : List ℕ) (n : Match) : Type 0 where
   is : n ≡ matched file m l
 
 module _ {file : List ℕ} where
-  then : {m n r : Match} {k l : List ℕ} → Step file m k n → Step file n l r → Step file m (k ++ l) r
+  then : {m n r : Match} {k l : List ℕ} → NumbersMatched file m k n → NumbersMatched file n l r → NumbersMatched file m (k ++ l) r
   then {m} {n} {r} {k} {l} x y =
       record { is = y .is ∙ ap (λ c. matched file c l) (x .is) ∙ sym (matched-append file m k l) }
 
-  word : {m n : Match} {x : ℕ} → n ≡ matchedWord file m x → Step file m (x ∷ []) n
+  word : {m n : Match} {x : ℕ} → n ≡ matchedWord file m x → NumbersMatched file m (x ∷ []) n
   unfolding matched
   word e = record { is = e }
 
-  step : {m n : Match} {l : List ℕ} → n ≡ matched file m l → Step file m l n
+  step : {m n : Match} {l : List ℕ} → n ≡ matched file m l → NumbersMatched file m l n
   step e = record { is = e }
 
 module _ (file ends : List ℕ) (m : Match) where

@@ -43,27 +43,27 @@ abbrev Connective : ℕ → Type 0
 Connective k = (k < 12) × (k ≡ 9 → ⊥)
 
 module _ (file ends : List ℕ) (at p : ℕ) where
-  abbrev Parts : {k : Sort} → Expr k → Type 0
-  Parts e = NodesAt file ends (partsOf (expressionNode e)) at p
+  abbrev OperandsStand : {k : Sort} → Expr k → Type 0
+  OperandsStand e = NodesAt file ends (partsOf (expressionNode e)) at p
 
   -- so many operands
   abbrev Case : Type 0 → ℕ → Type 0
   Case K n = K × Chained file ends n at p
 
-  arithmetic-cases : (e : Expr Arithmetic) → Parts e → Case (kind e < 3) 0 ⊎ Case (3 ≤ kind e) 2
+  arithmetic-cases : (e : Expr Arithmetic) → OperandsStand e → Case (kind e < 3) 0 ⊎ Case (3 ≤ kind e) 2
   arithmetic-cases (constant z) y = inl (omega arith, y)
   arithmetic-cases (scalar x) y = inl (omega arith, y)
   arithmetic-cases (operation o a b) y = inr (omega arith, two y)
   arithmetic-cases (select h i) y = inr (omega arith, two y)
 
-  boolean-cases : (e : Expr Boolean) → Parts e → Case (kind e ≡ 9) 0 ⊎ (Case (kind e ≡ 12) 1 ⊎ Case (Connective (kind e)) 2)
+  boolean-cases : (e : Expr Boolean) → OperandsStand e → Case (kind e ≡ 9) 0 ⊎ (Case (kind e ≡ 12) 1 ⊎ Case (Connective (kind e)) 2)
   boolean-cases (compare r a b) y = inr (inr ((omega arith, λ h. omega arith), two y))
   boolean-cases (truth t) y = inl (omega arith, y)
   boolean-cases (and b c) y = inr (inr ((omega arith, λ h. omega arith), two y))
   boolean-cases (or b c) y = inr (inr ((omega arith, λ h. omega arith), two y))
   boolean-cases (neg b) y = inr (inl (omega arith, one y))
 
-  array-cases : (e : Expr Array) → Parts e → Case (kind e < 18) 0 ⊎ Case (18 ≤ kind e) 3
+  array-cases : (e : Expr Array) → OperandsStand e → Case (kind e < 18) 0 ⊎ Case (18 ≤ kind e) 3
   array-cases (array a) y = inl (omega arith, y)
   array-cases zeros y = inl (omega arith, y)
   array-cases (update h i a) y = inr (omega arith, (written-any (y .0), two (y .1)))

@@ -2,7 +2,7 @@
 -- expression, with the other's in the place of the identifier's word.
 -- Assumes nothing.
 --     Replaces                           what is put for words stands for the identifiers' replacement
---     Turned, both, replaces             words with what is put for them; those of a replaced expression
+--     WordsExchanged, both, replaces     words with what is put for them; those of a replaced expression
 --     scalar-replaces, array-replaces    of a scalar, of an array
 use mathlib.Core.Path.{_≡_, refl, sym, ap, ap₂, _∙_}
 use mathlib.Core.Bool.{Bool, true, false, cond}
@@ -35,12 +35,12 @@ pub record Replaces (file : List ℕ) (put : Put) (f : Replacement) : Type 0 whe
   pub arrays-fit : (x : ℕ) → x ≤ 31 → AllInRange (words (f .arrays x))
 
 -- words whose numbers are those of others, with what is put for them; and they are in range
-pub record Turned (file : List ℕ) (put : Put) (k k′ : List Word) : Type 0 where
+pub record WordsExchanged (file : List ℕ) (put : Put) (k k′ : List Word) : Type 0 where
   pub same : numbers k′ ≡ exchanged file put (numbers k)
   pub fit : AllInRange k′
 
 module _ {file : List ℕ} {put : Put} where
-  pub both : {k l k′ l′ : List Word} → Turned file put k k′ → Turned file put l l′ → Turned file put (k ++ l) (k′ ++ l′)
+  pub both : {k l k′ l′ : List Word} → WordsExchanged file put k k′ → WordsExchanged file put l l′ → WordsExchanged file put (k ++ l) (k′ ++ l′)
   both {k} {l} {k′} {l′} x y = record {
     same =
         numbers-append k′ l′
@@ -51,16 +51,16 @@ module _ {file : List ℕ} {put : Put} where
   }
 
   -- a word with what is put for it
-  turned : {v : Word} {k : List Word} → numbers k ≡ putFor file put (encode v) → AllInRange k → Turned file put (v ∷ []) k
+  turned : {v : Word} {k : List Word} → numbers k ≡ putFor file put (encode v) → AllInRange k → WordsExchanged file put (v ∷ []) k
   unfolding numbers exchanged
   turned {v} e g = record { same = e ∙ sym (append-nil (putFor file put (encode v))); fit = g }
 
 module _ {file : List ℕ} {put : Put} {f : Replacement} (r : Replaces file put f) where
-  stays : (k : ℕ) (z : ℤ) → (k ≡ 2 → ⊥) → (k ≡ 16 → ⊥) → InRange (word k z) → Turned file put (word k z ∷ []) (word k z ∷ [])
+  stays : (k : ℕ) (z : ℤ) → (k ≡ 2 → ⊥) → (k ≡ 16 → ⊥) → InRange (word k z) → WordsExchanged file put (word k z ∷ []) (word k z ∷ [])
   unfolding numbers
   stays k z g h i = turned (sym (r .others k z g h i)) (i, tt)
 
-  pub replaces : {k : Sort} (d : ℕ) (e : Expr k) → FitsExpression e d → Turned file put (words e) (words (replace e f))
+  pub replaces : {k : Sort} (d : ℕ) (e : Expr k) → FitsExpression e d → WordsExchanged file put (words e) (words (replace e f))
   unfolding words replace FitsExpression
   replaces zero e g = absurd g
   replaces (suc d) (constant z) g = stays 1 z (λ h. omega arith) (λ h. omega arith) (constant-range z g)

@@ -21,7 +21,7 @@ cursor b i = record { same = b; at = i }
 
 module _ (file : List ℕ) where
   -- the cursor lies past the numbers, and they are those that it passed
-  record Passed (at : ℕ) (l : List ℕ) (r : Match) : Type 0 where
+  record NumbersPassed (at : ℕ) (l : List ℕ) (r : Match) : Type 0 where
     past : r .at ≡ at + length l
     within : r .at ≤ length file
     same : between file at (r .at) ≡ l
@@ -29,10 +29,10 @@ module _ (file : List ℕ) where
   module _ (x : ℕ) (l : List ℕ) (at : ℕ)
       (ih :
       at + 1 ≤ length file → (matched file (cursor true (at + 1)) l) .same ≡ true →
-      Passed (at + 1) l (matched file (cursor true (at + 1)) l)) where
+      NumbersPassed (at + 1) l (matched file (cursor true (at + 1)) l)) where
     step : (b : Bool) → (ltb at (length file) && eqb (getD file at 0) x) ≡ b →
         (matched file (cond b (cursor true (at + 1)) (cursor false at)) l) .same ≡ true →
-        Passed at (x ∷ l) (matched file (cond b (cursor true (at + 1)) (cursor false at)) l)
+        NumbersPassed at (x ∷ l) (matched file (cond b (cursor true (at + 1)) (cursor false at)) l)
     step true e h =
         let inside = ltb-true at (length file) (and-left (ltb at (length file)) (eqb (getD file at 0) x) e) in
         let here = eqb-true (getD file at 0) x (and-right (ltb at (length file)) (eqb (getD file at 0) x) e) in
@@ -50,7 +50,7 @@ module _ (file : List ℕ) where
         clash h (sym (ap (λ (m : Match). m .same) (matched-lost file (cursor false at) l refl)))
 
   passed : (l : List ℕ) (at : ℕ) → at ≤ length file → (matched file (cursor true at) l) .same ≡ true →
-      Passed at l (matched file (cursor true at) l)
+      NumbersPassed at l (matched file (cursor true at) l)
   unfolding matched matchedWord
   passed [] at i h = record { past = omega arith; within = i; same = between-none file at at (omega arith) }
   passed (x ∷ l) at i h = step x l at (λ j k. passed l (at + 1) j k) (ltb at (length file) && eqb (getD file at 0) x) refl h

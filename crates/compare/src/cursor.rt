@@ -1,4 +1,5 @@
 use crate::equal::equal_words;
+use words::numbers::least;
 ghost use mathlib.Core.Path.{_≡_};
 ghost use Prim.Native.Nat.{_<_, _≤_};
 ghost use lib.ListN.{length};
@@ -35,12 +36,6 @@ pub fn match_word(w: &[u32], m: Match, x: u32) -> Match
         same: true,
         at: at + 1,
     }
-}
-
-fn least(a: usize, b: usize) -> usize
-    ensures { λ r. ⌜ (r ≤ a) × (r ≤ b) ⌝ }
-{
-    if a < b { a } else { b }
 }
 
 // The words from `from` up to `to` stand from `at` on, one by one.

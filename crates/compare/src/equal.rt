@@ -1,12 +1,12 @@
 // Words of a file compared four at a time.
 ghost use mathlib.Core.Path.{_≡_};
 ghost use mathlib.Core.Bool.{true};
-ghost use Rattle.compare.specs.EqualWords.{EqualWords, EqualCount, Room};
+ghost use Rattle.compare.specs.EqualWords.{EqualWords, EqualCount, CanCompareWords};
 
 // Whether the four words from a on are those from b on. No test stands between them, so that they can be compared at
 // once.
 fn same_four(w: &[u32], a: usize, b: usize) -> bool
-    requires { ⌜ Room (now w) a b 4 ⌝ }
+    requires { ⌜ CanCompareWords (now w) a b 4 ⌝ }
     ensures { λ r. ⌜ (r ≡ true → EqualWords (now (w .entry)) a b 4) ⌝ }
 {
     let first = w[a] ^ w[b];
@@ -19,7 +19,7 @@ fn same_four(w: &[u32], a: usize, b: usize) -> bool
 // A number of words, at most `count`, in which the words from a on and from b on are equal: those before the first four
 // that differ.
 pub fn equal_words(w: &[u32], a: usize, b: usize, count: usize) -> usize
-    requires { ⌜ Room (now w) a b count ⌝ }
+    requires { ⌜ CanCompareWords (now w) a b count ⌝ }
     ensures { λ r. ⌜ EqualCount (now (w .entry)) a b count r ⌝ }
 {
     if count < 4 {

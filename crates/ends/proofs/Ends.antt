@@ -1,6 +1,6 @@
 -- The places that the sizes make are the ends of what stands there, by induction on what stands.
 -- Assumes nothing.
---     Sized, node-sized    of an expression, a command and a set
+--     EndsBySize, node-sized    of an expression, a command and a set
 use mathlib.Core.Path.{_≡_, ap, ap₂, _∙_}
 use mathlib.Core.List.{List, [], _∷_, map}
 use Prim.Native.Nat.{ℕ, zero, suc, _+_, _<_}
@@ -16,7 +16,7 @@ use Rattle.ends.proofs.Sizes.{sizes-length, sizes-at, past-more}
 
 module _ (file : List ℕ) where
   -- what starts at `at` ends at p, by its size
-  pub record Sized (at p : ℕ) : Type 0 where
+  pub record EndsBySize (at p : ℕ) : Type 0 where
     pub inside : at < length file
     pub size : at + getD (sizes file) at 0 ≡ p
 
@@ -28,7 +28,7 @@ module _ (file : List ℕ) where
   unfolding past
   ended h = record { run = omega arith }
 
-  next : {n at q p : ℕ} → Sized at q → Run n q p → Run (suc n) at p
+  next : {n at q p : ℕ} → EndsBySize at q → Run n q p → Run (suc n) at p
   next {n} {at} {q} {p} s r =
       let h : at < length (sizes file) = omega (arith, sizes-length file, s .inside) in
       let e = past-more (sizes file) at n h in
@@ -37,13 +37,13 @@ module _ (file : List ℕ) where
       go : (k : ℕ) → at + k ≡ q → at + (k + past n (drop (at + k) (sizes file))) ≡ p
       go k e = rw e (omega (arith, r .run))
 
-  parts-run : {d : ℕ} → ((x : Node) (at p : ℕ) → PartStands file (nodePart x) d at p → Sized at p) → (l : List Node)
+  parts-run : {d : ℕ} → ((x : Node) (at p : ℕ) → PartStands file (nodePart x) d at p → EndsBySize at p) → (l : List Node)
       (at p : ℕ) → Chain file (map nodePart l) d at p → Run (length l) at p
   parts-run f [] at p c = ended c
   parts-run f (x ∷ l) at p c = next (f x at (c .0) (c .1)) (parts-run f l (c .0) p (c .2))
 
   by-word : (x : Node) {d n at p : ℕ} → Opened file x d at p → countOf (kindAt file at) (payloadAt file at) ≡ n →
-      Run n (at + 1) p → Sized at p
+      Run n (at + 1) p → EndsBySize at p
   by-word x {n = n} {at = at} {p = p} o e r = record {
     inside = o .inside;
     size =
@@ -55,7 +55,7 @@ module _ (file : List ℕ) where
       go : suc at + past n (drop (suc at) (sizes file)) ≡ p → at + suc (past n (drop (suc at) (sizes file))) ≡ p
       go h = omega arith
 
-  pub node-sized : (d : ℕ) (x : Node) (at p : ℕ) → PartStands file (nodePart x) d at p → Sized at p
+  pub node-sized : (d : ℕ) (x : Node) (at p : ℕ) → PartStands file (nodePart x) d at p → EndsBySize at p
   node-sized zero x at p s = absurd (no-level x (s .fit))
   node-sized (suc d) x at p s =
       let o = opened x d s in

@@ -15,26 +15,26 @@ use borrow.Author.Tests.{ne-eqb, lt-ltb, le-ltb}
 use lib.ListN.{length, getD, drop, length-drop, drop-of-length-le}
 use lib.Seq.{drop-cons, drop-drop}
 use Rattle.layout.specs.Bytes.{kindAt, payloadAt, payloads}
-use Rattle.layout.specs.Nodes.{countAt, counts, countOf}
+use Rattle.layout.specs.Nodes.{countBeside, counts, countOf}
 use Rattle.ends.specs.Sizes.{past, sizes, placed, follow}
 
 pub lt-or-le : (m n : ℕ) → (m < n) ⊎ (n ≤ m)
 lt-or-le m n = elim (decLt m n) [ yes h ↦ inl h | no h ↦ inr (omega arith) ]
 
-pub counted : (p : ℕ) {k n : ℕ} → k ≡ n → countOf k p ≡ countAt n (counts p)
+pub counted : (p : ℕ) {k n : ℕ} → k ≡ n → countOf k p ≡ countBeside n (counts p)
 unfolding countOf
-counted p e = ap (λ i. countAt i (counts p)) e
+counted p e = ap (λ i. countBeside i (counts p)) e
 
 -- none of the kinds
-abbrev Missed : ℕ → List (ℕ × ℕ) → Type 0
-Missed k [] = Unit {0}
-Missed k (e ∷ l) = Missed k l × (k ≡ e .0 → ⊥)
+abbrev KindMissed : ℕ → List (ℕ × ℕ) → Type 0
+KindMissed k [] = Unit {0}
+KindMissed k (e ∷ l) = KindMissed k l × (k ≡ e .0 → ⊥)
 
-missed : (k : ℕ) (l : List (ℕ × ℕ)) → Missed k l → countAt k l ≡ 0
+missed : (k : ℕ) (l : List (ℕ × ℕ)) → KindMissed k l → countBeside k l ≡ 0
 missed k [] h = refl
 missed k (e ∷ l) h = rw (ne-eqb k (e .0) (h .1)) (missed k l (h .0))
 
-pub uncounted : (k p : ℕ) → Missed k (counts p) → countOf k p ≡ 0
+pub uncounted : (k p : ℕ) → KindMissed k (counts p) → countOf k p ≡ 0
 unfolding countOf
 uncounted k p h = missed k (counts p) h
 
@@ -51,16 +51,16 @@ sizes-at (x ∷ l) zero h = refl
 sizes-at (x ∷ l) (suc at) h = sizes-at l at (omega arith)
 
 -- no part goes past the end
-abbrev Inside : List ℕ → Type 0
-Inside [] = Unit {0}
-Inside (s ∷ m) = (s ≤ suc (length m)) × Inside m
+abbrev SizesInside : List ℕ → Type 0
+SizesInside [] = Unit {0}
+SizesInside (s ∷ m) = (s ≤ suc (length m)) × SizesInside m
 
-inside-drop : (n : ℕ) (m : List ℕ) → Inside m → Inside (drop n m)
+inside-drop : (n : ℕ) (m : List ℕ) → SizesInside m → SizesInside (drop n m)
 inside-drop zero m h = h
 inside-drop (suc n) [] h = h
 inside-drop (suc n) (s ∷ m) h = inside-drop n m (h .1)
 
-past-inside : (n : ℕ) (m : List ℕ) → Inside m → past n m ≤ length m
+past-inside : (n : ℕ) (m : List ℕ) → SizesInside m → past n m ≤ length m
 unfolding past
 past-inside zero m h = omega arith
 past-inside (suc n) [] h = omega arith
@@ -68,7 +68,7 @@ past-inside (suc n) (s ∷ m) h =
     let r = past-inside n (drop s (s ∷ m)) (inside-drop s (s ∷ m) h) in
     omega (arith, h .0, length-drop s (s ∷ m))
 
-sizes-within : (file : List ℕ) → Inside (sizes file)
+sizes-within : (file : List ℕ) → SizesInside (sizes file)
 unfolding sizes
 sizes-within [] = tt
 sizes-within (x ∷ l) =
@@ -76,7 +76,7 @@ sizes-within (x ∷ l) =
     let r = past-inside (countOf (x / payloads) (x % payloads)) (sizes l) h in
     (omega arith, h)
 
-inside-at : (m : List ℕ) (at : ℕ) → Inside m → at < length m → at + getD m at 0 ≤ length m
+inside-at : (m : List ℕ) (at : ℕ) → SizesInside m → at < length m → at + getD m at 0 ≤ length m
 inside-at [] at h l = absurd (omega arith)
 inside-at (s ∷ m) zero h l = omega (arith, h .0)
 inside-at (s ∷ m) (suc at) h l = let r = inside-at m at (h .1) (omega arith) in omega arith

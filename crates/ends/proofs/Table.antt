@@ -10,10 +10,10 @@ use Rattle.layout.specs.Nodes.{expressionNode, commandNode, setNode}
 use Rattle.ends.specs.Ends.{EndsOf}
 use Rattle.ends.specs.Sizes.{Filled}
 use Rattle.ends.specs.Blocks.{Blocked}
-use Rattle.ends.proofs.Ends.{Sized, node-sized}
+use Rattle.ends.proofs.Ends.{EndsBySize, node-sized}
 
 module _ {file before filled after : List ℕ} (f : Filled file before filled) (m : Blocked file filled after) where
-  by-size : {at p : ℕ} → Sized file at p → getD after at 0 ≡ p
+  by-size : {at p : ℕ} → EndsBySize file at p → getD after at 0 ≡ p
   by-size {at} s = m .kept at (s .inside) ∙ f .ended at (s .inside) ∙ s .size
 
   pub table-ends : EndsOf file after

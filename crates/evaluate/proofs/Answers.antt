@@ -18,7 +18,7 @@ use lib.ListN.{length, set}
 use mir.Syntax.{w64}
 use mir.Val.{SFits, toZ, ofZ}
 use Rattle.laws.proofs.Bools.{and-right}
-use Rattle.execution.specs.Evaluate.{Outcome, worked, stops, onWorked, inRange, isIndex, tested, index}
+use Rattle.execution.specs.Evaluate.{Evaluation, worked, stops, onWorked, inRange, isIndex, tested, index}
 use Rattle.arithmetic.specs.Worked.{checked}
 use Rattle.arithmetic.proofs.Signed.{back}
 use Rattle.evaluate.specs.Evaluated.{number, answer, after, Answered, Recorded}
@@ -33,14 +33,14 @@ answer-worked v (suc n) = refl
 pub answered : {A : Type 0} {s : List ℕ} {r v : A} → r ≡ v → Answered s (worked v) r s
 answered {s = s} {v = v} e = record { is = ap (λ z. answer z (number s)) e ∙ answer-worked v (number s); kept = refl }
 
-pub answered-as : {A : Type 0} {s s′ : List ℕ} {o o′ : Outcome A} {r : A} → o ≡ o′ → Answered s o r s′ → Answered s o′ r s′
+pub answered-as : {A : Type 0} {s s′ : List ℕ} {o o′ : Evaluation A} {r : A} → o ≡ o′ → Answered s o r s′ → Answered s o′ r s′
 answered-as {s = s} {s′} {r = r} e h = subst (λ o. Answered s o r s′) e h
 
 -- as the code holds it
-pub held : {s s′ : List ℕ} {o : Outcome ℤ} {z : ℤ} → SFits w64 z → Answered s o z s′ → Answered s o (toZ w64 (ofZ w64 z)) s′
+pub held : {s s′ : List ℕ} {o : Evaluation ℤ} {z : ℤ} → SFits w64 z → Answered s o z s′ → Answered s o (toZ w64 (ofZ w64 z)) s′
 held {s} {s′} {o} f h = subst (λ z. Answered s o z s′) (sym (back f)) h
 
-go-on : {A B : Type 0} (m n : ℕ) (o : Outcome A) (r : A) (f : A → Outcome B) → answer r n ≡ after m o →
+go-on : {A B : Type 0} (m n : ℕ) (o : Evaluation A) (r : A) (f : A → Evaluation B) → answer r n ≡ after m o →
     after n (f r) ≡ after m (onWorked o f)
 go-on zero zero (worked v) r f h = let e : r ≡ v = cc in ap f e
 go-on zero zero (stops k) r f h = never (cc)
@@ -49,7 +49,7 @@ go-on zero (suc n) (stops k) r f h = let e : suc n ≡ k = cc in ap stops e
 go-on (suc m) zero o r f h = never (cc)
 go-on (suc m) (suc n) o r f h = let e : suc n ≡ suc m = cc in ap stops e
 
-pub onward : {A B : Type 0} {s s₁ s₂ : List ℕ} {o : Outcome A} {r : A} {q : B} (f : A → Outcome B) →
+pub onward : {A B : Type 0} {s s₁ s₂ : List ℕ} {o : Evaluation A} {r : A} {q : B} (f : A → Evaluation B) →
     Answered s o r s₁ → Answered s₁ (f r) q s₂ → Answered s (onWorked o f) q s₂
 onward {s = s} {s₁} {o = o} {r} f h g =
     record { is = g .is ∙ go-on (number s) (number s₁) o r f (h .is); kept = g .kept ∙ h .kept }

@@ -20,7 +20,7 @@ use Rattle.laws.proofs.Bools.{and-right}
 use Rattle.language.specs.Syntax as syntax
 use Rattle.language.specs.Store.{sameInteger, put, apply, relate}
 use Rattle.execution.specs.Lent.{lent, storeOf, elementAt, elements}
-use Rattle.execution.specs.Evaluate.{Outcome, worked, stops, onWorked, tested, index, evaluate}
+use Rattle.execution.specs.Evaluate.{Evaluation, worked, stops, onWorked, tested, index, evaluate}
 use Rattle.words.specs.Meaning.{operatorMeant, comparisonMeant}
 use Rattle.words.specs.declared.Operator.{Operator}
 use Rattle.words.specs.declared.Comparison.{Comparison}
@@ -37,7 +37,7 @@ use Rattle.evaluate.proofs.Elements.{elements-at, set-elements}
 use Rattle.evaluate.proofs.Places.{moved}
 
 -- what follows an index goes by the indexes that exist
-on-index : {A : Type 0} (i : Outcome ℤ) (f g : ℤ → Outcome A) → ((n : ℕ) → n < 64 → f (pos n) ≡ g (pos n)) →
+on-index : {A : Type 0} (i : Evaluation ℤ) (f g : ℤ → Evaluation A) → ((n : ℕ) → n < 64 → f (pos n) ≡ g (pos n)) →
     onWorked (index i) f ≡ onWorked (index i) g
 on-index {A} (worked (pos m)) f g h = go (leb 0 m && leb m 63) refl
   where
@@ -48,7 +48,7 @@ on-index (worked (negsuc m)) f g h = refl
 on-index (stops k) f g h = refl
 
 -- one outcome after another
-pub after-both : {A B C : Type 0} (o : Outcome A) (f : A → Outcome B) (g : B → Outcome C) →
+pub after-both : {A B C : Type 0} (o : Evaluation A) (f : A → Evaluation B) (g : B → Evaluation C) →
     onWorked (onWorked o f) g ≡ onWorked o λ a. onWorked (f a) g
 after-both (worked a) f g = refl
 after-both (stops k) f g = refl
@@ -63,25 +63,25 @@ abbrev withEntry : List ℤ → ℤ → ℤ → List ℤ
 withEntry l (pos n) w = set l n w
 withEntry l (negsuc n) w = l
 
-abbrev entered : Outcome ℤ → List ℤ → Outcome ℤ
+abbrev entered : Evaluation ℤ → List ℤ → Evaluation ℤ
 entered i l = onWorked (index i) λ v. worked (entry l v)
 
-abbrev replaced : Outcome ℤ → Outcome ℤ → List ℤ → Outcome (List ℤ)
+abbrev replaced : Evaluation ℤ → Evaluation ℤ → List ℤ → Evaluation (List ℤ)
 replaced i a l = onWorked (index i) λ v. onWorked a λ w. worked (withEntry l v w)
 
-select-is : (o : Outcome (ℤ → ℤ)) (i : Outcome ℤ) →
+select-is : (o : Evaluation (ℤ → ℤ)) (i : Evaluation ℤ) →
     onWorked (onWorked o λ f. worked (elements f)) (entered i) ≡ onWorked o λ f. onWorked (index i) λ v. worked (f v)
 select-is (worked f) i =
     on-index i (λ v. worked (entry (elements f) v)) (λ v. worked (f v)) (λ n h. ap worked (elements-at f n h))
 select-is (stops k) i = refl
 
-put-in : (f : ℤ → ℤ) (n : ℕ) → n < 64 → (a : Outcome ℤ) →
+put-in : (f : ℤ → ℤ) (n : ℕ) → n < 64 → (a : Evaluation ℤ) →
     onWorked a (λ w. worked (withEntry (elements f) (pos n) w))
     ≡ onWorked (onWorked a λ w. worked (put sameInteger f (pos n) w)) λ g. worked (elements g)
 put-in f n h (worked w) = ap worked (set-elements f n w h)
 put-in f n h (stops k) = refl
 
-update-is : (o : Outcome (ℤ → ℤ)) (i a : Outcome ℤ) →
+update-is : (o : Evaluation (ℤ → ℤ)) (i a : Evaluation ℤ) →
     onWorked (onWorked o λ f. worked (elements f)) (replaced i a)
     ≡ onWorked (onWorked o λ f. onWorked (index i) λ v. onWorked a λ w. worked (put sameInteger f v w)) λ g.
     worked (elements g)

@@ -17,7 +17,7 @@ use Rattle.language.specs.Syntax as syntax
 use Rattle.language.specs.Store.{Value}
 use Rattle.layout.specs.EvidenceWords.{expressionPart}
 use Rattle.execution.specs.Lent.{lent, storeOf, elements}
-use Rattle.execution.specs.Evaluate.{Outcome, worked, stops, onWorked, index, evaluate}
+use Rattle.execution.specs.Evaluate.{Evaluation, worked, stops, onWorked, index, evaluate}
 use Rattle.words.specs.declared.ArithmeticWord.the-variants.{Select}
 use Rattle.heads.specs.Stands.{arithmeticAt, PartAt, ExpressionStands}
 
@@ -25,17 +25,17 @@ abbrev pub number : List ℕ → ℕ
 number s = getD s 0 0
 
 -- by the refusal that is recorded
-abbrev pub answer : {A : Type 0} → A → ℕ → Outcome A
+abbrev pub answer : {A : Type 0} → A → ℕ → Evaluation A
 answer r zero = worked r
 answer r (suc k) = stops (suc k)
 
 -- by the refusal that was recorded before
-abbrev pub after : {A : Type 0} → ℕ → Outcome A → Outcome A
+abbrev pub after : {A : Type 0} → ℕ → Evaluation A → Evaluation A
 after zero o = o
 after (suc k) o = stops (suc k)
 
 -- from the record s, the result r and the record s′; nothing else of the record changes
-pub record Answered {A : Type 0} (s : List ℕ) (o : Outcome A) (r : A) (s′ : List ℕ) : Type 0 where
+pub record Answered {A : Type 0} (s : List ℕ) (o : Evaluation A) (r : A) (s′ : List ℕ) : Type 0 where
   pub is : answer r (number s′) ≡ after (number s) o
   pub kept : drop 1 s′ ≡ drop 1 s
 

@@ -15,12 +15,12 @@ use Rattle.language.specs.Store.{Store, value}
 use Rattle.language.specs.Runs.{Runs, runs-sequence, runs-done, runs-again}
 use Rattle.laws.proofs.Bools.{clash}
 use Rattle.execution.specs.Lent.{Lent}
-use Rattle.execution.specs.Evaluate.{Outcome}
+use Rattle.execution.specs.Evaluate.{Evaluation}
 use Rattle.execution.specs.Run.{End, ended, stopped, onEnded, step, turns}
 use Rattle.execution.specs.Due.{Step, tests}
 use Rattle.execution.proofs.Small.{SmallExpression}
 use Rattle.execution.proofs.Evaluated.{WorkedOut, is-worked, is-stopped, evaluated}
-use Rattle.execution.proofs.Assigned.{Holds}
+use Rattle.execution.proofs.Assigned.{Represents}
 use Rattle.language.proofs.Once.{one-end, one-count}
 use Rattle.execution.specs.Refusal.{refusalOf, stepRefusal}
 use Rattle.execution.proofs.Refusal.{refusalLeft}
@@ -34,10 +34,10 @@ pub record PassesBefore (D : Steps) (n : ℕ) : Type 0 where
 
 -- `R k t`: a run of k steps to t; n is the budget
 pub data Agrees (R : ℕ → Store → Type 0) (D : Steps) (n : ℕ) : End → Type 0 where
-  agrees-ended : (k l : ℕ) {m : Lent} {t : Store} → R k t → PassesBefore D k → Holds m t → k + l ≡ n →
+  agrees-ended : (k l : ℕ) {m : Lent} {t : Store} → R k t → PassesBefore D k → Represents m t → k + l ≡ n →
       Agrees R D n (ended l m)
   agrees-stopped : (k l : ℕ) {number p : ℕ} {d : Step} {m : Lent} {t : Store} →
-      D k d p t → refusalLeft l d t ≡ some number → PassesBefore D k → Holds m t → k + l ≡ n →
+      D k d p t → refusalLeft l d t ≡ some number → PassesBefore D k → Represents m t → k + l ≡ n →
       Agrees R D n (stopped number p l m)
 
 pub passes-none : {D : Steps} → PassesBefore D 0
@@ -53,8 +53,8 @@ agrees-map runs same (agrees-stopped k l x q f h e) = agrees-stopped k l (same .
 
 -- one step, that is due at once: o is what its operands come to, by the refusal r that they meet first
 pub agrees-step : {A : Type 0} {W : A → Type 0} {R : ℕ → Store → Type 0} {D : Steps} (at n : ℕ) {m : Lent} {s : Store}
-    (d : Step) {r : Option ℕ} {o : Outcome A} {f : A → ℕ → End} →
-    D 0 d at s → Holds m s → WorkedOut W r o → ((k : ℕ) → r ≡ some k → stepRefusal d s ≡ some k) →
+    (d : Step) {r : Option ℕ} {o : Evaluation A} {f : A → ℕ → End} →
+    D 0 d at s → Represents m s → WorkedOut W r o → ((k : ℕ) → r ≡ some k → stepRefusal d s ≡ some k) →
     ((l : ℕ) (v : A) → W v → r ≡ none → n ≡ suc l → Agrees R D n (f v l)) → Agrees R D n (step at n m o f)
 agrees-step at zero d due h w said next = agrees-stopped 0 0 due refl passes-none h (omega arith)
 agrees-step at (suc n) d due h (is-worked {a = v} w) said next = next n v w refl refl
@@ -107,7 +107,7 @@ module _ {c : Command} {D : Steps} {E : Store → Steps} {s : Store} (before : A
           g .passes-before (subst (λ v. E v k d p t) (sym (one-end r r′)) x) (omega arith)
 
   pub agrees-sequence : {c′ : Command} {n : ℕ} {x : End} {f : ℕ → Lent → End} → Agrees (λ k t. Runs c k s t) D n x →
-      ((l : ℕ) (m : Lent) (t : Store) → l ≤ n → Holds m t → Agrees (λ k u. Runs c′ k t u) (E t) l (f l m)) →
+      ((l : ℕ) (m : Lent) (t : Store) → l ≤ n → Represents m t → Agrees (λ k u. Runs c′ k t u) (E t) l (f l m)) →
       Agrees (λ k t. Runs (sequence c c′) k s t) (DueSequence c D E s) n (onEnded x f)
   agrees-sequence (agrees-stopped k l x q f h e) next = agrees-stopped k l (in-first x) q (passes-first x f) h e
   agrees-sequence {c′} {n} (agrees-ended k l {m = m} {t = t} r f h e) next = second (next l m t (omega arith) h)
@@ -139,9 +139,9 @@ LoopAgrees b c at D s n x = Agrees (λ k t. Runs (while b c) k s t) (DueLoop b c
 -- each turn takes a step, so as many turns as steps left are enough
 module _ (b : Expr Boolean) (c : Command) (at : ℕ) (D : Store → Steps) (small : SmallExpression b)
     (before : (s : Store) → AllBefore c s (D s)) (body : ℕ → Lent → End)
-    (body-agrees : (n : ℕ) (m : Lent) (s : Store) → Holds m s → Agrees (λ k t. Runs c k s t) (D s) n (body n m))
+    (body-agrees : (n : ℕ) (m : Lent) (s : Store) → Represents m s → Agrees (λ k t. Runs c k s t) (D s) n (body n m))
   where
-    pub agrees-loop : (fuel n : ℕ) → n ≤ fuel → (m : Lent) (s : Store) → Holds m s →
+    pub agrees-loop : (fuel n : ℕ) → n ≤ fuel → (m : Lent) (s : Store) → Represents m s →
         LoopAgrees b c at D s n (turns fuel b body at n m)
     unfolding turns
     agrees-loop zero n l m s h =
@@ -152,7 +152,7 @@ module _ (b : Expr Boolean) (c : Command) (at : ℕ) (D : Store → Steps) (smal
         (turn (agrees-loop fuel))
       where
         turn :
-            ((n : ℕ) → n ≤ fuel → (m : Lent) (s : Store) → Holds m s →
+            ((n : ℕ) → n ≤ fuel → (m : Lent) (s : Store) → Represents m s →
             LoopAgrees b c at D s n (turns fuel b body at n m)) →
             (j : ℕ) (v : Bool) → v ≡ value b s → refusalOf b s ≡ none → n ≡ suc j →
             LoopAgrees b c at D s n (elim v [ true ↦ onEnded (body j m) (turns fuel b body at) | false ↦ ended j m ])

@@ -1,7 +1,7 @@
 -- An assignment of the runner gives the store that the language's definition gives, or stops by the refusal that its
 -- right side meets first.
 -- Assumes nothing.
---     Sized, Holds         32 scalars and 2,048 values; a lent store that is sized, held by a store
+--     Sized, Represents    32 scalars and 2,048 values; a lent store that is sized, held by a store
 --     held-set             a scalar is set
 --     held-paste           an array's 64 values are replaced
 --     given-holds          the law
@@ -30,7 +30,7 @@ pub record Sized (m : Lent) : Type 0 where
   pub scalars-sized : length (m .scalars) ≡ 32
   pub values-sized : length (m .values) ≡ 2048
 
-pub record Holds (m : Lent) (s : Store) : Type 0 where
+pub record Represents (m : Lent) (s : Store) : Type 0 where
   pub sized : Sized m
   pub held : HeldBy m s
 
@@ -78,8 +78,8 @@ module _ (d : List ℤ) (at : ℕ) (s : List ℤ) (n : ℕ) (hd : at + n ≤ len
       ∙ getD-drop (at + n) d (j - (at + n)) (pos 0) ∙ ap (λ (k : ℕ). getD d k (pos 0)) e′
 
 -- a scalar is set
-pub held-set : (m : Lent) (s : Store) → Holds m s → (x : ℕ) → x < 32 → (v w : ℤ) → v ≡ w →
-    Holds (record { scalars = set (m .scalars) x v; values = m .values })
+pub held-set : (m : Lent) (s : Store) → Represents m s → (x : ℕ) → x < 32 → (v w : ℤ) → v ≡ w →
+    Represents (record { scalars = set (m .scalars) x v; values = m .values })
     (record { scalars = put eqb (s .scalars) x w; arrays = s .arrays })
 held-set m s h x l v w e = record {
   sized = record {
@@ -99,8 +99,8 @@ held-set m s h x l v w e = record {
         getD-set-other (m .scalars) x y v (pos 0) (λ q. eqb-false x y t (sym q)) ∙ h .held .scalars-held y k
 
 -- an array's values at 0 to 63 are replaced
-pub held-paste : (m : Lent) (s : Store) → Holds m s → (a : ℕ) → a < 32 → (f g : ℤ → ℤ) → Near Array f g →
-    Holds (record { scalars = m .scalars; values = paste (m .values) (64 * a) (elements f) 64 })
+pub held-paste : (m : Lent) (s : Store) → Represents m s → (a : ℕ) → a < 32 → (f g : ℤ → ℤ) → Near Array f g →
+    Represents (record { scalars = m .scalars; values = paste (m .values) (64 * a) (elements f) 64 })
     (record { scalars = s .scalars; arrays = put eqb (s .arrays) a g })
 held-paste m s h a l f g near = record {
   sized = record {
@@ -132,8 +132,8 @@ held-paste m s h a l f g near = record {
     at-array b i k j false t = other b i j (eqb-false a b t) (ltb b a) refl ∙ h .held .arrays-held b i k j
 
 -- THE LAW of assignments
-pub given-holds : (a : Assignment) → SmallAssignment a → (m : Lent) (s : Store) → Holds m s →
-    WorkedOut (λ m′. Holds m′ (assigned a s)) (stepRefusal (gives a) s) (given a m)
+pub given-holds : (a : Assignment) → SmallAssignment a → (m : Lent) (s : Store) → Represents m s →
+    WorkedOut (λ m′. Represents m′ (assigned a s)) (stepRefusal (gives a) s) (given a m)
 unfolding SmallAssignment stepRefusal
 given-holds (toScalar x e) small m s h =
     mapped (λ v. record { scalars = set (m .scalars) x v; values = m .values })

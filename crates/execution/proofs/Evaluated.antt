@@ -19,7 +19,7 @@ use Rattle.language.specs.Syntax.{compare, truth, and, or, neg, array, zeros, u
 use Rattle.language.specs.Store.{Store, Value, sameInteger, put, apply, relate, value}
 use Rattle.laws.proofs.Bools.{and-right, clash}
 use Rattle.execution.specs.Lent.{Lent, storeOf, HeldBy}
-use Rattle.execution.specs.Evaluate.{Outcome, worked, stops, onWorked, inRange, isIndex, tested, index, evaluate}
+use Rattle.execution.specs.Evaluate.{Evaluation, worked, stops, onWorked, inRange, isIndex, tested, index, evaluate}
 use Rattle.execution.specs.Refusal.{unless, first, refusalOf}
 use Rattle.execution.proofs.Small.{SmallExpression}
 
@@ -30,12 +30,12 @@ Near Boolean v w = v ≡ w
 Near Array f g = (i : ℕ) → i < 64 → f (pos i) ≡ g (pos i)
 
 -- an outcome: a value with a property, or the refusal that is met first
-pub data WorkedOut {A : Type 0} (W : A → Type 0) : Option ℕ → Outcome A → Type 0 where
+pub data WorkedOut {A : Type 0} (W : A → Type 0) : Option ℕ → Evaluation A → Type 0 where
   is-worked : {a : A} → W a → WorkedOut W none (worked a)
   is-stopped : {k : ℕ} → WorkedOut W (some k) (stops k)
 
 -- operands one after the other
-pub after : {A B : Type 0} {W : A → Type 0} {X : B → Type 0} {r : Option ℕ} {o : Outcome A} {f : A → Outcome B}
+pub after : {A B : Type 0} {W : A → Type 0} {X : B → Type 0} {r : Option ℕ} {o : Evaluation A} {f : A → Evaluation B}
     (l : List (Option ℕ)) →
     WorkedOut W r o → ((a : A) → W a → WorkedOut X (first l) (f a)) → WorkedOut X (first (r ∷ l)) (onWorked o f)
 unfolding first
@@ -43,13 +43,13 @@ after l (is-worked {a = a} w) k = k a w
 after l is-stopped k = is-stopped
 
 -- what is made of one operand
-pub mapped : {A B : Type 0} {W : A → Type 0} {X : B → Type 0} {r : Option ℕ} {o : Outcome A} (g : A → B) →
+pub mapped : {A B : Type 0} {W : A → Type 0} {X : B → Type 0} {r : Option ℕ} {o : Evaluation A} (g : A → B) →
     WorkedOut W r o → ((a : A) → W a → X (g a)) → WorkedOut X r (onWorked o λ a. worked (g a))
 mapped g (is-worked {a = a} w) k = is-worked (k a w)
 mapped g is-stopped k = is-stopped
 
 -- and of the last operand
-last : {A B : Type 0} {W : A → Type 0} {X : B → Type 0} {r : Option ℕ} {o : Outcome A} (g : A → B) →
+last : {A B : Type 0} {W : A → Type 0} {X : B → Type 0} {r : Option ℕ} {o : Evaluation A} (g : A → B) →
     WorkedOut W r o → ((a : A) → W a → X (g a)) → WorkedOut X (first (r ∷ [])) (onWorked o λ a. worked (g a))
 unfolding first
 last g w k = after [] w λ a h. is-worked (k a h)
@@ -60,7 +60,7 @@ index-within (pos n) h = let l = leb-true n 63 (and-right (leb 0 n) (leb n 63) h
 index-within (negsuc n) h = clash h refl
 
 -- an index, tested, and what follows it
-indexed : {B : Type 0} {X : B → Type 0} {z : ℤ} {r : Option ℕ} {o : Outcome ℤ} {f : ℤ → Outcome B}
+indexed : {B : Type 0} {X : B → Type 0} {z : ℤ} {r : Option ℕ} {o : Evaluation ℤ} {f : ℤ → Evaluation B}
     (l : List (Option ℕ)) → WorkedOut (λ w. w ≡ z) r o →
     ((v : ℤ) → v ≡ z → isIndex v ≡ true → WorkedOut X (first l) (f v)) →
     WorkedOut X (first (r ∷ unless (isIndex z) 15 ∷ l)) (onWorked (index o) f)

@@ -37,7 +37,7 @@ use Rattle.execution.proofs.OneStep.{due-once}
 use Rattle.execution.proofs.Agrees.{PassesBefore, agrees-ended, agrees-stopped}
 use Rattle.execution.proofs.RunAgrees.{CommandAgrees, run-agrees}
 use Rattle.execution.proofs.ReadFile.{file-small}
-use Rattle.execution.proofs.Order.{run-is, Judged, not-read, over-budget, ill-sized, is-run, judged}
+use Rattle.execution.proofs.Order.{run-is, StepJudged, not-read, over-budget, ill-sized, is-run, judged}
 
 -- the test of sizes
 sized-of : (m : Lent) → wellSized m ≡ true → Sized m
@@ -184,7 +184,7 @@ steps-within Γ bytes budget m = by-order (judged Γ bytes budget m)
     of-run (ended n m) = omega arith
     of-run (stopped k p n m) = omega arith
 
-    by-order : {r : Ran} → Judged Γ bytes budget m r → r .steps ≤ budget
+    by-order : {r : Ran} → StepJudged Γ bytes budget m r → r .steps ≤ budget
     by-order (not-read e) = omega arith
     by-order (over-budget e l) = omega arith
     by-order (ill-sized e l h) = omega arith

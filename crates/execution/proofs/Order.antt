@@ -2,7 +2,7 @@
 -- those refusals no step is reported and the store is as it was lent.
 -- Assumes nothing.
 --     not-read-is, over-budget-is, ill-sized-is, run-is    the answer, by what holds of bytes, budget and store
---     Judged, judged                                       one of these four gives the answer
+--     StepJudged, judged                                   one of these four gives the answer
 use mathlib.Core.Path.{_≡_, refl}
 use mathlib.Core.Bool.{Bool, true, false}
 use mathlib.Core.List.{List}
@@ -40,32 +40,32 @@ module _ (Γ : Context) (bytes : List ℕ) (budget : ℕ) (m : Lent) where
     run-is l h = rw (e, runOf) (rw (le-ltb 1000000 budget l, runFile) (rw h))
 
 -- one of the four gives the answer
-pub data Judged (Γ : Context) (bytes : List ℕ) (budget : ℕ) (m : Lent) : Ran → Type 0 where
-  not-read : {k p : ℕ} → fileOf Γ bytes ≡ fault k p → Judged Γ bytes budget m (notRun k p m)
+pub data StepJudged (Γ : Context) (bytes : List ℕ) (budget : ℕ) (m : Lent) : Ran → Type 0 where
+  not-read : {k p : ℕ} → fileOf Γ bytes ≡ fault k p → StepJudged Γ bytes budget m (notRun k p m)
   over-budget : {f : File} {p : ℕ} → fileOf Γ bytes ≡ read f p → 1000000 < budget →
-      Judged Γ bytes budget m (notRun 10 0 m)
+      StepJudged Γ bytes budget m (notRun 10 0 m)
   ill-sized : {f : File} {p : ℕ} → fileOf Γ bytes ≡ read f p → budget ≤ 1000000 → wellSized m ≡ false →
-      Judged Γ bytes budget m (notRun 11 0 m)
+      StepJudged Γ bytes budget m (notRun 11 0 m)
   is-run : {f : File} {p : ℕ} → fileOf Γ bytes ≡ read f p → budget ≤ 1000000 → wellSized m ≡ true →
-      Judged Γ bytes budget m (ranOf budget (run (f .program) 1 budget m))
+      StepJudged Γ bytes budget m (ranOf budget (run (f .program) 1 budget m))
 
 pub judged : (Γ : Context) (bytes : List ℕ) (budget : ℕ) (m : Lent) →
-    Judged Γ bytes budget m (runOf Γ bytes budget m)
+    StepJudged Γ bytes budget m (runOf Γ bytes budget m)
 judged Γ bytes budget m = by-file (fileOf Γ bytes) refl
   where
     by-size : (f : File) (p : ℕ) → fileOf Γ bytes ≡ read f p → budget ≤ 1000000 → (t : Bool) → wellSized m ≡ t →
-        Judged Γ bytes budget m (runOf Γ bytes budget m)
+        StepJudged Γ bytes budget m (runOf Γ bytes budget m)
     by-size f p e l true h = rw (run-is Γ bytes budget m f p e l h) (is-run e l h)
     by-size f p e l false h = rw (ill-sized-is Γ bytes budget m f p e l h) (ill-sized e l h)
 
     by-budget : (f : File) (p : ℕ) → fileOf Γ bytes ≡ read f p → (t : Bool) → ltb 1000000 budget ≡ t →
-        Judged Γ bytes budget m (runOf Γ bytes budget m)
+        StepJudged Γ bytes budget m (runOf Γ bytes budget m)
     by-budget f p e true h =
         let l = ltb-true 1000000 budget h in
         rw (over-budget-is Γ bytes budget m f p e l) (over-budget e l)
     by-budget f p e false h = by-size f p e (ltb-false 1000000 budget h) (wellSized m) refl
 
     by-file : (x : Reading File) → fileOf Γ bytes ≡ x →
-        Judged Γ bytes budget m (runOf Γ bytes budget m)
+        StepJudged Γ bytes budget m (runOf Γ bytes budget m)
     by-file (read f p) e = by-budget f p e (ltb 1000000 budget) refl
     by-file (fault k p) e = rw (not-read-is Γ bytes budget m k p e) (not-read e)

@@ -22,7 +22,7 @@ use Rattle.execution.specs.Due.{Step, skips, asserts, tests, gives}
 use Rattle.execution.specs.Due.{Due, due-skip, due-assert, due-assign, due-if}
 use Rattle.execution.proofs.Small.{SmallExpression, SmallAssignment, SmallCommand}
 use Rattle.execution.proofs.Evaluated.{is-worked, evaluated}
-use Rattle.execution.proofs.Assigned.{Holds, given-holds}
+use Rattle.execution.proofs.Assigned.{Represents, given-holds}
 use Rattle.execution.specs.Refusal.{unless, first, refusalOf, stepRefusal}
 use Rattle.execution.proofs.Steps.{then-steps, else-steps, sequence-steps, while-steps, for-steps}
 use Rattle.execution.proofs.Steps.{Test, Turn, InTurn, turn-before, command-before}
@@ -67,18 +67,18 @@ assign-alone : {a : Assignment} {at : ℕ} {s : Store} {k : ℕ} {d : Step} {p :
     stepRefusal (gives a) s ≡ none → Due (assign a) at s k d p t → stepRefusal d t ≡ none
 assign-alone f due-assign = f
 
-assigns-agrees : (a : Assignment) → SmallAssignment a → (at n : ℕ) (m : Lent) (s : Store) → Holds m s →
+assigns-agrees : (a : Assignment) → SmallAssignment a → (at n : ℕ) (m : Lent) (s : Store) → Represents m s →
     CommandAgrees (assign a) at s n (assigns a at n m)
 assigns-agrees a small at n m s h =
     agrees-step at n (gives a) due-assign h (given-holds a small m s h) (λ k e. e) λ l m′ h′ f e.
     agrees-ended 1 l runs-assign (record { passes-before = λ x _. assign-alone f x }) h′ (omega arith)
 
 -- ---- THE LAW
-pub run-agrees : (c : Command) → SmallCommand c → (at n : ℕ) (m : Lent) (s : Store) → Holds m s →
+pub run-agrees : (c : Command) → SmallCommand c → (at n : ℕ) (m : Lent) (s : Store) → Represents m s →
     CommandAgrees c at s n (run c at n m)
 unfolding run SmallCommand SmallAssignment SmallExpression
 run-agrees skip small at n m s h =
-    agrees-step {W = λ m′. Holds m′ s} at n skips due-skip h (is-worked h) (λ k e. none-some e) λ l m′ h′ f e.
+    agrees-step {W = λ m′. Represents m′ s} at n skips due-skip h (is-worked h) (λ k e. none-some e) λ l m′ h′ f e.
     agrees-ended 1 l runs-skip (record { passes-before = λ x _. skip-alone (skips-pass s) x }) h′ (omega arith)
 run-agrees (sequence c c′) small at n m s h =
     agrees-map (λ k t r. r) sequence-steps
@@ -123,8 +123,8 @@ run-agrees (for q r c) small at n m s h =
     (turn-agrees (λ n m s h. run-agrees c (small .2) (at + 1) n m s h)) l l (omega arith) m′ t h′)
   where
     turn-agrees :
-        ((n : ℕ) (m : Lent) (s : Store) → Holds m s → CommandAgrees c (at + 1) s n (run c (at + 1) n m)) →
-        (n : ℕ) (m : Lent) (s : Store) → Holds m s →
+        ((n : ℕ) (m : Lent) (s : Store) → Represents m s → CommandAgrees c (at + 1) s n (run c (at + 1) n m)) →
+        (n : ℕ) (m : Lent) (s : Store) → Represents m s →
         Agrees (λ k t. Runs (Turn q c) k s t) (InTurn q c at s) n
         (onEnded (run c (at + 1) n m) (assigns (increment q) at))
     turn-agrees body n m s h =

@@ -1,10 +1,10 @@
 -- Expressions as the runner works them out (document 01, "Runner"): operands go left first, both sides of and and or
 -- too; an index is tested as soon as it is worked out.
 -- Trusted. Assumes nothing.
---     Outcome, onWorked     what was worked out, or the number of the refusal that stops it; going on from it
---     inRange, isIndex      the signed 64-bit range; an index 0 to 63
---     tested, index         a value that is tested; an index, tested
---     evaluate              an expression in a store
+--     Evaluation, onWorked    what was worked out, or the number of the refusal that stops it; going on from it
+--     inRange, isIndex        the signed 64-bit range; an index 0 to 63
+--     tested, index           a value that is tested; an index, tested
+--     evaluate                an expression in a store
 use mathlib.Core.Bool.{Bool, true, false, not, _&&_, _||_}
 use Prim.Native.Nat.{ℕ}
 use lib.IntN.{ℤ, pos, negsuc}
@@ -13,11 +13,11 @@ use Rattle.language.specs.Syntax.{Sort, Expr, constant, scalar, operation, sele
 use Rattle.language.specs.Syntax.{array, zeros, update}
 use Rattle.language.specs.Store.{Store, Value, sameInteger, put, apply, relate}
 
-pub data Outcome (A : Type 0) : Type 0 where
-  worked : A → Outcome A
-  stops : ℕ → Outcome A
+pub data Evaluation (A : Type 0) : Type 0 where
+  worked : A → Evaluation A
+  stops : ℕ → Evaluation A
 
-abbrev pub onWorked : {A B : Type 0} → Outcome A → (A → Outcome B) → Outcome B
+abbrev pub onWorked : {A B : Type 0} → Evaluation A → (A → Evaluation B) → Evaluation B
 onWorked (worked a) f = f a
 onWorked (stops k) f = stops k
 
@@ -27,16 +27,16 @@ inRange z = leZ (negsuc 9223372036854775807) z && leZ z (pos 9223372036854775807
 abbrev pub isIndex : ℤ → Bool
 isIndex z = leZ (pos 0) z && leZ z (pos 63)
 
-abbrev pub tested : Bool → ℕ → ℤ → Outcome ℤ
+abbrev pub tested : Bool → ℕ → ℤ → Evaluation ℤ
 tested true k z = worked z
 tested false k z = stops k
 
 -- refusal 15
-abbrev pub index : Outcome ℤ → Outcome ℤ
+abbrev pub index : Evaluation ℤ → Evaluation ℤ
 index o = onWorked o λ i. tested (isIndex i) 15 i
 
 -- refusal 14 at an operation, 15 at an index
-unfoldable pub evaluate : {k : Sort} → Expr k → Store → Outcome (Value k)
+unfoldable pub evaluate : {k : Sort} → Expr k → Store → Evaluation (Value k)
 evaluate (constant z) s = worked z
 evaluate (scalar x) s = worked (s .scalars x)
 evaluate (operation o a b) s = onWorked (evaluate a s) λ v. onWorked (evaluate b s) λ w.

@@ -16,7 +16,7 @@ use Rattle.language.specs.Syntax.{Command, skip, sequence, assert, assign, ifEl
 use Rattle.language.specs.Runs.{start, increment}
 use Rattle.rules.specs.Words.{words, commandWords}
 use Rattle.execution.specs.Lent.{Lent, storeOf, elements}
-use Rattle.execution.specs.Evaluate.{Outcome, worked, stops, onWorked, evaluate}
+use Rattle.execution.specs.Evaluate.{Evaluation, worked, stops, onWorked, evaluate}
 
 pub data End : Type 0 where
   ended : ℕ → Lent → End
@@ -27,13 +27,13 @@ onEnded (ended n m) f = f n m
 onEnded (stopped k p n m) f = stopped k p n m
 
 -- at 13, 14 and 15 the store is as before the step; otherwise one step less is left
-abbrev pub step : {A : Type 0} → ℕ → ℕ → Lent → Outcome A → (A → ℕ → End) → End
+abbrev pub step : {A : Type 0} → ℕ → ℕ → Lent → Evaluation A → (A → ℕ → End) → End
 step at zero m o f = stopped 13 at 0 m
 step at (suc n) m (worked v) f = f v n
 step at (suc n) m (stops k) f = stopped k at (suc n) m
 
 -- the store with the identifier given the value that was worked out
-abbrev pub given : Assignment → Lent → Outcome Lent
+abbrev pub given : Assignment → Lent → Evaluation Lent
 given (toScalar x e) m = onWorked (evaluate e (storeOf m)) λ v.
     worked (record { scalars = set (m .scalars) x v; values = m .values })
 given (toArray a e) m = onWorked (evaluate e (storeOf m)) λ f.

@@ -26,7 +26,7 @@ use Rattle.reader.specs.declared.Layout.the-variants as Layout
 use Rattle.scan.specs.Steady.{FirstFound}
 use Rattle.scan.specs.declared.steady.Steadiness.{Steadiness}
 use Rattle.scan.specs.declared.steady.Steadiness.the-variants.{Steady, At}
-use Rattle.file.specs.Found.{Room, Found, Tabled, CanLoad, FileRead}
+use Rattle.file.specs.Found.{TableRoom, Found, Tabled, CanLoad, FileRead}
 use Rattle.file.proofs.Found.{found-read, found-whole, steady-none, steady-some}
 use Rattle.file.proofs.Found.{words-steady, words-unsteady, words-refused}
 
@@ -84,7 +84,7 @@ pub loaded-all : {bytes words table after : List ℕ} {n : ℕ} → CanLoad byte
 loaded-all c h l = all-loaded h l (c .fits h)
 
 pub loaded-room : {bytes words table after : List ℕ} {n : ℕ} → CanLoad bytes words table → badLength bytes ≡ false →
-    AllLoaded bytes after n → Room (take n after) table
+    AllLoaded bytes after n → TableRoom (take n after) table
 loaded-room c h l = record {
   size = l .size;
   room = let f = c .fits h in omega (arith, c .wide, l .count, l .few);

@@ -1,9 +1,9 @@
 -- What refusals 1 to 7 leave of a file: its words, their table and the places of its parts (document 01, "Judging order").
 -- Working: `steady-tabled`, `refused-tabled` and `loaded-file` of proofs/Files tie it to the layout's `wordsRead` and `fileOf`.
 -- Assumes nothing.
---     Room, Found        room for the table of some words; the places of words that refusals 2 to 6 let pass
---     Tabled             refusals 2 to 7: the places, and the table is filled
---     CanLoad, FileRead  room for the words and the table of a file; refusals 1 to 7, of bytes
+--     TableRoom, Found     room for the table of some words; the places of words that refusals 2 to 6 let pass
+--     Tabled               refusals 2 to 7: the places, and the table is filled
+--     CanLoad, FileRead    room for the words and the table of a file; refusals 1 to 7, of bytes
 use mathlib.Core.Path.{_≡_}
 use mathlib.Core.Bool.{false}
 use mathlib.Core.List.{List}
@@ -19,7 +19,7 @@ use Rattle.reader.specs.declared.Places.{Places}
 use Rattle.reader.specs.declared.Layout.{Layout}
 use Rattle.reader.specs.declared.Layout.the-variants as Layout
 
-pub record Room (file table : List ℕ) : Type 0 where
+pub record TableRoom (file table : List ℕ) : Type 0 where
   pub size : length file ≤ 8192
   pub room : length file + 2 * (length file / 32) ≤ length table
 

@@ -13,7 +13,7 @@ use words::load::load;
 ghost use mathlib.Core.Path.{_≡_};
 ghost use Rattle.rules.specs.Context.{standard};
 ghost use Rattle.context.specs.Contexts.{contextOf};
-ghost use Rattle.file.specs.Found.{Found, Room, Tabled, CanLoad, FileRead};
+ghost use Rattle.file.specs.Found.{Found, TableRoom, Tabled, CanLoad, FileRead};
 
 // Document 01's context.
 pub fn standard_context() -> Context
@@ -28,7 +28,7 @@ pub fn standard_context() -> Context
 
 // Refusal 7, of words that refusals 2 to 6 let pass; their table is filled.
 fn read_steady(w: &[u32], table: &mut [u32], context: Context, places: Places) -> Layout
-    requires { ⌜ Found (now w) context places × Room (now w) (now table) ⌝ }
+    requires { ⌜ Found (now w) context places × TableRoom (now w) (now table) ⌝ }
     ensures { λ r. ⌜ Tabled (now (w .entry)) context r (now (table .exit)) ⌝ }
 {
     fill_table(w, table);
@@ -41,7 +41,7 @@ fn read_steady(w: &[u32], table: &mut [u32], context: Context, places: Places) -
 
 // Refusals 2 to 7.
 fn read_table(w: &[u32], table: &mut [u32], context: Context) -> Layout
-    requires { ⌜ Room (now w) (now table) ⌝ }
+    requires { ⌜ TableRoom (now w) (now table) ⌝ }
     ensures { λ r. ⌜ Tabled (now (w .entry)) context r (now (table .exit)) ⌝ }
 {
     let found = read_words(w, context);

@@ -23,7 +23,7 @@ use Rattle.layout.specs.File.{File, badLength, fileOf}
 use Rattle.layout.specs.FileWords.{FileSpelled}
 use Rattle.layout.specs.Verdict.{judged, verdictOf, bytesBetween, partOf, precondition, postcondition}
 use Rattle.layout.specs.Verdict.{packedPlaces, programPlaces, preconditionPlaces, postconditionPlaces}
-use Rattle.layout.proofs.WholeFile.{FileRead, file-spelled}
+use Rattle.layout.proofs.WholeFile.{FilePassed, file-spelled}
 use Rattle.words.proofs.Loading.{words-length}
 use Rattle.reader.specs.File.{places}
 use Rattle.context.specs.declared.Refusal.{Refusal}
@@ -35,7 +35,7 @@ use Rattle.words.proofs.Lengths.{bad-file, good-file, good-length}
 
 -- a file that was read from bytes
 pub record FileOf (Γ : Context) (bytes : List ℕ) (f : File) (p : ℕ) : Type 0 where
-  pub words-read : FileRead Γ (wordsOf bytes) f p
+  pub words-read : FilePassed Γ (wordsOf bytes) f p
   pub few : length bytes ≤ 32768
   pub pre-post : f .preAt ≤ f .postAt
   pub post-evidence : f .postAt ≤ f .evidenceAt

@@ -1,6 +1,6 @@
 -- Where the judge refuses (document 01, "Judging order" 8 and 9): at the place of a word of the file, with 8 or 9.
 -- Assumes nothing.
---     Inside         a refused verdict has a number up to 9 and the place of one of n words
+--     PlaceInside    a refused verdict has a number up to 9 and the place of one of n words
 --     flow-inside    evidence that stands in a file, judged
 use mathlib.Core.Path.{_≡_}
 use mathlib.Core.List.{List}
@@ -16,18 +16,18 @@ use Rattle.layout.specs.Bytes.{wordCount}
 use Rattle.layout.specs.EvidenceWords.{spelledTree, FitsTree}
 use Rattle.layout.proofs.SpelledEvidence.{TreeAt, parted-trees}
 
-pub record Inside (n : ℕ) (v : Verdict) : Type 0 where
+pub record PlaceInside (n : ℕ) (v : Verdict) : Type 0 where
   pub inside : (k i : ℕ) → v ≡ refused k i → (k ≤ 9) × (i < n)
 
-accepted-inside : (n m : ℕ) → Inside n (accepted m)
+accepted-inside : (n m : ℕ) → PlaceInside n (accepted m)
 accepted-inside n m = record { inside = λ k i e. absurd (let z : _≡_ {A = ℕ} 0 1 = cc in omega arith) }
 
-refused-inside : {n : ℕ} (k i : ℕ) → k ≤ 9 → i < n → Inside n (refused k i)
+refused-inside : {n : ℕ} (k i : ℕ) → k ≤ 9 → i < n → PlaceInside n (refused k i)
 refused-inside k i h l = record {
   inside = λ m j e. let x : k ≡ m = cc in let y : i ≡ j = cc in (omega arith, omega arith);
 }
 
-inside : (n : ℕ) → Holding (λ i. i < n) (λ v m. Inside n v)
+inside : (n : ℕ) → Holding (λ i. i < n) (λ v m. PlaceInside n v)
 unfolding _also_ oneMore
 inside n = record {
   nothing = accepted-inside n 0;
@@ -37,12 +37,12 @@ inside n = record {
   large = λ i _ h. refused-inside 9 i (omega arith) h;
 }
   where
-    both : (v w : Verdict) → Inside n v → Inside n w → Inside n (v also w)
+    both : (v w : Verdict) → PlaceInside n v → PlaceInside n w → PlaceInside n (v also w)
     both (accepted a) (accepted b) g h = accepted-inside n (a + b)
     both (accepted a) (refused k i) g h = h
     both (refused k i) w g h = g
 
-    passed : (v : Verdict) → Inside n v → Inside n (oneMore v)
+    passed : (v : Verdict) → PlaceInside n v → PlaceInside n (oneMore v)
     passed (accepted a) h = accepted-inside n (suc a)
     passed (refused k i) h = h
 
@@ -65,5 +65,5 @@ standing Γ file (x & t) d at p s =
     (standing Γ file x d at (y .0) (y .1), standing Γ file t d (y .0) p (y .2))
 
 pub flow-inside : (Γ : Context) (file : List ℕ) (k : FlowEvidence) (m : Members) (c : Command) (n : Members)
-    (d at p : ℕ) → TreeAt Γ file d at k p → Inside (wordCount file) (judge Γ k m c n)
+    (d at p : ℕ) → TreeAt Γ file d at k p → PlaceInside (wordCount file) (judge Γ k m c n)
 flow-inside Γ file k m c n d at p s = flow-holds (inside (wordCount file)) Γ k m c n (standing Γ file k d at p s)

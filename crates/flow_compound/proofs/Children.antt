@@ -9,16 +9,16 @@ use Prim.Native.Nat.{ℕ, _<_}
 use native.Mathlib.Omega.{arith}
 use borrow.Author.Tests.{ne-eqb}
 use Rattle.rule_laws.proofs.Trying.{only-rule}
-use Rattle.flow_compound.specs.Children.{CanChild}
+use Rattle.flow_compound.specs.Children.{CanFlowChild}
 
 pub last-of-three : {k : ℕ} → k < 3 → (k ≡ 0 → ⊥) → (k ≡ 1 → ⊥) → k ≡ 2
 last-of-three l h i = omega arith
 
-pub of-rule : {ends : List ℕ} {rule n p c q at k : ℕ} → rule ≡ n → CanChild ends rule p c q at k →
-    CanChild ends n p c q at k
-of-rule {ends} {p = p} {c} {q} {at} {k} e x = subst (λ i. CanChild ends i p c q at k) e x
+pub of-rule : {ends : List ℕ} {rule n p c q at k : ℕ} → rule ≡ n → CanFlowChild ends rule p c q at k →
+    CanFlowChild ends n p c q at k
+of-rule {ends} {p = p} {c} {q} {at} {k} e x = subst (λ i. CanFlowChild ends i p c q at k) e x
 
-pub last-rule : {ends : List ℕ} {n p c q at k : ℕ} → CanChild ends n p c q at k → (n ≡ 2 → ⊥) → (n ≡ 6 → ⊥) →
+pub last-rule : {ends : List ℕ} {n p c q at k : ℕ} → CanFlowChild ends n p c q at k → (n ≡ 2 → ⊥) → (n ≡ 6 → ⊥) →
     (n ≡ 7 → ⊥) → (n ≡ 8 → ⊥) → (n ≡ 9 → ⊥) → (n ≡ 11 → ⊥) → (n ≡ 12 → ⊥) → (n ≡ 13 → ⊥) → n ≡ 14
 last-rule {n = n} {k = k} x h₂ h₆ h₇ h₈ h₉ h₁₁ h₁₂ h₁₃ =
     only-rule n 14 _ k

@@ -17,7 +17,7 @@ use Rattle.rules.specs.Assertion.{Members}
 use Rattle.rules.specs.Context.{Context}
 use Rattle.rules.specs.Evidence.{done, Parts}
 use Rattle.rules.specs.Condition.{Result, test, _then_}
-use Rattle.rules.specs.Judge.{Verdict, Step, step}
+use Rattle.rules.specs.Judge.{Verdict, RuleStep, step}
 use Rattle.ends.specs.Places.{endAt, CommandAt, SetAt}
 use Rattle.implication.specs.declared.Condition.the-variants.{Fails}
 use Rattle.goals.specs.declared.Goal.{Goal}
@@ -51,7 +51,7 @@ pub record Trees (Γ : Context) (file ends : List ℕ) (p c q : ℕ) : Type 0 wh
   pub after-at : SetAt file ends Γ after q
 
 -- the code's test a is the rule's b
-module _ {Γ : Context} {file ends : List ℕ} {s : Step} {goals : List Goal} {d next end : ℕ} {v : Verdict}
+module _ {Γ : Context} {file ends : List ℕ} {s : RuleStep} {goals : List Goal} {d next end : ℕ} {v : Verdict}
     {a b : Bool} where
   pub by-test : s ≡ step (test b) v → a ≡ b → ChildrenOf Γ file ends v goals d next end →
       ComesTo Γ file ends s goals d next end (conditionOf a)

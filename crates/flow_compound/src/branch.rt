@@ -13,7 +13,7 @@ ghost use Rattle.context.specs.Contexts.{contextOf};
 ghost use Rattle.goals.specs.Children.{childAt};
 ghost use Rattle.goals.specs.Goals.{CanTry, StepOf};
 ghost use Rattle.goals.specs.declared.Goal.the-variants.{Flow};
-ghost use Rattle.flow_compound.specs.Children.{CanChild};
+ghost use Rattle.flow_compound.specs.Children.{CanFlowChild};
 
 // Rule 6. If; Q one written member φ ⇒ E; carries S, T and φ0; P same as S under B, T under ¬B and φ0 ⇒ B
 // together.
@@ -43,7 +43,7 @@ pub fn rule_6(
 
 // Its children: (S, C1, Q), (T, C2, Q), precondition (φ0, C, φ).
 pub fn child_6(ends: &[u32], at: usize, p: usize, c: usize, q: usize, k: usize) -> Goal
-    requires { ⌜ CanChild (now ends) 6 p c q «at» k ⌝ }
+    requires { ⌜ CanFlowChild (now ends) 6 p c q «at» k ⌝ }
     ensures { λ r. ⌜ r ≡ childAt (now (ends .entry)) (Flow p c q) 6 «at» k ⌝ }
 {
     let s = at + 1;

@@ -15,7 +15,7 @@ ghost use Rattle.context.specs.Contexts.{contextOf};
 ghost use Rattle.goals.specs.Children.{childAt};
 ghost use Rattle.goals.specs.Goals.{CanTry, StepOf};
 ghost use Rattle.goals.specs.declared.Goal.the-variants.{Flow};
-ghost use Rattle.flow_compound.specs.Children.{CanChild};
+ghost use Rattle.flow_compound.specs.Children.{CanFlowChild};
 
 // Rule 13. While; P same as Q; true ⇒ B stands in P.
 pub fn rule_13(
@@ -41,7 +41,7 @@ pub fn rule_13(
 
 // Its child: (P, C1, Q).
 pub fn child_13(ends: &[u32], at: usize, p: usize, c: usize, q: usize, k: usize) -> Goal
-    requires { ⌜ CanChild (now ends) 13 p c q «at» k ⌝ }
+    requires { ⌜ CanFlowChild (now ends) 13 p c q «at» k ⌝ }
     ensures { λ r. ⌜ r ≡ childAt (now (ends .entry)) (Flow p c q) 13 «at» k ⌝ }
 {
     let body = end_or_zero(ends, c + 1);
@@ -69,7 +69,7 @@ pub fn rule_14(
 
 // Its child: (P, D, Q).
 pub fn child_14(ends: &[u32], at: usize, p: usize, c: usize, q: usize, k: usize) -> Goal
-    requires { ⌜ CanChild (now ends) 14 p c q «at» k ⌝ }
+    requires { ⌜ CanFlowChild (now ends) 14 p c q «at» k ⌝ }
     ensures { λ r. ⌜ r ≡ childAt (now (ends .entry)) (Flow p c q) 14 «at» k ⌝ }
 {
     Goal::Flow(p, at + 1, q)

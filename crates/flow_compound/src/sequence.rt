@@ -10,7 +10,7 @@ ghost use Rattle.context.specs.Contexts.{contextOf};
 ghost use Rattle.goals.specs.Children.{childAt};
 ghost use Rattle.goals.specs.Goals.{CanTry, StepOf};
 ghost use Rattle.goals.specs.declared.Goal.the-variants.{Flow};
-ghost use Rattle.flow_compound.specs.Children.{CanChild};
+ghost use Rattle.flow_compound.specs.Children.{CanFlowChild};
 
 // Rule 2. Sequence; carries M.
 pub fn rule_2(
@@ -33,7 +33,7 @@ pub fn rule_2(
 
 // Its children: (P, C1, M), (M, C2, Q).
 pub fn child_2(ends: &[u32], at: usize, p: usize, c: usize, q: usize, k: usize) -> Goal
-    requires { ⌜ CanChild (now ends) 2 p c q «at» k ⌝ }
+    requires { ⌜ CanFlowChild (now ends) 2 p c q «at» k ⌝ }
     ensures { λ r. ⌜ r ≡ childAt (now (ends .entry)) (Flow p c q) 2 «at» k ⌝ }
 {
     let m = at + 1;

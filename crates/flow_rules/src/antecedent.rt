@@ -10,7 +10,7 @@ ghost use Rattle.context.specs.Contexts.{contextOf};
 ghost use Rattle.goals.specs.Children.{childAt};
 ghost use Rattle.goals.specs.Goals.{CanTry, StepOf};
 ghost use Rattle.goals.specs.declared.Goal.the-variants.{Flow};
-ghost use Rattle.flow_compound.specs.Children.{CanChild};
+ghost use Rattle.flow_compound.specs.Children.{CanFlowChild};
 
 // Rule 12. Carries S, S', φ and φ'; P same as S under φ, Q as S' under φ'.
 pub fn rule_12(
@@ -37,7 +37,7 @@ pub fn rule_12(
 
 // Its children: (S, C, S'), precondition (φ, C, φ').
 pub fn child_12(ends: &[u32], at: usize, p: usize, c: usize, q: usize, k: usize) -> Goal
-    requires { ⌜ CanChild (now ends) 12 p c q «at» k ⌝ }
+    requires { ⌜ CanFlowChild (now ends) 12 p c q «at» k ⌝ }
     ensures { λ r. ⌜ r ≡ childAt (now (ends .entry)) (Flow p c q) 12 «at» k ⌝ }
 {
     let s = at + 1;

@@ -7,7 +7,7 @@ ghost use Rattle.context.specs.Contexts.{contextOf};
 ghost use Rattle.goals.specs.Children.{childAt};
 ghost use Rattle.goals.specs.Goals.{CanTry, StepOf};
 ghost use Rattle.goals.specs.declared.Goal.the-variants.{Flow};
-ghost use Rattle.flow_compound.specs.Children.{CanChild};
+ghost use Rattle.flow_compound.specs.Children.{CanFlowChild};
 
 // Rule 7. Carries M; no condition.
 pub fn rule_7(
@@ -27,7 +27,7 @@ pub fn rule_7(
 
 // Its children: set (P, M), flow (M, C, Q).
 pub fn child_7(ends: &[u32], at: usize, p: usize, c: usize, q: usize, k: usize) -> Goal
-    requires { ⌜ CanChild (now ends) 7 p c q «at» k ⌝ }
+    requires { ⌜ CanFlowChild (now ends) 7 p c q «at» k ⌝ }
     ensures { λ r. ⌜ r ≡ childAt (now (ends .entry)) (Flow p c q) 7 «at» k ⌝ }
 {
     let m = at + 1;
@@ -55,7 +55,7 @@ pub fn rule_8(
 
 // Its children: flow (P, C, M), set (M, Q).
 pub fn child_8(ends: &[u32], at: usize, p: usize, c: usize, q: usize, k: usize) -> Goal
-    requires { ⌜ CanChild (now ends) 8 p c q «at» k ⌝ }
+    requires { ⌜ CanFlowChild (now ends) 8 p c q «at» k ⌝ }
     ensures { λ r. ⌜ r ≡ childAt (now (ends .entry)) (Flow p c q) 8 «at» k ⌝ }
 {
     let m = at + 1;

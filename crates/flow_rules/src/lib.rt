@@ -40,7 +40,7 @@ ghost use Rattle.context.specs.Contexts.{contextOf};
 ghost use Rattle.goals.specs.Children.{childAt};
 ghost use Rattle.goals.specs.Goals.{CanStep, StepOf};
 ghost use Rattle.goals.specs.declared.Goal.the-variants.{Flow};
-ghost use Rattle.flow_compound.specs.Children.{CanChild};
+ghost use Rattle.flow_compound.specs.Children.{CanFlowChild};
 
 // What the conditions of the rule at the evidence word come to.
 pub fn flow_condition(
@@ -85,7 +85,7 @@ pub fn flow_child(
     q: usize,
     k: usize,
 ) -> Goal
-    requires { ⌜ CanChild (now ends) rule p c q «at» k ⌝ }
+    requires { ⌜ CanFlowChild (now ends) rule p c q «at» k ⌝ }
     ensures { λ r. ⌜ r ≡ childAt (now (ends .entry)) (Flow p c q) rule «at» k ⌝ }
 {
     match rule {

@@ -10,7 +10,7 @@ ghost use Rattle.context.specs.Contexts.{contextOf};
 ghost use Rattle.goals.specs.Children.{childAt};
 ghost use Rattle.goals.specs.Goals.{CanTry, StepOf};
 ghost use Rattle.goals.specs.declared.Goal.the-variants.{Flow};
-ghost use Rattle.flow_compound.specs.Children.{CanChild};
+ghost use Rattle.flow_compound.specs.Children.{CanFlowChild};
 
 // Rule 9. Carries S, S', T and T'; P same as S ∪ T, Q as S' ∪ T'.
 pub fn rule_9(
@@ -37,7 +37,7 @@ pub fn rule_9(
 
 // Its children: (S, C, S'), (T, C, T').
 pub fn child_9(ends: &[u32], at: usize, p: usize, c: usize, q: usize, k: usize) -> Goal
-    requires { ⌜ CanChild (now ends) 9 p c q «at» k ⌝ }
+    requires { ⌜ CanFlowChild (now ends) 9 p c q «at» k ⌝ }
     ensures { λ r. ⌜ r ≡ childAt (now (ends .entry)) (Flow p c q) 9 «at» k ⌝ }
 {
     let s = at + 1;

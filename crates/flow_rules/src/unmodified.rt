@@ -13,7 +13,7 @@ ghost use Rattle.context.specs.Contexts.{contextOf};
 ghost use Rattle.goals.specs.Children.{childAt};
 ghost use Rattle.goals.specs.Goals.{CanTry, StepOf};
 ghost use Rattle.goals.specs.declared.Goal.the-variants.{Flow};
-ghost use Rattle.flow_compound.specs.Children.{CanChild};
+ghost use Rattle.flow_compound.specs.Children.{CanFlowChild};
 
 // Rule 10. P same as Q, and no identifier of Q is modified.
 pub fn rule_10(
@@ -63,7 +63,7 @@ pub fn rule_11(
 
 // Its child: precondition (φ, C, φ').
 pub fn child_11(ends: &[u32], at: usize, p: usize, c: usize, q: usize, k: usize) -> Goal
-    requires { ⌜ CanChild (now ends) 11 p c q «at» k ⌝ }
+    requires { ⌜ CanFlowChild (now ends) 11 p c q «at» k ⌝ }
     ensures { λ r. ⌜ r ≡ childAt (now (ends .entry)) (Flow p c q) 11 «at» k ⌝ }
 {
     Goal::Pre(p + 1, c, q + 1)

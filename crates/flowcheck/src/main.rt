@@ -3,7 +3,7 @@ mod answer; // answer.rt: the check of the file, and its line
 mod input; // input.rt: the file
 
 use answer::answer;
-use input::read_file;
+use input::read_input;
 use libc::STDOUT_FILENO;
 ghost use Prim.Native.Nat.{_+_, _<_, _≤_};
 ghost use lib.ListN.{length};
@@ -38,7 +38,7 @@ fn print_line(file: &[u8], line: &[u8])
 fn main() {
     // One byte more than a file may have, so that a longer input is over the limit too.
     let mut buffer = [0u8; 32769];
-    let n = read_file(&mut buffer);
+    let n = read_input(&mut buffer);
     let mut text = [0u8; 64];
     let end = answer(&buffer[..n], &mut text);
     print_line(&buffer[..n], &text[..end]);

@@ -17,7 +17,7 @@ use Rattle.rules.specs.Evidence.{Judgement, Item, Rule, Row, row, rules, by}
 use Rattle.layout.specs.Bytes.{payloadAt}
 use Rattle.layout.specs.ReadEvidence.{ruleOf}
 use Rattle.layout.proofs.BackEvidence.{rule-row}
-use Rattle.words.specs.Rows.{packed, rowOf}
+use Rattle.words.specs.Rows.{packedItems, rowOf}
 use Rattle.words.proofs.RowItems.{row-rule}
 use Rattle.goals.specs.declared.Goal.{Goal}
 use Rattle.goals.specs.declared.Goal.the-variants.{Flow, Set, Pre}
@@ -59,7 +59,7 @@ module _ (ends : List ℕ) (at : ℕ) where
   goal-count (Pre f c g) r = eqb-true _ _ (by-table (counts (Pre f c g)) refl r)
 
 pub record RowIs (file ends : List ℕ) (goal : Goal) (g : TreeGoal) (at : ℕ) : Type 0 where
-  pub row : rowOf (judgementOf goal) (payloadAt file at) ≡ packed (treeItems g)
+  pub row : rowOf (judgementOf goal) (payloadAt file at) ≡ packedItems (treeItems g)
   pub count : length (childrenAt ends goal (payloadAt file at) at) ≡ length (carriedOff (treeItems g))
 
 by-rule : {file ends : List ℕ} {at n : ℕ} (goal : Goal) (g : TreeGoal) → Rule (judgementOf goal) n (treeItems g) →

@@ -1,12 +1,12 @@
 -- What a rule comes to, from the trees that stand at its places (document 01, "Judging order" 8 and 9).
 -- Assumes nothing.
---     tested-result                             the condition of a test
+--     tested-result                                           the condition of a test
 --     no-children, one-child, two-children, three-children    the goals of the children, from their verdict
---     fails-comes, misfit-comes                 conditions that fail; a form that does not fit
---     comes, test-comes                         conditions by their result; by a test
---     then-passes, then-fails                   a test, and then further conditions
---     FlowComes, SetComes, PreComes             what a rule comes to for the trees of its goal
---     flow-rule, set-rule, pre-rule             its contract from that
+--     fails-comes, misfit-comes                               conditions that fail; a form that does not fit
+--     comes, test-comes                                       conditions by their result; by a test
+--     then-passes, then-fails                                 a test, and then further conditions
+--     FlowComes, SetComes, PreComes                           what a rule comes to for the trees of its goal
+--     flow-rule, set-rule, pre-rule                           its contract from that
 use mathlib.Core.Path.{_≡_, refl, sym, ap, _∙_}
 use mathlib.Core.Bool.{Bool, true, false}
 use mathlib.Core.List.{List, [], _∷_}
@@ -18,7 +18,7 @@ use Rattle.rules.specs.Context.{Context}
 use Rattle.rules.specs.Evidence as tree
 use Rattle.rules.specs.Evidence.{Item, Rule, row, Parts}
 use Rattle.rules.specs.Condition.{Result, fails, test, _then_}
-use Rattle.rules.specs.Judge.{Verdict, accepted, refused, _also_, Step, step, misfit, applied}
+use Rattle.rules.specs.Judge.{Verdict, accepted, refused, _also_, RuleStep, step, misfit, applied}
 use Rattle.rules.specs.Judge.{flowRule, setRule, preRule, judge}
 use Rattle.layout.specs.Bytes.{payloadAt}
 use Rattle.layout.proofs.BackEvidence.{rule-row}
@@ -73,7 +73,7 @@ module _ {Γ : Context} {file ends : List ℕ} {d next end : ℕ} where
 not-passes : {r : Condition} → r ≡ Passes → r ≡ Fails → ⊥
 not-passes e f = let z : _≡_ {A = ℕ} 0 1 = cc in omega (arith, z)
 
-module _ {Γ : Context} {file ends : List ℕ} {s : Step} {goals : List Goal} {d next end : ℕ} where
+module _ {Γ : Context} {file ends : List ℕ} {s : RuleStep} {goals : List Goal} {d next end : ℕ} where
   pub fails-comes : (v : Verdict) → s ≡ step fails v → ComesTo Γ file ends s goals d next end Fails
   fails-comes v e = record { children = v; is = e; stand = λ p. absurd (not-passes p refl) }
 

@@ -15,7 +15,7 @@ use Rattle.language.specs.Syntax.{Boolean, Expr, Command}
 use Rattle.rules.specs.Assertion.{Members}
 use Rattle.rules.specs.Context.{Context}
 use Rattle.rules.specs.Evidence.{Item, by, FlowEvidence, SetEvidence, PreEvidence}
-use Rattle.rules.specs.Judge.{Verdict, accepted, refused, _also_, Step, step, applied, flowRule, setRule, preRule, judge}
+use Rattle.rules.specs.Judge.{Verdict, accepted, refused, _also_, RuleStep, step, applied, flowRule, setRule, preRule, judge}
 use Rattle.layout.specs.Bytes.{payloadAt}
 use Rattle.layout.specs.EvidenceWords.{treePart}
 use Rattle.layout.specs.Standing.{PartStands}
@@ -44,7 +44,7 @@ abbrev pub verdicts : Context → List TreeGoal → Verdict
 verdicts Γ [] = accepted 0
 verdicts Γ (g ∷ l) = verdict Γ g also verdicts Γ l
 
-abbrev pub treeStep : Context → TreeGoal → Step
+abbrev pub treeStep : Context → TreeGoal → RuleStep
 treeStep Γ (flow (by {l = l} r i t) p c q) = applied l (flowRule Γ r) (judge Γ t) p c q
 treeStep Γ (set (by {l = l} r i t) p q) = applied l (setRule Γ r) (judge Γ t) p q
 treeStep Γ (pre (by {l = l} r i t) φ c φ′) = applied l (preRule Γ r) (judge Γ t) φ c φ′
@@ -81,7 +81,7 @@ module _ (Γ : Context) (file ends : List ℕ) where
     pub judged : v ≡ verdicts Γ trees
 
   -- what a rule comes to, s, as the code has it: the result of its conditions; where they pass, its children
-  pub record ComesTo (s : Step) (goals : List Goal) (d next end : ℕ) (r : Condition) : Type 0 where
+  pub record ComesTo (s : RuleStep) (goals : List Goal) (d next end : ℕ) (r : Condition) : Type 0 where
     pub children : Verdict
     pub is : s ≡ step (resultOf r) children
     pub stand : r ≡ Passes → ChildrenOf children goals d next end

@@ -1,6 +1,6 @@
 -- The parts of what stands at a place, by its first word.
 -- Assumes nothing.
---     Inside, expression-inside, command-inside                      it has a word, and ends within the room
+--     InRoom, expression-inside, command-inside                      it has a word, and ends within the room
 --     One, Two, Three                                                so many parts, one after the other
 --     ArithmeticParts, BooleanParts, ArrayParts, CommandParts        the parts by the first word
 --     arithmetic-parts, boolean-parts, array-parts, command-parts    are what stands there
@@ -41,13 +41,13 @@ use Rattle.words.specs.declared.CommandWord.{CommandWord}
 use Rattle.words.specs.declared.CommandWord.the-variants as command
 use Rattle.words.specs.declared.CommandWord.the-variants.{Skip, Sequence, Assert, AssignScalar, AssignArray, If, While}
 use Rattle.words.specs.declared.CommandWord.the-variants.{For}
-use Rattle.heads.specs.Stands.{arithmeticAt, booleanAt, arrayAt, commandAt, Allowed, Loaded, PartAt}
+use Rattle.heads.specs.Stands.{arithmeticAt, booleanAt, arrayAt, commandAt, OfGroup, FileInRoom, PartAt}
 use Rattle.heads.specs.Stands.{ExpressionStands, CommandStands}
 use Rattle.heads.proofs.Decoded.{operatorHead, comparisonHead, arithmeticHead, booleanHead, arrayHead}
 use Rattle.heads.proofs.Decoded.{commandHead}
 use Rattle.heads.proofs.Decoded.{arithmetic-decoded, boolean-decoded, array-decoded, command-decoded}
 
-pub record Inside (file w ends : List ℕ) (at p : ℕ) : Type 0 where
+pub record InRoom (file w ends : List ℕ) (at p : ℕ) : Type 0 where
   pub start : at < p
   pub in-file : p ≤ length file
   pub small : p ≤ 8192
@@ -134,7 +134,7 @@ comparison-meant less = refl
 comparison-meant atMost = refl
 
 module _ {w ends : List ℕ} where
-  inside : {x : Part} {at p : ℕ} (s : PartAt w ends x at p) → nodes.Inside (s .file) at p → Inside (s .file) w ends at p
+  inside : {x : Part} {at p : ℕ} (s : PartAt w ends x at p) → nodes.Inside (s .file) at p → InRoom (s .file) w ends at p
   inside s i = record {
     start = i .start;
     in-file = i .within;
@@ -144,15 +144,15 @@ module _ {w ends : List ℕ} where
   }
 
   pub expression-inside : {k : Sort} (e : Expr k) {at p : ℕ} (s : PartAt w ends (expressionPart e) at p) →
-      Inside (s .file) w ends at p
+      InRoom (s .file) w ends at p
   expression-inside e s = inside s (node-inside (expressionNode e) (s .stands))
 
   pub command-inside : (c : syntax.Command) {at p : ℕ} (s : PartAt w ends (commandPart c) at p) →
-      Inside (s .file) w ends at p
+      InRoom (s .file) w ends at p
   command-inside c s = inside s (node-inside (commandNode c) (s .stands))
 
 -- the parts of what stands in a file
-module _ {file w ends : List ℕ} (l : Loaded file w) (n : EndsOf file ends) where
+module _ {file w ends : List ℕ} (l : FileInRoom file w) (n : EndsOf file ends) where
   -- so many parts, with d levels left
   one : {A X : Type 0} {f : X → Part} {make : X → A} {e : A} (d : ℕ) (a : X) {at p : ℕ} → e ≡ make a →
       Chain file (f a ∷ []) d at p → One w ends f make e at p
@@ -222,7 +222,7 @@ module _ {file w ends : List ℕ} (l : Loaded file w) (n : EndsOf file ends) whe
 -- by the word that stands in the room, which is the file's: v is the node's own
 module _ {w ends : List ℕ} where
   by-word : {W : Type 0} (of : ℕ → ℕ → W) {x : Node} {y : Part} {d at p : ℕ} {v h : W} (P : W → Type 0) (s : PartAt w ends y at p) →
-      Inside (s .file) w ends at p → Opened (s .file) x d at p → of (kindOf (headOf x)) (contentOf (headOf x)) ≡ v →
+      InRoom (s .file) w ends at p → Opened (s .file) x d at p → of (kindOf (headOf x)) (contentOf (headOf x)) ≡ v →
       of (kindAt w at) (payloadAt w at) ≡ h → P v → P h
   by-word of {at = at} P s i o e eq y =
       let first = ap (λ z. of (z / payloads) (z % payloads)) (s .loaded .same at (omega arith)) in
@@ -269,14 +269,14 @@ module _ {w ends : List ℕ} where
     pub command-early : CommandStands w ends at → at < 8192
     command-early x = let i = command-inside (x .tree) (x .there) in omega arith
 
-    pub arithmetic-allowed : ExpressionStands w ends syntax.Arithmetic at → Allowed arithmeticOf arithmetic.Other w at
+    pub arithmetic-allowed : ExpressionStands w ends syntax.Arithmetic at → OfGroup arithmeticOf arithmetic.Other w at
     arithmetic-allowed x =
         record { inside = expression-starts x; of-group = λ e. arithmetic-parts (x .tree) (x .there) e }
 
-    pub boolean-allowed : ExpressionStands w ends syntax.Boolean at → Allowed booleanOf boolean.Other w at
+    pub boolean-allowed : ExpressionStands w ends syntax.Boolean at → OfGroup booleanOf boolean.Other w at
     boolean-allowed x = record { inside = expression-starts x; of-group = λ e. boolean-parts (x .tree) (x .there) e }
 
-    pub command-allowed : CommandStands w ends at → Allowed commandOf command.Other w at
+    pub command-allowed : CommandStands w ends at → OfGroup commandOf command.Other w at
     command-allowed x = record { inside = command-starts x; of-group = λ e. command-parts (x .tree) (x .there) e }
 
 by-test : {A : Type 0} (of : ℕ → ℕ → A) {k p : ℕ} (n : ℕ) (b : Bool) {v o : A} → k ≡ n → of n p ≡ cond b v o →
@@ -285,6 +285,6 @@ by-test of {k} {p} n true e f h = sym f ∙ ap (λ x. of x p) (sym e)
 by-test of {k} {p} n false e f h = absurd (h (ap (λ x. of x p) e ∙ f))
 
 -- a word of a group is settled by its kind n, which the code found: b is the test of its payload
-pub settled : {A : Type 0} {of : ℕ → ℕ → A} {o : A} {w : List ℕ} {at k : ℕ} → Allowed of o w at → k ≡ kindAt w at → (n : ℕ) → k ≡ n →
+pub settled : {A : Type 0} {of : ℕ → ℕ → A} {o : A} {w : List ℕ} {at k : ℕ} → OfGroup of o w at → k ≡ kindAt w at → (n : ℕ) → k ≡ n →
     (b : Bool) (v : A) → of n (payloadAt w at) ≡ cond b v o → v ≡ of (kindAt w at) (payloadAt w at)
 settled {of = of} x found n is b v f = by-test of n b (sym found ∙ is) f (x .of-group)

@@ -3,8 +3,8 @@
 -- `arithmetic-parts`, `boolean-parts` and `array-parts` of proofs/Parts that its parts do. Assumes nothing.
 --     arithmeticAt, booleanAt, arrayAt, commandAt
 --                                        the word at a place, decoded by its group
---     Allowed                            the word at a place is of a group
---     Loaded                             the words of a file stand in front of a room
+--     OfGroup                            the word at a place is of a group
+--     FileInRoom                         the words of a file stand in front of a room
 --     PartAt                             a part of such a file, whose ends are known, stands from a place up to another
 --     ExpressionStands, CommandStands    an expression of a sort, a command stands at a place
 use mathlib.Core.Path.{_≡_}
@@ -35,18 +35,18 @@ abbrev pub commandAt : List ℕ → ℕ → CommandWord
 commandAt file at = commandOf (kindAt file at) (payloadAt file at)
 
 -- `of` decodes a word, which is `other` if it is not of the group
-pub record Allowed {A : Type 0} (of : ℕ → ℕ → A) (other : A) (w : List ℕ) (at : ℕ) : Type 0 where
+pub record OfGroup {A : Type 0} (of : ℕ → ℕ → A) (other : A) (w : List ℕ) (at : ℕ) : Type 0 where
   pub inside : at < length w
   pub of-group : of (kindAt w at) (payloadAt w at) ≡ other → ⊥
 
-pub record Loaded (file w : List ℕ) : Type 0 where
+pub record FileInRoom (file w : List ℕ) : Type 0 where
   pub size : length file ≤ 8192
   pub short : length file ≤ length w
   pub same : (i : ℕ) → i < length file → getD w i 0 ≡ getD file i 0
 
 pub record PartAt (w ends : List ℕ) (x : Part) (at p : ℕ) : Type 0 where
   pub file : List ℕ
-  pub loaded : Loaded file w
+  pub loaded : FileInRoom file w
   pub ends-of : EndsOf file ends
   pub levels : ℕ
   pub stands : PartStands file x levels at p

@@ -30,11 +30,11 @@ ghost use mathlib.Core.Path.{_≡_};
 ghost use Prim.Native.Nat.{_<_};
 ghost use lib.ListN.{length};
 ghost use Rattle.words.specs.Decode.{arithmeticOf, booleanOf, commandOf};
-ghost use Rattle.heads.specs.Stands.{arithmeticAt, booleanAt, arrayAt, commandAt, Allowed};
+ghost use Rattle.heads.specs.Stands.{arithmeticAt, booleanAt, arrayAt, commandAt, OfGroup};
 
 // The word is allowed, so its kind settles the form: but for an operator's, no payload is tested.
 pub fn arithmetic_head(w: &[u32], at: usize) -> ArithmeticWord
-    requires { ⌜ Allowed arithmeticOf ArithmeticWord.Other (now w) «at» ⌝ }
+    requires { ⌜ OfGroup arithmeticOf ArithmeticWord.Other (now w) «at» ⌝ }
     ensures { λ r. ⌜ r ≡ arithmeticAt (now (w .entry)) «at» ⌝ }
 {
     let word = w[at];
@@ -56,7 +56,7 @@ pub fn arithmetic_head(w: &[u32], at: usize) -> ArithmeticWord
 
 // As for arithmetic.
 pub fn boolean_head(w: &[u32], at: usize) -> BooleanWord
-    requires { ⌜ Allowed booleanOf BooleanWord.Other (now w) «at» ⌝ }
+    requires { ⌜ OfGroup booleanOf BooleanWord.Other (now w) «at» ⌝ }
     ensures { λ r. ⌜ r ≡ booleanAt (now (w .entry)) «at» ⌝ }
 {
     let word = w[at];
@@ -89,7 +89,7 @@ pub fn array_head(w: &[u32], at: usize) -> ArrayWord
 
 // As for arithmetic.
 pub fn command_head(w: &[u32], at: usize) -> CommandWord
-    requires { ⌜ Allowed commandOf CommandWord.Other (now w) «at» ⌝ }
+    requires { ⌜ OfGroup commandOf CommandWord.Other (now w) «at» ⌝ }
     ensures { λ r. ⌜ r ≡ commandAt (now (w .entry)) «at» ⌝ }
 {
     let word = w[at];

@@ -21,7 +21,7 @@ use Rattle.layout.specs.EvidenceWords.{expressionPart}
 use Rattle.layout.specs.Nodes.{expressionNode}
 use Rattle.layout.specs.Standing.{PartStands}
 use Rattle.layout.proofs.Nodes.{node-inside}
-use Rattle.table.specs.Formula.{spell, depth, Small, Spelled, IsFormula, Every}
+use Rattle.truth_table.specs.Formula.{spell, depth, Small, Spelled, IsFormula, Every}
 use Rattle.implication.specs.declared.Compiled.{Compiled}
 use Rattle.implication.specs.declared.Condition.{Condition}
 use Rattle.implication.specs.declared.Condition.the-variants.{TooLarge}
@@ -30,7 +30,7 @@ use Rattle.implication.specs.declared.Side.the-variants.{One, Both, Both
 use Rattle.implication.specs.Sides.{resultOf, SideStands, RangeFits, SideFits, sideRoom}
 use Rattle.implication.specs.Sides.{CanImply, Implied}
 use Rattle.implication.specs.Scanning.{Ranges}
-use Rattle.implication.specs.Compiling.{formula, Known, SideWritten, CanCompile, Fits, Compiles}
+use Rattle.implication.specs.Compiling.{formula, Known, SideWritten, CanCompile, Coded, Compiles}
 use Rattle.implication.proofs.Numbers.{extends-self, extends-comparisons, grown, small, depth-formula}
 use Rattle.implication.proofs.Pairs.{spell-append}
 use Rattle.implication.proofs.Meaning.{implies, table-settled, few-enough, too-many}
@@ -132,7 +132,7 @@ module _ {w : List ℕ} {left right : Side} {limit : ℕ} (can : CanImply w left
         (B : Compiles w (SideWritten w right) limit (x .known) (x .len) (sideRoom right) starts₁ ends₁ prog₂
         starts₂ ends₂ prog₃ z) where
       module _ (φ ψ : Expr Boolean) (d e : ℕ) (s : SideStands w d left φ) (t : SideStands w e right ψ) where
-        first : Fits w φ [] 2 prog₁ starts₁ ends₁ prog₂ x
+        first : Coded w φ [] 2 prog₁ starts₁ ends₁ prog₂ x
         first = A .fitting y φ [] (record { levels = d; stands = s }) known-none
 
       pub right-full : z .fits ≡ false → Implied w left right limit TooLarge
@@ -147,7 +147,7 @@ module _ {w : List ℕ} {left right : Side} {limit : ℕ} (can : CanImply w left
 
       module _ (start : take 2 prog₁ ≡ 19 ∷ 20 ∷ []) (v : z .fits ≡ true) where
         module _ (φ ψ : Expr Boolean) (d e : ℕ) (s : SideStands w d left φ) (t : SideStands w e right ψ) where
-          second : Fits w ψ (comparisons φ []) (x .len) prog₂ starts₂ ends₂ prog₃ z
+          second : Coded w ψ (comparisons φ []) (x .len) prog₂ starts₂ ends₂ prog₃ z
           second = B .fitting v ψ (comparisons φ []) (record { levels = e; stands = t }) (first φ ψ d e s t .known)
 
           count : length (distinct φ ψ) ≡ z .known

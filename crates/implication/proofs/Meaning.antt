@@ -1,4 +1,4 @@
--- The table of two compiled booleans decides what the definition's table decides: every assignment to the comparisons
+-- The truth table of two compiled booleans decides what the definition's decides: every assignment to the comparisons
 -- has a number, and the comparisons of a boolean have what their leaves have.
 -- Assumes nothing.
 --     assignment-number     the number of an assignment to n leaves
@@ -20,10 +20,10 @@ use Rattle.language.specs.Syntax.{Boolean, Expr, compare, truth, and, or, neg}
 use Rattle.rules.specs.Words.{Word, words}
 use Rattle.rules.specs.Context.{Context}
 use Rattle.rules.specs.Implies.{truthUnder, amongWords, comparisons, distinct}
-use Rattle.rules.specs.Tests.{table}
+use Rattle.rules.specs.Tests.{truthTable}
 use Rattle.rules.specs.Condition.{tooLarge, test, implication}
 use Rattle.rules.proofs.Table.{table-decides}
-use Rattle.table.specs.Formula.{Formula, disj, negated, value, bit, numbered, Settles}
+use Rattle.truth_table.specs.Formula.{Formula, disj, negated, value, bit, numbered, Settles}
 use Rattle.implication.specs.Compiling.{number, entry, Extends, formula}
 use Rattle.implication.proofs.Numbers.{by-test, number-low, entry-number, listed}
 use Rattle.implication.proofs.Numbers.{extends-self, extends-trans, extends-comparisons}
@@ -74,11 +74,11 @@ truth-formula m ρ (or b c) = ap₂ _||_ (truth-formula m ρ b) (truth-formula m
 truth-formula m ρ (neg b) = ap not (truth-formula m ρ b)
 
 -- assignments that agree on what m lists
-abbrev Agrees : List (List Word) → (List Word → Bool) → (List Word → Bool) → Type 0
-Agrees m u v = (c : List Word) → amongWords c m ≡ true → u c ≡ v c
+abbrev SameOn : List (List Word) → (List Word → Bool) → (List Word → Bool) → Type 0
+SameOn m u v = (c : List Word) → amongWords c m ≡ true → u c ≡ v c
 
 truth-agrees : (φ : Expr Boolean) (l m : List (List Word)) → Extends (comparisons φ l) m → (u v : List Word → Bool) →
-    Agrees m u v → truthUnder φ u ≡ truthUnder φ v
+    SameOn m u v → truthUnder φ u ≡ truthUnder φ v
 unfolding comparisons truthUnder
 truth-agrees (compare r a b) l m x u v f =
     let c = words (compare r a b) in f c (x .kept c (listed c l) .0)
@@ -116,19 +116,19 @@ module _ (φ ψ : Expr Boolean) where
         let m = distinct φ ψ in
         let k = assignment-number (length m) (λ i. v (entry m i)) in
         let u : List Word → Bool = λ c. numbered (k .0) (number m c) in
-        let f : Agrees m u v = λ c e. k .2 (number m c) (number-low m c e) ∙ ap v (entry-number m c e) in
+        let f : SameOn m u v = λ c e. k .2 (number m c) (number-low m c e) ∙ ap v (entry-number m c e) in
         let left = truth-agrees φ [] m (extends-comparisons ψ (comparisons φ [])) u v f in
         let right = truth-agrees ψ (comparisons φ []) m (extends-self m) u v f in
         sym right ∙
         decides-implies (truthUnder φ u) (truthUnder ψ u) .sound
         (sym (by-leaves (k .0)) ∙ S .sound refl (k .0) (omega (arith, k .1))) (left ∙ h)
 
-    pub table-settled : (r : Bool) → Settles (64 * b) (implies (distinct φ ψ)) r → table (distinct φ ψ) φ ψ ≡ r
+    pub table-settled : (r : Bool) → Settles (64 * b) (implies (distinct φ ψ)) r → truthTable (distinct φ ψ) φ ψ ≡ r
     table-settled true S = table-decides φ ψ .complete (holds S)
     table-settled false S =
         let s = S .witness refl in
         let u : List Word → Bool = λ c. numbered (s .0) (number (distinct φ ψ) c) in
-        by-test (table (distinct φ ψ) φ ψ)
+        by-test (truthTable (distinct φ ψ) φ ψ)
         (λ e. clash (by-leaves (s .0) ∙
         decides-implies (truthUnder φ u) (truthUnder ψ u) .complete (table-decides φ ψ .sound e u)) (s .1))
         (λ e. e)
@@ -139,6 +139,6 @@ unfolding implication
 too-many Γ φ ψ h = rw (lt-leb (length (distinct φ ψ)) (Γ .limits .comparisons) h, implication)
 
 pub few-enough : (Γ : Context) (φ ψ : Expr Boolean) (r : Bool) → length (distinct φ ψ) ≤ Γ .limits .comparisons →
-    table (distinct φ ψ) φ ψ ≡ r → implication Γ φ ψ ≡ test r
+    truthTable (distinct φ ψ) φ ψ ≡ r → implication Γ φ ψ ≡ test r
 unfolding implication
 few-enough Γ φ ψ r h e = rw (le-leb (length (distinct φ ψ)) (Γ .limits .comparisons) h, implication) (ap test e)

@@ -1,6 +1,6 @@
 -- Comparisons by number: a listed comparison keeps its number as others are put before it.
 -- Assumes nothing.
---     include, by-test                          a comparison put in; a test in both ways
+--     Listed, include, by-test                  comparisons; one put in; a test in both ways
 --     number-low, number-new, entry-number      the number of what is listed, of what is new; the one with that number
 --     number-found, number-missed               the first entry that is a comparison has its number; none is
 --     extends-self, extends-trans               numbers stay
@@ -22,10 +22,10 @@ use Rattle.rules.specs.Words.{Word, words, sameWords}
 use Rattle.rules.specs.Implies.{amongWords, comparisons}
 use Rattle.rules.proofs.Decides.{sameWords-decides}
 use Rattle.layout.specs.Spelling.{FitsExpression}
-use Rattle.table.specs.Formula.{depth, Small}
+use Rattle.truth_table.specs.Formula.{depth, Small}
 use Rattle.implication.specs.Compiling.{number, entry, Extends, formula}
 
-abbrev Listed : Type 0
+abbrev pub Listed : Type 0
 Listed = List (List Word)
 
 -- a comparison put before others, unless it is one of them

@@ -15,18 +15,14 @@ use native.Mathlib.Omega.{arith}
 use lib.ListN.{length, take, set, length-set}
 use lib.Seq.{take-suc-set}
 use Rattle.language.specs.Syntax.{Boolean, Expr, truth, and, neg}
-use Rattle.rules.specs.Words.{Word}
 use Rattle.rules.specs.Implies.{comparisons}
-use Rattle.table.specs.Formula.{Formula, leaf, fixed, conj, disj, negated, spell}
+use Rattle.truth_table.specs.Formula.{Formula, leaf, fixed, conj, disj, negated, spell}
 use Rattle.implication.specs.declared.Compiled.{Compiled}
 use Rattle.implication.specs.declared.Side.{Side}
 use Rattle.implication.specs.Sides.{SideFits, sideRoom}
-use Rattle.implication.specs.Compiling.{Extends, formula, Known, WrittenAt, PairWritten, SideWritten}
-use Rattle.implication.specs.Compiling.{CanCompile, Fits, Compiles}
-use Rattle.implication.proofs.Numbers.{extends-trans, extends-comparisons, grown}
-
-abbrev Listed : Type 0
-Listed = List (List Word)
+use Rattle.implication.specs.Compiling.{Extends, formula, Known, FormulaWritten, PairWritten, SideWritten}
+use Rattle.implication.specs.Compiling.{CanCompile, Coded, Compiles}
+use Rattle.implication.proofs.Numbers.{Listed, extends-trans, extends-comparisons, grown}
 
 -- ---- bytes put after the first ones
 pub record Adds (prog : List ℕ) (len : ℕ) (u prog′ : List ℕ) (len′ : ℕ) : Type 0 where
@@ -117,7 +113,7 @@ module _ {w : List ℕ} {P : Expr Boolean → Type 0} {limit known len most len�
 module _ {w : List ℕ} {make : Make} {limit known len most len₁ a p b q : ℕ}
     {starts₀ ends₀ prog₀ u v prog₁ starts₁ ends₁ prog₂ : List ℕ} {x : Compiled}
     (J : Joint make u v) (U : Adds prog₀ len u prog₁ len₁)
-    (A : Compiles w (WrittenAt w a p) limit known len₁ (p - a) starts₀ ends₀ prog₁ starts₁ ends₁ prog₂ x)
+    (A : Compiles w (FormulaWritten w a p) limit known len₁ (p - a) starts₀ ends₀ prog₁ starts₁ ends₁ prog₂ x)
     (most-is : length u + (p - a) + (length v + (q - b)) ≤ most) where
   pub pair-full : x .fits ≡ false →
       Compiles w (PairWritten w a p b q make) limit known len most starts₀ ends₀ prog₀ starts₁ ends₁ prog₂ x
@@ -139,9 +135,9 @@ module _ {w : List ℕ} {make : Make} {limit known len most len₁ a p b q : ℕ
 
   module _ {len₃ : ℕ} {prog₃ starts₂ ends₂ prog₄ : List ℕ} {r : Compiled}
       (y : x .fits ≡ true) (G : Adds prog₂ (x .len) v prog₃ len₃)
-      (B : Compiles w (WrittenAt w b q) limit (x .known) len₃ (q - b) starts₁ ends₁ prog₃ starts₂ ends₂ prog₄ r) where
-    done : (φ ψ : Expr Boolean) (l : Listed) → r .fits ≡ true → WrittenAt w a p φ → WrittenAt w b q ψ →
-        Known w starts₀ ends₀ known l → Fits w (make φ ψ) l len prog₀ starts₂ ends₂ prog₄ r
+      (B : Compiles w (FormulaWritten w b q) limit (x .known) len₃ (q - b) starts₁ ends₁ prog₃ starts₂ ends₂ prog₄ r) where
+    done : (φ ψ : Expr Boolean) (l : Listed) → r .fits ≡ true → FormulaWritten w a p φ → FormulaWritten w b q ψ →
+        Known w starts₀ ends₀ known l → Coded w (make φ ψ) l len prog₀ starts₂ ends₂ prog₄ r
     done φ ψ l z s t K =
         let f = A .fitting y φ l s K in
         let g = B .fitting z ψ (comparisons φ l) t (f .known) in
@@ -170,7 +166,7 @@ module _ {w : List ℕ} {make : Make} {limit known len most len₁ a p b q : ℕ
           let l = U .long in let s = A .short in let k = G .long in let t = B .short in omega arith;
       room = B .room ∙ G .room ∙ A .room ∙ U .room;
       fitting = λ z χ l s K.
-          subst (λ (k : Expr Boolean). Fits w k l len prog₀ starts₂ ends₂ prog₄ r) (sym (s .stands .is))
+          subst (λ (k : Expr Boolean). Coded w k l len prog₀ starts₂ ends₂ prog₄ r) (sym (s .stands .is))
           (done (s .stands .first) (s .stands .second) l z
           (record { levels = s .levels; stands = s .stands .left })
           (record { levels = s .levels; stands = s .stands .right }) K);

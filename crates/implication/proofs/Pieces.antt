@@ -27,7 +27,7 @@ use Rattle.layout.specs.Standing.{StandsTo, Stands}
 use Rattle.layout.proofs.Words.{payload-small}
 use Rattle.layout.proofs.Stands.{stands-end, parted}
 use Rattle.layout.proofs.Nodes.{operator-range, comparison-range, node-range}
-use Rattle.table.specs.Formula.{fixedByte, spell}
+use Rattle.truth_table.specs.Formula.{fixedByte, spell}
 use Rattle.implication.specs.Scanning.{byteOf, byteAt, Skipped}
 use Rattle.implication.specs.Compiling.{Extends, formula, number, Compared}
 use Rattle.implication.proofs.WordBytes.{by-low, by-high, by-compare, by-false, by-true, by-other, byte-word}

@@ -1,10 +1,10 @@
 -- Ranges of words: compared word by word, searched for, and skipped.
 -- Assumes nothing.
---     below                                           the order of two numbers
---     same-none, same-more                            the words so far are the same
---     compares-all, compares-not, compares-length     two ranges have the same words, or differ
---     Bare, bare-none, bare-more, bare-join           words of no boolean
---     Missed, missed-none, missed-more                a range is none of the first ones
+--     below                                          the order of two numbers
+--     same-none, same-more                           the words so far are the same
+--     compares-all, compares-not, compares-length    two ranges have the same words, or differ
+--     Bare, bare-none, bare-more, bare-join          words of no boolean
+--     RangesMissed, missed-none, missed-more         a range is none of the first ones
 use mathlib.Core.Path.{_≡_, refl, sym, ap, subst, _∙_}
 use mathlib.Core.Bool.{Bool, true, false, false≢true, true≢false}
 use mathlib.Core.List.{List}
@@ -77,14 +77,14 @@ module _ {w : List ℕ} where
   bare-more {a} {b} f e = bare-join b f (bare-one b e)
 
 -- ---- the first i ranges have other words
-pub record Missed (w : List ℕ) (k q : ℕ) (starts ends : List ℕ) (i : ℕ) : Type 0 where
+pub record RangesMissed (w : List ℕ) (k q : ℕ) (starts ends : List ℕ) (i : ℕ) : Type 0 where
   pub missed : (j : ℕ) → j < i → SameRange w (getD starts j 0) (getD ends j 0) k q → ⊥
 
 module _ {w : List ℕ} {k q : ℕ} {starts ends : List ℕ} where
-  pub missed-none : Missed w k q starts ends 0
+  pub missed-none : RangesMissed w k q starts ends 0
   missed-none = record { missed = λ j l. absurd (omega arith) }
 
-  module _ {i : ℕ} (m : Missed w k q starts ends i) where
+  module _ {i : ℕ} (m : RangesMissed w k q starts ends i) where
     pub missed-end : {n : ℕ} → n ≤ i → Finds w k q starts ends n n
     missed-end h = record {
       most = omega arith;
@@ -96,7 +96,7 @@ module _ {w : List ℕ} {k q : ℕ} {starts ends : List ℕ} where
       pub missed-here : {n : ℕ} → i < n → r ≡ true → Finds w k q starts ends n i
       missed-here l e = record { most = omega arith; found = λ _. c .sound e; none = m .missed }
 
-      pub missed-more : r ≡ false → Missed w k q starts ends (i + 1)
+      pub missed-more : r ≡ false → RangesMissed w k q starts ends (i + 1)
       missed-more e = record {
         missed = λ j l.
             ⊎-elim

@@ -1,9 +1,9 @@
 -- The walk that compiles a boolean: what holds when the place k is reached, and each step.
 -- Assumes nothing.
---     known-found, known-missed, known-new       a comparison among those known
---     Mid, Walk                                  the pieces from k on are still to come; for every boolean there
---     walk-start, walk-end, walk-full            the walk's start and its ends
---     walk-mark, walk-old, walk-new              one piece
+--     known-found, known-missed, known-new    a comparison among those known
+--     Mid, Compilation                        the pieces from k on are still to come; for every boolean there
+--     walk-start, walk-end, walk-full         the walk's start and its ends
+--     walk-mark, walk-old, walk-new           one piece
 use mathlib.Core.Path.{_≡_, refl, sym, ap, subst, _∙_}
 use mathlib.Core.Bool.{true, false, false≢true, true≢false}
 use mathlib.Core.List.{List, [], _∷_, _++_, append-assoc, append-nil}
@@ -17,21 +17,18 @@ use lib.Seq.{take-suc-set, getD-set-same, getD-set-other}
 use Rattle.language.specs.Syntax.{Boolean, Expr}
 use Rattle.rules.specs.Words.{Word}
 use Rattle.rules.specs.Implies.{amongWords, comparisons}
-use Rattle.table.specs.Formula.{spell}
+use Rattle.truth_table.specs.Formula.{spell}
 use Rattle.implication.specs.declared.Compiled.{Compiled}
 use Rattle.implication.specs.Sides.{RangeFits}
 use Rattle.implication.specs.Scanning.{byteAt, Skipped, Ranges, Finds}
-use Rattle.implication.specs.Compiling.{number, entry, Extends, formula, Compared, Known, WrittenAt}
-use Rattle.implication.specs.Compiling.{CanCompile, Fits, Compiles}
+use Rattle.implication.specs.Compiling.{number, entry, Extends, formula, Compared, Known, FormulaWritten}
+use Rattle.implication.specs.Compiling.{CanCompile, Coded, Compiles}
 use Rattle.implication.proofs.Encodings.{same-comparison, comparison-same}
 use Rattle.implication.proofs.Numbers.{include, entry-last, entry-old, number-new, number-found, number-missed}
-use Rattle.implication.proofs.Numbers.{extends-trans, listed}
+use Rattle.implication.proofs.Numbers.{Listed, extends-trans, listed}
 use Rattle.implication.proofs.Pieces.{Piece, pieces, collected, code, collected-pieces, code-pieces}
 use Rattle.implication.proofs.Pieces.{extends-collected, grown-collected, Scan, scan-end, scan-boolean}
 use Rattle.implication.proofs.Pieces.{is-mark, is-test, is-end}
-
-abbrev Listed : Type 0
-Listed = List (List Word)
 
 -- ---- a comparison among those known
 module _ {w starts ends : List ℕ} {n k q j : ℕ} {l : Listed} {c : List Word}
@@ -117,7 +114,7 @@ more-bytes prog len v r l =
 
 module _ {w : List ℕ} {end len₀ : ℕ} {prog₀ : List ℕ} {φ : Expr Boolean} {l₀ : Listed} {n len k : ℕ}
     {starts ends prog : List ℕ} (M : Mid w end len₀ prog₀ φ l₀ n len k starts ends prog) where
-  mid-end : {r : Compiled} → end ≤ k → r .known ≡ n → r .len ≡ len → Fits w φ l₀ len₀ prog₀ starts ends prog r
+  mid-end : {r : Compiled} → end ≤ k → r .known ≡ n → r .len ≡ len → Coded w φ l₀ len₀ prog₀ starts ends prog r
   unfolding collected code
   mid-end {r} h en el =
       let e = is-end w end (M .scan) h in
@@ -203,7 +200,7 @@ module _ {w : List ℕ} {end len₀ : ℕ} {prog₀ : List ℕ} {φ : Expr Boole
             }
 
 -- ---- the same for every boolean that stands there, with what keeps the walk within bounds
-pub record Walk
+pub record Compilation
     (w : List ℕ) (a end limit known₀ len₀ : ℕ) (starts₀ ends₀ prog₀ starts ends prog : List ℕ) (n len k : ℕ) :
     Type 0 where
   pub ranges : Ranges w starts ends n
@@ -215,12 +212,12 @@ pub record Walk
   pub short : len + (end - k) ≤ len₀ + (end - a)
   pub space : len₀ + (end - a) ≤ length prog
   pub room : length prog ≡ length prog₀
-  mid : (φ : Expr Boolean) (l : Listed) → WrittenAt w a end φ → Known w starts₀ ends₀ known₀ l →
+  mid : (φ : Expr Boolean) (l : Listed) → FormulaWritten w a end φ → Known w starts₀ ends₀ known₀ l →
       Mid w end len₀ prog₀ φ l n len k starts ends prog
 
 pub walk-start : {w : List ℕ} {a end limit known len : ℕ} {starts ends prog : List ℕ} →
     RangeFits (length w) a end → CanCompile w limit known len (end - a) starts ends prog →
-    Walk w a end limit known len starts ends prog starts ends prog known len a
+    Compilation w a end limit known len starts ends prog starts ends prog known len a
 unfolding collected code
 walk-start {w} {a} {end} {limit} {known} {len} {starts} {ends} {prog} R C = record {
   ranges = C .ranges;
@@ -243,9 +240,9 @@ walk-start {w} {a} {end} {limit} {known} {len} {starts} {ends} {prog} R C = reco
 }
 
 module _ {w : List ℕ} {a end limit known₀ len₀ : ℕ} {starts₀ ends₀ prog₀ starts ends prog : List ℕ} {n len k : ℕ}
-    (W : Walk w a end limit known₀ len₀ starts₀ ends₀ prog₀ starts ends prog n len k) where
+    (W : Compilation w a end limit known₀ len₀ starts₀ ends₀ prog₀ starts ends prog n len k) where
   pub walk-end : end ≤ k →
-      Compiles w (WrittenAt w a end) limit known₀ len₀ (end - a) starts₀ ends₀ prog₀ starts ends prog
+      Compiles w (FormulaWritten w a end) limit known₀ len₀ (end - a) starts₀ ends₀ prog₀ starts ends prog
       (record { fits = true; known = n; len = len })
   walk-end h = record {
     ranges = W .ranges;
@@ -262,7 +259,7 @@ module _ {w : List ℕ} {a end limit known₀ len₀ : ℕ} {starts₀ ends₀ p
     walk-space = let s = W .short in let r = W .space in omega arith
 
     pub walk-mark : {v : ℕ} → v ≡ byteAt w k → v < 21 →
-        Walk w a end limit known₀ len₀ starts₀ ends₀ prog₀ starts ends (set prog len v) n (len + 1) (k + 1)
+        Compilation w a end limit known₀ len₀ starts₀ ends₀ prog₀ starts ends (set prog len v) n (len + 1) (k + 1)
     walk-mark {v} e b = record {
       ranges = W .ranges;
       within = W .within;
@@ -284,7 +281,7 @@ module _ {w : List ℕ} {a end limit known₀ len₀ : ℕ} {starts₀ ends₀ p
       high = omega arith
 
       pub walk-old : j < n →
-          Walk w a end limit known₀ len₀ starts₀ ends₀ prog₀ starts ends (set prog len j) n (len + 1) q
+          Compilation w a end limit known₀ len₀ starts₀ ends₀ prog₀ starts ends (set prog len j) n (len + 1) q
       walk-old i = record {
         ranges = W .ranges;
         within = W .within;
@@ -299,7 +296,7 @@ module _ {w : List ℕ} {a end limit known₀ len₀ : ℕ} {starts₀ ends₀ p
       }
 
       pub walk-full : n ≤ j → n ≡ limit →
-          Compiles w (WrittenAt w a end) limit known₀ len₀ (end - a) starts₀ ends₀ prog₀ starts ends prog
+          Compiles w (FormulaWritten w a end) limit known₀ len₀ (end - a) starts₀ ends₀ prog₀ starts ends prog
           (record { fits = false; known = n; len = len })
       walk-full i g = record {
         ranges = W .ranges;
@@ -312,7 +309,7 @@ module _ {w : List ℕ} {a end limit known₀ len₀ : ℕ} {starts₀ ends₀ p
       }
 
       pub walk-new : n ≤ j → (n ≡ limit → ⊥) →
-          Walk w a end limit known₀ len₀ starts₀ ends₀ prog₀ (set starts n k) (set ends n q) (set prog len n) (n + 1)
+          Compilation w a end limit known₀ len₀ starts₀ ends₀ prog₀ (set starts n k) (set ends n q) (set prog len n) (n + 1)
           (len + 1) q
       walk-new i g = let p = W .within in let r = W .few in record {
         ranges =

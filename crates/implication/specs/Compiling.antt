@@ -2,12 +2,12 @@
 -- and the bytes of its formula.
 -- Working: `table-settled` of proofs/Meaning and `answered` of proofs/Answers say that the table of the formulas
 -- decides what `implication` does. Assumes nothing.
---     number, entry, Extends           the number of a listed comparison; the one with a number; numbers stay
---     formula                          the formula of a boolean
---     Compared, Known                  a comparison stands in a range of words; all that are listed do
---     WrittenAt, PairWritten           a boolean stands there, at some depth; one that is made of two
---     SideWritten                      the boolean that a side is
---     CanCompile, Fits, Compiles       the contract of compiling what stands somewhere
+--     number, entry, Extends         the number of a listed comparison; the one with a number; numbers stay
+--     formula                        the formula of a boolean
+--     Compared, Known                a comparison stands in a range of words; all that are listed do
+--     FormulaWritten, PairWritten    a boolean stands there, at some depth; one that is made of two
+--     SideWritten                    the boolean that a side is
+--     CanCompile, Coded, Compiles    the contract of compiling what stands somewhere
 use mathlib.Core.Path.{_≡_}
 use mathlib.Core.Bool.{true, false, cond}
 use mathlib.Core.List.{List, [], _∷_, _++_}
@@ -20,7 +20,7 @@ use Rattle.rules.specs.Implies.{amongWords, comparisons}
 use Rattle.layout.specs.EvidenceWords.{expressionPart}
 use Rattle.layout.specs.Nodes.{AllInRange}
 use Rattle.layout.specs.Standing.{StandsTo, PartStands}
-use Rattle.table.specs.Formula.{Formula, leaf, fixed, conj, disj, negated, spell}
+use Rattle.truth_table.specs.Formula.{Formula, leaf, fixed, conj, disj, negated, spell}
 use Rattle.implication.specs.declared.Compiled.{Compiled}
 use Rattle.implication.specs.declared.Side.{Side}
 use Rattle.implication.specs.Sides.{PairStands, SideStands}
@@ -56,7 +56,7 @@ pub record Known (w starts ends : List ℕ) (n : ℕ) (l : List (List Word)) : T
   pub count : length l ≡ n
   pub each : (i : ℕ) → i < n → Compared w (getD starts i 0) (entry l i) (getD ends i 0)
 
-pub record WrittenAt (w : List ℕ) (a p : ℕ) (φ : Expr Boolean) : Type 0 where
+pub record FormulaWritten (w : List ℕ) (a p : ℕ) (φ : Expr Boolean) : Type 0 where
   pub levels : ℕ
   pub stands : PartStands w (expressionPart φ) levels a p
 
@@ -77,7 +77,7 @@ pub record CanCompile
   pub ranges : Ranges w starts ends known
   pub room : len + most ≤ length prog
 
-pub record Fits
+pub record Coded
     (w : List ℕ) (φ : Expr Boolean) (l : List (List Word)) (len : ℕ) (prog₀ starts ends prog : List ℕ) (r : Compiled) :
     Type 0 where
   pub known : Known w starts ends (r .known) (comparisons φ l)
@@ -95,6 +95,6 @@ pub record Compiles
   pub short : r .len ≤ len + most
   pub room : length prog ≡ length prog₀
   pub fitting : r .fits ≡ true → (φ : Expr Boolean) (l : List (List Word)) → Stands φ →
-      Known w starts₀ ends₀ known l → Fits w φ l len prog₀ starts ends prog r
+      Known w starts₀ ends₀ known l → Coded w φ l len prog₀ starts ends prog r
   pub full : r .fits ≡ false → (φ : Expr Boolean) (l : List (List Word)) → Stands φ →
       Known w starts₀ ends₀ known l → limit < length (comparisons φ l)

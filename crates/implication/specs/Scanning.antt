@@ -1,10 +1,10 @@
 -- The words of a boolean by what matters of each, and ranges of words.
 -- Working: `scan-boolean` of proofs/Pieces ties the bytes to the words of a boolean, `same-comparison` and
 -- `comparison-same` of proofs/Encodings tie ranges to the comparisons that stand there. Assumes nothing.
---     byteBy, byteOf, byteAt        the byte of a word in a formula
---     Skipped                       the first place with a word of a boolean
---     SameFor, SameRange, Compares  two ranges have the same words
---     Ranges, CanFind, Finds        a range of words is found among others
+--     byteBy, byteOf, byteAt          the byte of a word in a formula
+--     Skipped                         the first place with a word of a boolean
+--     SameFor, SameRange, Compares    two ranges have the same words
+--     Ranges, CanFindRange, Finds     a range of words is found among others
 use mathlib.Core.Path.{_≡_}
 use mathlib.Core.Bool.{Bool, true, false, cond}
 use mathlib.Core.List.{List}
@@ -51,7 +51,7 @@ pub record Ranges (w starts ends : List ℕ) (n : ℕ) : Type 0 where
   pub sizes : (length starts ≡ 16) × (length ends ≡ 16)
   pub each : (i : ℕ) → i < n → (getD starts i 0 ≤ getD ends i 0) × (getD ends i 0 ≤ length w)
 
-pub record CanFind (w : List ℕ) (k q : ℕ) (starts ends : List ℕ) (n : ℕ) : Type 0 where
+pub record CanFindRange (w : List ℕ) (k q : ℕ) (starts ends : List ℕ) (n : ℕ) : Type 0 where
   pub from : k ≤ q
   pub inside : q ≤ length w
   pub ranges : Ranges w starts ends n

@@ -8,7 +8,7 @@ ghost use Prim.Native.Nat.{_+_, _-_, _<_};
 ghost use lib.ListN.{length};
 ghost use Rattle.language.specs.Syntax.{and, neg};
 ghost use Rattle.implication.specs.Sides.{RangeFits, SideFits, sideRoom};
-ghost use Rattle.implication.specs.Compiling.{WrittenAt, PairWritten, SideWritten, CanCompile, Compiles};
+ghost use Rattle.implication.specs.Compiling.{FormulaWritten, PairWritten, SideWritten, CanCompile, Compiles};
 
 // The boolean of the words from a up to end as bytes after the first len, its new comparisons after the known ones.
 pub fn compile(
@@ -24,7 +24,7 @@ pub fn compile(
 ) -> Compiled
     requires { ⌜ RangeFits (length (now w)) a end ×
         CanCompile (now w) limit known len (end - a) (now starts) (now ends) (now prog) ⌝ }
-    ensures { λ r. ⌜ Compiles (now (w .entry)) (WrittenAt (now (w .entry)) a end) limit known len (end - a)
+    ensures { λ r. ⌜ Compiles (now (w .entry)) (FormulaWritten (now (w .entry)) a end) limit known len (end - a)
         (now (starts .entry)) (now (ends .entry)) (now (prog .entry))
         (now (starts .exit)) (now (ends .exit)) (now (prog .exit)) r ⌝ }
 {

@@ -61,7 +61,7 @@ fn room(s: Side) -> usize
 }
 
 // Whether the one side implies the other, with bytes lent for the formula: not the left, or the right.
-fn settle(w: &[u32], left: Side, right: Side, limit: usize, prog: &mut [u8]) -> Condition
+fn decide_sides(w: &[u32], left: Side, right: Side, limit: usize, prog: &mut [u8]) -> Condition
     requires { ⌜ CanImply (now w) left right limit × (2 + sideRoom left + sideRoom right ≤ length (now prog)) ⌝ }
     ensures { λ r. ⌜ Implied (now (w .entry)) left right limit r ⌝ }
 {
@@ -84,7 +84,7 @@ fn settle(w: &[u32], left: Side, right: Side, limit: usize, prog: &mut [u8]) -> 
     let n = y.known;
     let total = y.len;
     let b = blocks(n);
-    if table::every(prog, total, b) {
+    if truth_table::every(prog, total, b) {
         return Condition::Passes;
     }
     Condition::Fails
@@ -99,8 +99,8 @@ pub fn implies(w: &[u32], left: Side, right: Side, limit: usize) -> Condition
     // Most formulas are short, and few bytes are to be cleared for them.
     if most <= 256 {
         let mut prog = [0u8; 256];
-        return settle(w, left, right, limit, &mut prog);
+        return decide_sides(w, left, right, limit, &mut prog);
     }
     let mut prog = [0u8; 32776];
-    settle(w, left, right, limit, &mut prog)
+    decide_sides(w, left, right, limit, &mut prog)
 }

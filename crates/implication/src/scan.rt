@@ -7,7 +7,7 @@ ghost use mathlib.Core.Path.{_≡_};
 ghost use Prim.Native.Nat.{_+_, _<_};
 ghost use lib.ListN.{length};
 ghost use Rattle.implication.specs.Sides.{RangeFits};
-ghost use Rattle.implication.specs.Scanning.{byteOf, Skipped, Compares, CanFind, Finds};
+ghost use Rattle.implication.specs.Scanning.{byteOf, Skipped, Compares, CanFindRange, Finds};
 
 // The byte of a word in a formula; 21 for a word of no boolean, 22 for a comparison.
 pub fn byte(x: u32) -> u8
@@ -75,7 +75,7 @@ pub fn find(
     ends: &[usize; 16],
     n: usize,
 ) -> usize
-    requires { ⌜ CanFind (now w) k next (now starts) (now ends) n ⌝ }
+    requires { ⌜ CanFindRange (now w) k next (now starts) (now ends) n ⌝ }
     ensures { λ r. ⌜ Finds (now (w .entry)) k next (now (starts .entry)) (now (ends .entry)) n r ⌝ }
 {
     let mut i: usize = 0;

@@ -21,7 +21,7 @@ use Rattle.goals.specs.declared.Goal.{Goal}
 use Rattle.goals.specs.Goals.{TreeGoal, verdict, GoalStands, flow-stands, set-stands, pre-stands}
 use Rattle.ends.proofs.Places.{node-inside}
 use Rattle.layout.proofs.Nodes.{Inside}
-use Rattle.judge.specs.Going.{Low}
+use Rattle.judge.specs.Going.{GoalLow}
 
 module _ (Γ : Context) (file ends : List ℕ) where
   tree-counts : {j : Judgement} (k : Evidence j) {v : Verdict} (d at end n : ℕ) → TreeAt Γ file d at k end →
@@ -63,7 +63,7 @@ module _ (Γ : Context) (file ends : List ℕ) where
   below i n = let s = i .start in let w = i .within in omega arith
 
   pub goal-low : {goal : Goal} {g : TreeGoal} {d at end : ℕ} → GoalStands Γ file ends goal g d at end →
-      length file ≤ 8192 → Low goal
+      length file ≤ 8192 → GoalLow goal
   goal-low (flow-stands x y z s) n =
       (below (node-inside x) n, below (node-inside y) n, below (node-inside z) n)
   goal-low (set-stands x y s) n = (below (node-inside x) n, below (node-inside y) n)

@@ -1,15 +1,15 @@
 -- The children of an evidence word whose conditions pass, judged one after the other.
 -- Assumes nothing.
---     can-step-of, step-of, child-is   a rule by the judgement of its goal
+--     can-step-of, step-of, child-is                        a rule by the judgement of its goal
 --     flow-child-asked, set-child-asked, pre-child-asked    what the goal of a child asks for, by judgement
---     level-due                        evidence takes a level
---     can-step, can-go                 the word: what its conditions ask for; its children, where they pass
---     judged-failed, judged-large, judged-passed      its verdict by the result of its conditions
---     Going                            the children from number k on, in the code's loop
---     going-start, going-step, going-refused, going-end      at the start; past a child; a child refused; past the last
---     child-asked, child-can           what the goal of a child and judging it ask for
---     next-fits   a child has a small number
---     count-fits                       the sum of counts does not overflow
+--     level-due                                             evidence takes a level
+--     can-step, can-go                                      the word: what its conditions ask for; its children, where they pass
+--     judged-failed, judged-large, judged-passed            its verdict by the result of its conditions
+--     Going                                                 the children from number k on, in the code's loop
+--     going-start, going-step, going-refused, going-end     at the start; past a child; a child refused; past the last
+--     child-asked, child-can                                what the goal of a child and judging it ask for
+--     next-fits                                             a child has a small number
+--     count-fits                                            the sum of counts does not overflow
 use mathlib.Core.Path.{_≡_, refl, sym, ap, subst, _∙_}
 use mathlib.Core.Bool.{Bool, true, false, cond}
 use mathlib.Core.List.{List, [], _∷_}
@@ -22,7 +22,7 @@ use Rattle.rules.specs.Evidence.{Item, by}
 use Rattle.rules.specs.Judge.{Verdict, accepted, refused, oneMore, _also_, step, judgeWord, judge}
 use Rattle.layout.specs.Bytes.{payloadAt}
 use Rattle.layout.specs.EvidenceWords.{FitsTree}
-use Rattle.words.specs.Rows.{packed, rowOf}
+use Rattle.words.specs.Rows.{packedItems, rowOf}
 use Rattle.words.proofs.RowItems.{no-item, digit-rest}
 use Rattle.implication.specs.Sides.{resultOf}
 use Rattle.implication.specs.declared.Condition.{Condition}
@@ -96,7 +96,7 @@ module _ {ends : List ℕ} {goal : Goal} {rule at k : ℕ} where
   moved e h = subst (λ x. CanChild ends x rule at k) e h
 
   pub flow-child-asked : {p c q : ℕ} → goal ≡ Flow p c q → CanChild ends goal rule at k →
-      flows.CanChild ends rule p c q at k
+      flows.CanFlowChild ends rule p c q at k
   flow-child-asked e h =
       let x = moved e h in
       record {
@@ -198,7 +198,7 @@ module _ (file ends : List ℕ) (Γ : Context) (goal : Goal) (at left : ℕ) whe
 
   pub record Going (rest next count k : ℕ) : Type 0 where
     pub items : List Item
-    pub rest-is : rest ≡ packed items
+    pub rest-is : rest ≡ packedItems items
     pub many : k + length items ≡ length goals
     pub goes : (g : TreeGoal) (end : ℕ) → GoalStands Γ file ends goal g (suc left) at end → GoingOf g end k next count
 
@@ -231,7 +231,7 @@ record FirstItem (items : List Item) : Type 0 where
   others : List Item
   is : items ≡ first ∷ others
 
-row-first : (items : List Item) → (packed items ≡ 0 → ⊥) → FirstItem items
+row-first : (items : List Item) → (packedItems items ≡ 0 → ⊥) → FirstItem items
 row-first [] h = absurd (h refl)
 row-first (x ∷ l) h = record { first = x; others = l; is = refl }
 
@@ -241,7 +241,7 @@ module _ {file ends : List ℕ} {Γ : Context} {goal : Goal} {at left : ℕ} (p 
   unfolding judgeWord
   going-start {row} {rule} {first} e f past =
       let known : (g : TreeGoal) (end : ℕ) → GoalStands Γ file ends goal g (suc left) at end →
-      row ≡ packed (treeItems g) = λ g end s. f ∙ ap (rowOf (judgementOf goal)) e ∙ row-is s .row in
+      row ≡ packedItems (treeItems g) = λ g end s. f ∙ ap (rowOf (judgementOf goal)) e ∙ row-is s .row in
       record {
         items = carriedOff (treeItems (p .can .tree));
         rest-is = past .past (treeItems (p .can .tree)) (known _ _ (p .can .goal-stands)) .1;
@@ -347,7 +347,7 @@ module _ {file ends : List ℕ} {Γ : Context} {goal : Goal} {at left : ℕ} (p 
             pub going-step : Going file ends Γ goal at left (rest / 8) to (count + n) (k + 1)
             going-step = record {
               items = item .others;
-              rest-is = ap (λ m. m / 8) (going .rest-is ∙ ap packed (item .is)) ∙ digit-rest (item .first) (item .others);
+              rest-is = ap (λ m. m / 8) (going .rest-is ∙ ap packedItems (item .is)) ∙ digit-rest (item .first) (item .others);
               many = let m = going .many in let z = ap length (item .is) in omega arith;
               goes = λ g end s.
                   let y = child-of g end s in

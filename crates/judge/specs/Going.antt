@@ -1,8 +1,8 @@
 -- The children of an evidence word whose conditions pass, judged one after the other.
 -- Working: `judged-passed`, `going-start`, `going-step` and `going-end` of proofs/Going tie it to the verdict of the word
 -- that has the children. Assumes nothing.
---     CanChild, Low    what the goal of a child is asked for under: places of a file, and a number below theirs
---     CanGo, Goes      what judging the children asks for and promises
+--     CanChild, GoalLow    what the goal of a child is asked for under: places of a file, and a number below theirs
+--     CanGo, Goes          what judging the children asks for and promises
 use mathlib.Core.List.{List}
 use Prim.Native.Nat.{ℕ, suc, _<_}
 use lib.ListN.{length}
@@ -15,13 +15,13 @@ use Rattle.goals.specs.Children.{childrenAt}
 use Rattle.goals.specs.Goals.{StepOf, CanJudge, JudgedOf}
 
 -- places of a file
-abbrev pub Low : Goal → Type 0
-Low (Flow p c q) = (p < 8192) × (c < 8192) × (q < 8192)
-Low (Set p q) = (p < 8192) × (q < 8192)
-Low (Pre f c g) = (f < 8192) × (c < 8192) × (g < 8192)
+abbrev pub GoalLow : Goal → Type 0
+GoalLow (Flow p c q) = (p < 8192) × (c < 8192) × (q < 8192)
+GoalLow (Set p q) = (p < 8192) × (q < 8192)
+GoalLow (Pre f c g) = (f < 8192) × (c < 8192) × (g < 8192)
 
 pub record CanChild (ends : List ℕ) (goal : Goal) (rule at k : ℕ) : Type 0 where
-  pub low : Low goal
+  pub low : GoalLow goal
   pub place : at < 8192
   pub some : k < length (childrenAt ends goal rule at)
 

@@ -8,7 +8,7 @@ use mathlib.Core.List.{List}
 use Prim.Native.Nat.{ℕ, _%_}
 use lib.Dec.{eqb}
 use Rattle.rules.specs.Evidence.{Item}
-use Rattle.words.specs.Rows.{packed}
+use Rattle.words.specs.Rows.{packedItems}
 use Rattle.goals.specs.Children.{carriedOff, pastCarried}
 use Rattle.judge.specs.declared.row.First.{First}
 
@@ -16,4 +16,4 @@ abbrev pub isCarried : ℕ → Bool
 isCarried row = eqb (row % 8) 1 || (eqb (row % 8) 2 || eqb (row % 8) 3)
 
 pub record PastCarried (ends : List ℕ) (row at : ℕ) (r : First) : Type 0 where
-  pub past : (l : List Item) → row ≡ packed l → (r .at ≡ pastCarried ends l at) × (r .rest ≡ packed (carriedOff l))
+  pub past : (l : List Item) → row ≡ packedItems l → (r .at ≡ pastCarried ends l at) × (r .rest ≡ packedItems (carriedOff l))

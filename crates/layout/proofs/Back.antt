@@ -1,6 +1,6 @@
 -- What stands in the file by its words and fits is read (document 01, "Layout"): expressions, commands and sets.
 -- Assumes nothing.
---     Back, begun, _⊲_                                   what is read at a place; leaf and _⊛_
+--     Back, begun, _⊲_                                   what is read at a place; pure and _⊛_
 --     Allowed, some-back, up-to-back, option-back        a word that may stand there: some, upTo, onOption
 --     word-back                                          wordDue, of what stands
 --     expression-stands, command-stands, set-stands      from what stands to what is read
@@ -22,7 +22,7 @@ use Rattle.rules.specs.Words.{operatorPayload, comparisonPayload, truthPayload}
 use Rattle.rules.specs.Assertion.{Member, Members, member}
 use Rattle.rules.specs.Context.{Context}
 use Rattle.layout.specs.Bytes.{wordCount, kindAt, payloadAt}
-use Rattle.layout.specs.Reading.{read, Reader, leaf, _⊛_, several, allowed, wordDue, upTo, onOption}
+use Rattle.layout.specs.Reading.{read, Reader, pure, _⊛_, several, allowed, wordDue, upTo, onOption}
 use Rattle.layout.specs.Read.{operatorOf, comparisonOf, truthOf}
 use Rattle.layout.specs.Read.{expression, command, sortOf, consequentAt, memberAt, set}
 use Rattle.layout.specs.Spelling.{payloadOf, SpelledAt, FitsExpression, FitsCommand}
@@ -38,7 +38,7 @@ use Rattle.layout.proofs.Nodes.{kind-at, content-at, with-levels, const
 pub record Back {A : Type 0} (r : Reader A) (at : ℕ) (a : A) (p : ℕ) : Type 0 where
   pub back : r at ≡ read a p
 
-pub begun : {A : Type 0} {a : A} {at p : ℕ} → at ≡ p → Back (leaf a) at a p
+pub begun : {A : Type 0} {a : A} {at p : ℕ} → at ≡ p → Back (pure a) at a p
 begun {a} h = record { back = ap (λ q. read a q) h }
 
 infixl 50 _⊲_
@@ -171,7 +171,7 @@ module _ (file : List ℕ) where
   sort-stands d {j} e at p s = with-levels (expressionNode e) d s λ n l o. ap sortOf (o .kind) ∙ sort-of j _ (sort-kind e)
 
   abbrev consequentOf : (d : ℕ) (j : Sort) → Reader (Expr Boolean → Member)
-  consequentOf d j = leaf (λ e φ. member φ e) ⊛ expression file d j
+  consequentOf d j = pure (λ e φ. member φ e) ⊛ expression file d j
 
   consequent-stands : (d : ℕ) {j : Sort} (e : Expr j) (at p : ℕ) → Stands file (words e) (FitsExpression e d) at p →
       Back (consequentAt file d) at (λ φ. member φ e) p

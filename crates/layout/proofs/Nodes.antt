@@ -59,10 +59,10 @@ pub record NodeLaw (x : Node) (w : Word) (l : List Node) : Type 0 where
   pub count : countOf (kindOf w) (contentOf w) ≡ length l
 
 module _ {x : Node} {w : Word} where
-  leaf : nodeWords x ≡ w ∷ [] → ((d : ℕ) → FitsNode x (suc d) → InRange w) →
+  leaf-node : nodeWords x ≡ w ∷ [] → ((d : ℕ) → FitsNode x (suc d) → InRange w) →
       ((d n : ℕ) → FitsNode x (suc d) → FitsNode x (suc n)) → countOf (kindOf w) (contentOf w) ≡ 0 → NodeLaw x w []
   unfolding joined EachFits
-  leaf e f g n = record { spelling = e; fits = λ d at h. (f d h, tt); deeper = λ d n at h k. g d n h; count = n }
+  leaf-node e f g n = record { spelling = e; fits = λ d at h. (f d h, tt); deeper = λ d n at h k. g d n h; count = n }
 
   one : {y : Node} → nodeWords x ≡ w ∷ nodeWords y → ((d : ℕ) → FitsNode x (suc d) → InRange w × FitsNode y d) →
       ((d n : ℕ) → FitsNode x (suc d) → FitsNode y n → FitsNode x (suc n)) → countOf (kindOf w) (contentOf w) ≡ 1 →
@@ -122,19 +122,19 @@ members-count (m ∷ p) = let e = members-count p in omega arith
 
 pub node-law : (x : Node) → NodeLaw x (headOf x) (partsOf x)
 unfolding words commandWords FitsExpression FitsCommand FitsSet countOf
-node-law (expressionNode (constant z)) = leaf refl (λ d h. constant-range z h) (λ d n h. h) refl
-node-law (expressionNode (scalar x)) = leaf refl (λ d h. (omega arith, refl, refl)) (λ d n h. h) refl
+node-law (expressionNode (constant z)) = leaf-node refl (λ d h. constant-range z h) (λ d n h. h) refl
+node-law (expressionNode (scalar x)) = leaf-node refl (λ d h. (omega arith, refl, refl)) (λ d n h. h) refl
 node-law (expressionNode (operation o a b)) = two refl (λ d h. (operator-range o, h)) (λ n g. g) refl
 node-law (expressionNode (select a i)) = two refl (λ d h. ((omega arith, refl, refl), h)) (λ n g. g) refl
 node-law (expressionNode (compare r a b)) = two refl (λ d h. (comparison-range r, h)) (λ n g. g) refl
-node-law (expressionNode (truth t)) = leaf refl (λ d h. truth-range t) (λ d n h. h) refl
+node-law (expressionNode (truth t)) = leaf-node refl (λ d h. truth-range t) (λ d n h. h) refl
 node-law (expressionNode (and b c)) = two refl (λ d h. ((omega arith, refl, refl), h)) (λ n g. g) refl
 node-law (expressionNode (or b c)) = two refl (λ d h. ((omega arith, refl, refl), h)) (λ n g. g) refl
 node-law (expressionNode (neg b)) = one refl (λ d h. ((omega arith, refl, refl), h)) (λ d n h g. g) refl
-node-law (expressionNode (array a)) = leaf refl (λ d h. (omega arith, refl, refl)) (λ d n h. h) refl
-node-law (expressionNode zeros) = leaf refl (λ d h. (omega arith, refl, refl)) (λ d n h. h) refl
+node-law (expressionNode (array a)) = leaf-node refl (λ d h. (omega arith, refl, refl)) (λ d n h. h) refl
+node-law (expressionNode zeros) = leaf-node refl (λ d h. (omega arith, refl, refl)) (λ d n h. h) refl
 node-law (expressionNode (update a i b)) = three refl (λ d h. ((omega arith, refl, refl), h)) (λ n g. g) refl
-node-law (commandNode skip) = leaf refl (λ d h. (omega arith, refl, refl)) (λ d n h. h) refl
+node-law (commandNode skip) = leaf-node refl (λ d h. (omega arith, refl, refl)) (λ d n h. h) refl
 node-law (commandNode (sequence c₁ c₂)) = two refl (λ d h. ((omega arith, refl, refl), h)) (λ n g. g) refl
 node-law (commandNode (assert b)) = one refl (λ d h. ((omega arith, refl, refl), h)) (λ d n h g. g) refl
 node-law (commandNode (assign (toScalar x e))) = one refl (λ d h. ((omega (arith, h .0), refl, refl), h .1)) (λ d n h g. (h .0, g)) refl

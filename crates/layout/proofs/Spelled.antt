@@ -1,8 +1,8 @@
 -- What is read stands in the file by its words and fits (document 01, "Layout"): expressions, commands and sets.
 -- Assumes nothing.
---     ExpressionAt, CommandAt, SetAt                      it stands from a place up to another and fits
---     expression-past, command-past, set-past             by cases on the reading, refusals too
---     spelled                                             of what was read, by any reader
+--     ExpressionSpelled, CommandSpelled, SetSpelled    it stands from a place up to another and fits
+--     expression-past, command-past, set-past          by cases on the reading, refusals too
+--     spelled                                          of what was read, by any reader
 use mathlib.Core.Path.{_≡_, refl, sym}
 use mathlib.Core.List.{List, [], _∷_}
 use Prim.Native.Nat.{ℕ, zero, suc, _+_, _/_, _%_, _≤_}
@@ -20,7 +20,7 @@ use Rattle.layout.specs.Read.{arithmeticWord, booleanWord, arrayWord, ex
 use Rattle.layout.specs.Read.{expression, commandWord, command, sortOf, consequentAt, memberAt, set}
 use Rattle.layout.specs.Spelling.{payloadOf, SpelledAt, FitsExpression, FitsCommand}
 use Rattle.layout.specs.Spelling.{memberWords, membersWords, setWords, FitsMembers, FitsSet}
-use Rattle.layout.proofs.Words.{Found, word-found, for-found, payload-signed, signed-fits}
+use Rattle.layout.proofs.Words.{WordFound, word-found, for-found, payload-signed, signed-fits}
 use Rattle.layout.specs.Standing.{Stands}
 use Rattle.layout.proofs.Stands.{first, both, stands-spelled, stands-end}
 use Rattle.layout.proofs.Yields.{Optional, nothing, something, entry, up-to, on-option}
@@ -55,7 +55,7 @@ module _ (file : List ℕ) where
   alone h = record { stand = refl; fit = h }
 
   -- a word with its kind and payload before others
-  after : {k p n : ℕ} {z : ℤ} {l : List Word} {F : Type 0} {at q : ℕ} → Found file at k p → k ≡ n → payloadOf z ≡ p →
+  after : {k p n : ℕ} {z : ℤ} {l : List Word} {F : Type 0} {at q : ℕ} → WordFound file at k p → k ≡ n → payloadOf z ≡ p →
       Stands file l F (at + 1) q → Stands file (word n z ∷ l) F at q
   after {n} {z} f e x s = first (f .inside) (word-found n z f e x) s
 
@@ -63,17 +63,17 @@ module _ (file : List ℕ) where
   too : {l : List Word} {F G : Type 0} {at p : ℕ} → F → Stands file l G at p → Stands file l (F × G) at p
   too h s = record { stand = s .stand; fit = (h, s .fit) }
 
-  abbrev pub ExpressionAt : {j : Sort} → ℕ → ℕ → Expr j → ℕ → Type 0
-  ExpressionAt d at e p = Stands file (words e) (FitsExpression e d) at p
+  abbrev pub ExpressionSpelled : {j : Sort} → ℕ → ℕ → Expr j → ℕ → Type 0
+  ExpressionSpelled d at e p = Stands file (words e) (FitsExpression e d) at p
 
-  abbrev pub CommandAt : ℕ → ℕ → Command → ℕ → Type 0
-  CommandAt d at c p = Stands file (commandWords c) (FitsCommand c d) at p
+  abbrev pub CommandSpelled : ℕ → ℕ → Command → ℕ → Type 0
+  CommandSpelled d at c p = Stands file (commandWords c) (FitsCommand c d) at p
 
   -- a word's table: `part` reads operands, `a` is the law of `part`, and f is the word that was found
   module _ (d : ℕ) (part : (j : Sort) → Reader (Expr j))
-      (a : (j : Sort) (q : ℕ) → Yields file q (ExpressionAt d q) (part j))
-      (at k p : ℕ) (f : Found file at k p) where
-    arithmetic-word : Optional (λ r. Yields file (at + 1) (ExpressionAt (suc d) at) r) (arithmeticWord part k p)
+      (a : (j : Sort) (q : ℕ) → Yields file q (ExpressionSpelled d q) (part j))
+      (at k p : ℕ) (f : WordFound file at k p) where
+    arithmetic-word : Optional (λ r. Yields file (at + 1) (ExpressionSpelled (suc d) at) r) (arithmeticWord part k p)
     unfolding words FitsExpression
     arithmetic-word =
         let small = f .small in
@@ -85,7 +85,7 @@ module _ (file : List ℕ) where
         start _ (λ _ _ s _ _ t. after f e (none-left h) (both s t)) ▹ a Array ▹ a Arithmetic)
         nothing)))
 
-    boolean-word : Optional (λ r. Yields file (at + 1) (ExpressionAt (suc d) at) r) (booleanWord part k p)
+    boolean-word : Optional (λ r. Yields file (at + 1) (ExpressionSpelled (suc d) at) r) (booleanWord part k p)
     unfolding words FitsExpression
     boolean-word =
         entry k 8 (λ e. on-option (comparisonOf p) _ (comparisons p) λ o x.
@@ -98,7 +98,7 @@ module _ (file : List ℕ) where
         (entry k 12 (λ e. up-to 0 p _ λ h. start _ (λ _ _ s. after f e (none-left h) s) ▹ a Boolean)
         nothing))))
 
-    array-word : Optional (λ r. Yields file (at + 1) (ExpressionAt (suc d) at) r) (arrayWord part k p)
+    array-word : Optional (λ r. Yields file (at + 1) (ExpressionSpelled (suc d) at) r) (arrayWord part k p)
     unfolding words FitsExpression
     array-word =
         entry k 16 (λ e. up-to 31 p _ λ h. start _ (after f e refl (alone h)))
@@ -109,13 +109,13 @@ module _ (file : List ℕ) where
         nothing))
 
     expression-word :
-        (j : Sort) → Optional (λ r. Yields file (at + 1) (ExpressionAt (suc d) at) r) (expressionWord part j k p)
+        (j : Sort) → Optional (λ r. Yields file (at + 1) (ExpressionSpelled (suc d) at) r) (expressionWord part j k p)
     expression-word Arithmetic = arithmetic-word
     expression-word Boolean = boolean-word
     expression-word Array = array-word
 
-    module _ (body : Reader Command) (b : (q : ℕ) → Yields file q (CommandAt d q) body) where
-      command-word : Optional (λ r. Yields file (at + 1) (CommandAt (suc d) at) r) (commandWord part body k p)
+    module _ (body : Reader Command) (b : (q : ℕ) → Yields file q (CommandSpelled d q) body) where
+      command-word : Optional (λ r. Yields file (at + 1) (CommandSpelled (suc d) at) r) (commandWord part body k p)
       unfolding commandWords FitsCommand
       command-word =
           entry k 24 (λ e. up-to 0 p _ λ h. start _ (after f e (none-left h) (alone tt)))
@@ -131,14 +131,14 @@ module _ (file : List ℕ) where
           start _ (λ _ _ s. first (f .inside) (for-found f e) (too (for-range p h) s)) ▹ b)
           nothing)))))))
 
-  pub expression-past : (d : ℕ) (j : Sort) (at : ℕ) → Past file at (ExpressionAt d at) (expression file d j)
+  pub expression-past : (d : ℕ) (j : Sort) (at : ℕ) → Past file at (ExpressionSpelled d at) (expression file d j)
   unfolding expression
   expression-past zero j at = level-past at _
   expression-past (suc d) j at =
       due-past at _ λ k p f.
       expression-word d (expression file d) (λ i q. past-yields (expression-past d i q)) at k p f j
 
-  pub command-past : (d at : ℕ) → Past file at (CommandAt d at) (command file d)
+  pub command-past : (d at : ℕ) → Past file at (CommandSpelled d at) (command file d)
   unfolding command
   command-past zero at = level-past at _
   command-past (suc d) at =
@@ -147,45 +147,45 @@ module _ (file : List ℕ) where
       (λ q. past-yields (command-past d q))
 
   -- what a consequent makes of an antecedent
-  abbrev ConsequentAt : ℕ → ℕ → (Expr Boolean → Member) → ℕ → Type 0
-  ConsequentAt d at m p = (φ : Expr Boolean) → ExpressionAt d at (m φ .consequent) p × (m φ .antecedent ≡ φ)
+  abbrev ConsequentSpelled : ℕ → ℕ → (Expr Boolean → Member) → ℕ → Type 0
+  ConsequentSpelled d at m p = (φ : Expr Boolean) → ExpressionSpelled d at (m φ .consequent) p × (m φ .antecedent ≡ φ)
 
-  abbrev MemberAt : ℕ → ℕ → Member → ℕ → Type 0
-  MemberAt d at m p =
+  abbrev MemberSpelled : ℕ → ℕ → Member → ℕ → Type 0
+  MemberSpelled d at m p =
       Stands file (memberWords m) (FitsExpression (m .antecedent) d × FitsExpression (m .consequent) d) at p
 
-  consequent-yields : (d at : ℕ) → Yields file at (ConsequentAt d at) (consequentAt file d)
+  consequent-yields : (d at : ℕ) → Yields file at (ConsequentSpelled d at) (consequentAt file d)
   consequent-yields d at = let j = sortOf (kindAt file at) in record {
     yields =
-        (start {T = λ m q. (e : Expr j) (p : ℕ) → ExpressionAt d q e p → ConsequentAt d at (m e) p} _
+        (start {T = λ m q. (e : Expr j) (p : ℕ) → ExpressionSpelled d q e p → ConsequentSpelled d at (m e) p} _
         (λ e p s φ. (s, refl)) ▹ (λ q. past-yields (expression-past d j q))) .yields;
   }
 
-  member-yields : (d at : ℕ) → Yields file at (MemberAt d at) (memberAt file d)
+  member-yields : (d at : ℕ) → Yields file at (MemberSpelled d at) (memberAt file d)
   member-yields d at =
       start _ (λ φ q s m p t. rw (t φ .1) (both s (t φ .0)))
       ▹ (λ q. past-yields (expression-past d Boolean q)) ▹ consequent-yields d
 
-  abbrev pub SetAt : Context → ℕ → ℕ → Members → ℕ → Type 0
-  SetAt Γ d at m p = Stands file (setWords m) (FitsSet Γ m d) at p
+  abbrev pub SetSpelled : Context → ℕ → ℕ → Members → ℕ → Type 0
+  SetSpelled Γ d at m p = Stands file (setWords m) (FitsSet Γ m d) at p
 
-  abbrev MembersAt : ℕ → Members → ℕ → ℕ → Type 0
-  MembersAt d m at p = Stands file (membersWords m) (FitsMembers m d) at p
+  abbrev MembersSpelled : ℕ → Members → ℕ → ℕ → Type 0
+  MembersSpelled d m at p = Stands file (membersWords m) (FitsMembers m d) at p
 
   members-yields :
       (d n at : ℕ) →
-      Yields file at (λ m p. MembersAt d m at p × (length m ≡ n)) (several n (memberAt file d))
+      Yields file at (λ m p. MembersSpelled d m at p × (length m ≡ n)) (several n (memberAt file d))
   members-yields d n at =
-      several-yields (MembersAt d) (λ q. alone tt) (λ m l q r p s t. both s t) (member-yields d) n at
+      several-yields (MembersSpelled d) (λ q. alone tt) (λ m l q r p s t. both s t) (member-yields d) n at
 
   -- a set's word before its members
-  set-after : (Γ : Context) (d at k p : ℕ) → Found file at k p → k ≡ 32 → p ≤ Γ .limits .members →
-      (m : Members) (q : ℕ) → MembersAt d m (at + 1) q × (length m ≡ p) → SetAt Γ (suc d) at m q
+  set-after : (Γ : Context) (d at k p : ℕ) → WordFound file at k p → k ≡ 32 → p ≤ Γ .limits .members →
+      (m : Members) (q : ℕ) → MembersSpelled d m (at + 1) q × (length m ≡ p) → SetSpelled Γ (suc d) at m q
   unfolding FitsSet
   set-after Γ d at k p f e h m q s =
       after f e (s .1) (too (rw (s .1) h, rw (s .1) (f .small)) (s .0))
 
-  pub set-past : (Γ : Context) (d at : ℕ) → Past file at (SetAt Γ d at) (set Γ file d)
+  pub set-past : (Γ : Context) (d at : ℕ) → Past file at (SetSpelled Γ d at) (set Γ file d)
   unfolding set
   set-past Γ zero at = level-past at _
   set-past Γ (suc d) at =

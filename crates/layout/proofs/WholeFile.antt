@@ -1,12 +1,12 @@
 -- A whole file is read exactly when its words are those of its parts (document 01, "Judging order" 2 to 7).
 -- Assumes nothing.
---     PartsTo                        the parts after the first word stand and fit
---     parts-yields, parts-stood      what is read of them
---     parts-fault                    a refusal
---     parts-stand                    and back
---     FileRead                       what refusals 2 to 7 leave
---     parts-inside                   the parts end inside the file
---     file-spelled, file-back        a file that is read, and back
+--     PartsTo                      the parts after the first word stand and fit
+--     parts-yields, parts-stood    what is read of them
+--     parts-fault                  a refusal
+--     parts-stand                  and back
+--     FilePassed                   what refusals 2 to 7 leave
+--     parts-inside                 the parts end inside the file
+--     file-spelled, file-back      a file that is read, and back
 use mathlib.Core.Path.{_≡_, refl, sym, _∙_, ap, subst, subst₂}
 use mathlib.Core.Bool.{Bool, true, false}
 use mathlib.Core.List.{List}
@@ -19,7 +19,7 @@ use lib.ListN.{length}
 use Rattle.rules.specs.Context.{Context}
 use Rattle.rules.specs.Evidence.{flow}
 use Rattle.layout.specs.Bytes.{wordCount, numberAt, payloads}
-use Rattle.layout.specs.Reading.{Reading, read, fault, Reader, onRead, leaf, _⊛_}
+use Rattle.layout.specs.Reading.{Reading, read, fault, Reader, onRead, pure, _⊛_}
 use Rattle.layout.specs.Read.{command, set}
 use Rattle.layout.specs.ReadEvidence as reading
 use Rattle.layout.specs.For.{firstUnsteady}
@@ -30,7 +30,7 @@ use Rattle.layout.specs.FileWords.{fileParts, FileSpelled}
 use Rattle.layout.specs.Standing.{PartStands}
 use Rattle.layout.proofs.Stands.{chain-stands, stands-chain, stands-inside}
 use Rattle.layout.proofs.Yields.{FaultAt, Yields, YieldsBy, past-yields, start, _▹_, yields-here}
-use Rattle.layout.proofs.Spelled.{CommandAt, SetAt, command-past, set-past, spelled}
+use Rattle.layout.proofs.Spelled.{CommandSpelled, SetSpelled, command-past, set-past, spelled}
 use Rattle.layout.proofs.SpelledEvidence.{TreeAt, head-inside, evidence-past}
 use Rattle.layout.proofs.Back.{Back, begun, _⊲_, command-stands, set-stands, stands-from}
 use Rattle.layout.proofs.BackEvidence.{evidence-stands}
@@ -49,14 +49,14 @@ module _ (Γ : Context) (file : List ℕ) where
   -- the reader of `parts`
   abbrev reader : Reader File
   reader =
-      leaf made ⊛ command file (Γ .limits .depth) ⊛ here ⊛ set Γ file (Γ .limits .depth) ⊛ here
+      pure made ⊛ command file (Γ .limits .depth) ⊛ here ⊛ set Γ file (Γ .limits .depth) ⊛ here
       ⊛ set Γ file (Γ .limits .depth) ⊛ here ⊛ reading.evidence Γ file (Γ .limits .depth) flow
 
   reader-yields : Yields file 1 PartsTo reader
   reader-yields =
-      let program : (q : ℕ) → Yields file q (CommandAt file (Γ .limits .depth) q) (command file (Γ .limits .depth)) =
+      let program : (q : ℕ) → Yields file q (CommandSpelled file (Γ .limits .depth) q) (command file (Γ .limits .depth)) =
       λ q. past-yields (command-past file (Γ .limits .depth) q) in
-      let members : (q : ℕ) → Yields file q (SetAt file Γ (Γ .limits .depth) q) (set Γ file (Γ .limits .depth)) =
+      let members : (q : ℕ) → Yields file q (SetSpelled file Γ (Γ .limits .depth) q) (set Γ file (Γ .limits .depth)) =
       λ q. past-yields (set-past file Γ (Γ .limits .depth) q) in
       let evidence :
       (q : ℕ) → Yields file q (TreeAt Γ file (Γ .limits .depth) q) (reading.evidence Γ file (Γ .limits .depth) flow) =
@@ -87,7 +87,7 @@ module _ (Γ : Context) (file : List ℕ) where
       law .back
 
   -- what refusals 2 to 7 leave of a file
-  pub record FileRead (f : File) (p : ℕ) : Type 0 where
+  pub record FilePassed (f : File) (p : ℕ) : Type 0 where
     pub spelled : FileSpelled Γ file f
     pub steady : firstUnsteady Γ file (wordCount file) 0 ≡ none
     pub end : p ≡ wordCount file
@@ -121,24 +121,24 @@ module _ (Γ : Context) (file : List ℕ) where
 
   -- 7
   steady-read : (f : File) (p : ℕ) →
-      (firstUnsteady Γ file (wordCount file) 0 ≡ none → FileRead f p) →
-      IfRead FileRead (steadyFile Γ file f p)
+      (firstUnsteady Γ file (wordCount file) 0 ≡ none → FilePassed f p) →
+      IfRead FilePassed (steadyFile Γ file f p)
   unfolding steadyFile
   steady-read f p k = go (firstUnsteady Γ file (wordCount file) 0) refl
     where
       go : (o : Option ℕ) → firstUnsteady Γ file (wordCount file) 0 ≡ o →
-          IfRead FileRead (elim o [ none ↦ read f p | some at ↦ fault 7 at ])
+          IfRead FilePassed (elim o [ none ↦ read f p | some at ↦ fault 7 at ])
       go none e = k e
       go (some at) e = tt
 
   -- 6
   finish-read : (f : File) (p : ℕ) → numberAt file 0 ≡ 63 * payloads + wordCount file →
-      PartsTo f p → IfRead FileRead (finish Γ file f p)
+      PartsTo f p → IfRead FilePassed (finish Γ file f p)
   unfolding finish
   finish-read f p e h = go (ltb p (wordCount file)) refl
     where
       go : (t : Bool) → ltb p (wordCount file) ≡ t →
-          IfRead FileRead (elim t [ true ↦ fault 6 p | false ↦ steadyFile Γ file f p ])
+          IfRead FilePassed (elim t [ true ↦ fault 6 p | false ↦ steadyFile Γ file f p ])
       go true t = tt
       go false t =
           let k = ltb-false p (wordCount file) t in
@@ -148,22 +148,22 @@ module _ (Γ : Context) (file : List ℕ) where
 
   -- 3 to 7
   parts-read : (x : Reading File) → numberAt file 0 ≡ 63 * payloads + wordCount file →
-      YieldsBy file 1 PartsTo x → IfRead FileRead (onRead x (finish Γ file))
+      YieldsBy file 1 PartsTo x → IfRead FilePassed (onRead x (finish Γ file))
   parts-read (read f p) e h = finish-read f p e (h .1)
   parts-read (fault n p) e h = tt
 
   -- 2 to 7
-  words-read : IfRead FileRead (wordsRead Γ file)
+  words-read : IfRead FilePassed (wordsRead Γ file)
   unfolding wordsRead
   words-read = go (eqb (numberAt file 0) (63 * payloads + wordCount file)) refl
     where
       go : (t : Bool) → eqb (numberAt file 0) (63 * payloads + wordCount file) ≡ t →
-          IfRead FileRead (elim t [ true ↦ onRead (parts Γ file) (finish Γ file) | false ↦ fault 2 0 ])
+          IfRead FilePassed (elim t [ true ↦ onRead (parts Γ file) (finish Γ file) | false ↦ fault 2 0 ])
       go true e = parts-read (parts Γ file) (eqb-true _ _ e) parts-yields
       go false e = tt
 
-  pub file-spelled : (f : File) (p : ℕ) → wordsRead Γ file ≡ read f p → FileRead f p
-  file-spelled f p e = subst (λ x. IfRead FileRead x) e words-read
+  pub file-spelled : (f : File) (p : ℕ) → wordsRead Γ file ≡ read f p → FilePassed f p
+  file-spelled f p e = subst (λ x. IfRead FilePassed x) e words-read
 
   -- the parts at the places that a file has for them
   placed : (f : File) (p a b c : ℕ) → FileSpelled Γ file f →
@@ -196,7 +196,7 @@ module _ (Γ : Context) (file : List ℕ) where
   unfolding finish steadyFile
   finish-back f e = rw (le-ltb (wordCount file) (wordCount file) (omega arith), finish) (rw (e, steadyFile) refl)
 
-  pub file-back : (f : File) (p : ℕ) → FileRead f p → wordsRead Γ file ≡ read f p
+  pub file-back : (f : File) (p : ℕ) → FilePassed f p → wordsRead Γ file ≡ read f p
   unfolding wordsRead
   file-back f p h =
       rw (eq-eqb _ _ (h .spelled .count), wordsRead)

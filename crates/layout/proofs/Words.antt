@@ -1,12 +1,12 @@
 -- Words as numbers: a number is its kind and its payload, and `encode` and `signed` undo reading.
 -- Assumes nothing.
---     Found, found-at                 the kind and the payload of the word at a place
---     quotient, remainder             of a number by its kind and payload
---     word-found, for-found           a word by its kind and payload
---     for-first, for-second           the scalars of a `for` by its payload
---     payload-signed, signed-fits     the payload of a signed payload is that payload; it is in range
---     signed-payload                  a constant in range is its signed payload
---     payload-small                   its payload has 26 bits
+--     WordFound, found-at            the kind and the payload of the word at a place
+--     quotient, remainder            of a number by its kind and payload
+--     word-found, for-found          a word by its kind and payload
+--     for-first, for-second          the scalars of a `for` by its payload
+--     payload-signed, signed-fits    the payload of a signed payload is that payload; it is in range
+--     signed-payload                 a constant in range is its signed payload
+--     payload-small                  its payload has 26 bits
 use mathlib.Core.Path.{_≡_, refl, sym, _∙_, ap}
 use mathlib.Core.Bool.{Bool, true, false, cond}
 use mathlib.Core.List.{List}
@@ -20,7 +20,7 @@ use Rattle.layout.specs.Bytes.{wordCount, numberAt, kindAt, payloadAt, s
 use Rattle.layout.specs.Spelling.{payloadOf, encode, FitsConstant}
 
 -- a word stands at the place, with this kind and this payload
-pub record Found (file : List ℕ) (at k p : ℕ) : Type 0 where
+pub record WordFound (file : List ℕ) (at k p : ℕ) : Type 0 where
   pub inside : at < wordCount file
   pub number : numberAt file at ≡ k * payloads + p
   pub small : p < payloads
@@ -31,7 +31,7 @@ halves n = omega arith
 below : (n : ℕ) → n % payloads < payloads
 below n = omega arith
 
-pub found-at : (file : List ℕ) (at : ℕ) → at < wordCount file → Found file at (kindAt file at) (payloadAt file at)
+pub found-at : (file : List ℕ) (at : ℕ) → at < wordCount file → WordFound file at (kindAt file at) (payloadAt file at)
 found-at file at h = record { inside = h; number = halves (numberAt file at); small = below (numberAt file at) }
 
 pub quotient : (k p n : ℕ) → n ≡ k * payloads + p → p < payloads → n / payloads ≡ k
@@ -41,11 +41,11 @@ pub remainder : (k p n : ℕ) → n ≡ k * payloads + p → p < payloads → n 
 remainder k p n e h = omega arith
 
 -- a word is known by its kind and its payload
-pub word-found : {file : List ℕ} {at k p : ℕ} (n : ℕ) (z : ℤ) → Found file at k p → k ≡ n → payloadOf z ≡ p →
+pub word-found : {file : List ℕ} {at k p : ℕ} (n : ℕ) (z : ℤ) → WordFound file at k p → k ≡ n → payloadOf z ≡ p →
     numberAt file at ≡ encode (word n z)
 word-found {file} {at} {k} {p} n z f e x = f .number ∙ ap (λ i. i * payloads + p) e ∙ ap (λ i. n * payloads + i) (sym x)
 
-pub for-found : {file : List ℕ} {at k p : ℕ} → Found file at k p → k ≡ 31 →
+pub for-found : {file : List ℕ} {at k p : ℕ} → WordFound file at k p → k ≡ 31 →
     numberAt file at ≡ encode (forWord (p % 32) (p / 32))
 for-found {file} {at} {k} {p} f e = f .number ∙ ap (λ i. i * payloads + p) e ∙ ap (λ i. 31 * payloads + i) (parts p)
   where

@@ -1,14 +1,14 @@
 -- What readers yield: one law for each combinator of specs/Reading, for what was read and for refusals 3 to 5 together.
 -- Assumes nothing.
---     IfThere, Optional, nothing, something     an entry of a table, where there is one
---     entry, up-to, on-option                   the tables: allow, upTo, onOption
---     FaultAt              a refusal 3, 4 or 5 at a place from `at` on, inside the file or at its end
---     Reach                a place from `at` on, inside the file if `at` is
---     YieldsBy, Yields     what was read is as said and ends at `at` or later
---     PastBy, Past         .. ends later and inside the file
---     past-yields, yields-map      the weaker; of a weaker statement
---     start, _▹_, several-yields, level-past, due-past     leaf, _⊛_, several, noLevel, wordDue
---     yields-here                                          the place at hand
+--     IfThere, Optional, nothing, something               an entry of a table, where there is one
+--     entry, up-to, on-option                             the tables: allow, upTo, onOption
+--     FaultAt                                             a refusal 3, 4 or 5 at a place from `at` on, inside the file or at its end
+--     Reach                                               a place from `at` on, inside the file if `at` is
+--     YieldsBy, Yields                                    what was read is as said and ends at `at` or later
+--     PastBy, Past                                        .. ends later and inside the file
+--     past-yields, yields-map                             the weaker; of a weaker statement
+--     start, _▹_, several-yields, level-past, due-past    pure, _⊛_, several, noLevel, wordDue
+--     yields-here                                         the place at hand
 use mathlib.Core.Path.{_≡_, refl, ap}
 use mathlib.Core.Bool.{Bool, true, false, cond}
 use mathlib.Core.List.{List, [], _∷_}
@@ -19,10 +19,10 @@ use borrow.Author.Tests.{eqb-true, leb-true, ltb-true}
 use lib.Dec.{eqb, ltb, leb}
 use lib.ListN.{length}
 use Rattle.layout.specs.Bytes.{wordCount, kindAt, payloadAt}
-use Rattle.layout.specs.Reading.{Reading, read, fault, Reader, onRead, leaf, _⊛_, several}
+use Rattle.layout.specs.Reading.{Reading, read, fault, Reader, onRead, pure, _⊛_, several}
 use Rattle.layout.specs.Reading.{noLevel, allowed, wordDue, upTo, onOption}
 use Rattle.layout.specs.File.{here}
-use Rattle.layout.proofs.Words.{Found, found-at}
+use Rattle.layout.proofs.Words.{WordFound, found-at}
 
 -- P holds of what is there
 abbrev pub IfThere : {A : Type 0} → (A → Type 0) → Option A → Type 0
@@ -112,7 +112,7 @@ module _ {file : List ℕ} where
   reach-here : (at : ℕ) → Reach file at at
   reach-here at = record { from = omega arith; inside = λ k. k }
 
-  pub start : {A : Type 0} {at : ℕ} {T : A → ℕ → Type 0} (a : A) → T a at → Yields file at T (leaf a)
+  pub start : {A : Type 0} {at : ℕ} {T : A → ℕ → Type 0} (a : A) → T a at → Yields file at T (pure a)
   start {at} a h = record { yields = (reach-here at, h) }
 
 -- a reading after another
@@ -176,7 +176,7 @@ module _ {file : List ℕ} where
 
   pub due-past :
       {A : Type 0} {T : A → ℕ → Type 0} (at : ℕ) (step : ℕ → ℕ → ℕ → Option (Reader A)) →
-      ((k p : ℕ) → Found file at k p → Optional (λ r. Yields file (at + 1) T r) (step at k p)) →
+      ((k p : ℕ) → WordFound file at k p → Optional (λ r. Yields file (at + 1) T r) (step at k p)) →
       Past file at T (wordDue file step)
   unfolding wordDue
   due-past {A} {T} at step f = record { past = go (ltb at (wordCount file)) refl }

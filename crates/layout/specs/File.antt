@@ -18,7 +18,7 @@ use Rattle.rules.specs.Assertion.{Members}
 use Rattle.rules.specs.Context.{Context}
 use Rattle.rules.specs.Evidence.{flow, FlowEvidence}
 use Rattle.layout.specs.Bytes.{wordsOf, wordCount, numberAt, payloads}
-use Rattle.layout.specs.Reading.{Reading, read, fault, Reader, onRead, leaf, _⊛_}
+use Rattle.layout.specs.Reading.{Reading, read, fault, Reader, onRead, pure, _⊛_}
 use Rattle.layout.specs.Read.{command, set}
 use Rattle.layout.specs.ReadEvidence.{evidence}
 use Rattle.layout.specs.For.{firstUnsteady}
@@ -44,7 +44,7 @@ here at = read at at
 unfoldable pub parts : Context → List ℕ → Reading File
 parts Γ file =
     let d = Γ .limits .depth in
-    (leaf made ⊛ command file d ⊛ here ⊛ set Γ file d ⊛ here ⊛ set Γ file d ⊛ here
+    (pure made ⊛ command file d ⊛ here ⊛ set Γ file d ⊛ here ⊛ set Γ file d ⊛ here
     ⊛ evidence Γ file d flow) 1
 
 -- refusal 7: a `for` that is not well formed

@@ -103,9 +103,9 @@ AllInRange [] = Unit {0}
 AllInRange (w ∷ l) = InRange w × AllInRange l
 
 -- the count beside a kind, or 0
-abbrev pub countAt : ℕ → List (ℕ × ℕ) → ℕ
-countAt k [] = 0
-countAt k (e ∷ l) = cond (eqb k (e .0)) (e .1) (countAt k l)
+abbrev pub countBeside : ℕ → List (ℕ × ℕ) → ℕ
+countBeside k [] = 0
+countBeside k (e ∷ l) = cond (eqb k (e .0)) (e .1) (countBeside k l)
 
 -- a set has two expressions for each of its members; words of other kinds are taken alone
 abbrev pub counts : ℕ → List (ℕ × ℕ)
@@ -114,4 +114,4 @@ counts p =
     ∷ (10, 2) ∷ (8, 2) ∷ (4, 2) ∷ (3, 2) ∷ []
 
 unfoldable pub countOf : ℕ → ℕ → ℕ
-countOf k p = countAt k (counts p)
+countOf k p = countBeside k (counts p)

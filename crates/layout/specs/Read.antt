@@ -17,7 +17,7 @@ use Rattle.language.specs.Syntax.{Command, skip, sequence, assert, assign, ifEl
 use Rattle.rules.specs.Assertion.{Member, Members, member}
 use Rattle.rules.specs.Context.{Context}
 use Rattle.layout.specs.Bytes.{kindAt, signed}
-use Rattle.layout.specs.Reading.{Reader, leaf, _⊛_, several, noLevel, wordDue, allow, upTo, onOption}
+use Rattle.layout.specs.Reading.{Reader, pure, _⊛_, several, noLevel, wordDue, allow, upTo, onOption}
 
 abbrev pub operatorOf : ℕ → Option Operator
 operatorOf p = allow p ((0, some plus) ∷ (1, some minus) ∷ (2, some times) ∷ [])
@@ -32,26 +32,26 @@ truthOf p = allow p ((0, some false) ∷ (1, some true) ∷ [])
 module _ (part : (j : Sort) → Reader (Expr j)) where
   abbrev pub arithmeticWord : ℕ → ℕ → Option (Reader (Expr Arithmetic))
   arithmeticWord k p = allow k (
-      (1, some (leaf (constant (signed p))))
-      ∷ (2, upTo 31 p (leaf (scalar p)))
-      ∷ (3, onOption (operatorOf p) λ o. leaf (operation o) ⊛ part Arithmetic ⊛ part Arithmetic)
-      ∷ (4, upTo 0 p (leaf select ⊛ part Array ⊛ part Arithmetic))
+      (1, some (pure (constant (signed p))))
+      ∷ (2, upTo 31 p (pure (scalar p)))
+      ∷ (3, onOption (operatorOf p) λ o. pure (operation o) ⊛ part Arithmetic ⊛ part Arithmetic)
+      ∷ (4, upTo 0 p (pure select ⊛ part Array ⊛ part Arithmetic))
       ∷ [])
 
   abbrev pub booleanWord : ℕ → ℕ → Option (Reader (Expr Boolean))
   booleanWord k p = allow k (
-      (8, onOption (comparisonOf p) λ r. leaf (compare r) ⊛ part Arithmetic ⊛ part Arithmetic)
-      ∷ (9, onOption (truthOf p) λ t. leaf (truth t))
-      ∷ (10, upTo 0 p (leaf and ⊛ part Boolean ⊛ part Boolean))
-      ∷ (11, upTo 0 p (leaf or ⊛ part Boolean ⊛ part Boolean))
-      ∷ (12, upTo 0 p (leaf neg ⊛ part Boolean))
+      (8, onOption (comparisonOf p) λ r. pure (compare r) ⊛ part Arithmetic ⊛ part Arithmetic)
+      ∷ (9, onOption (truthOf p) λ t. pure (truth t))
+      ∷ (10, upTo 0 p (pure and ⊛ part Boolean ⊛ part Boolean))
+      ∷ (11, upTo 0 p (pure or ⊛ part Boolean ⊛ part Boolean))
+      ∷ (12, upTo 0 p (pure neg ⊛ part Boolean))
       ∷ [])
 
   abbrev pub arrayWord : ℕ → ℕ → Option (Reader (Expr Array))
   arrayWord k p = allow k (
-      (16, upTo 31 p (leaf (array p)))
-      ∷ (17, upTo 0 p (leaf zeros))
-      ∷ (18, upTo 0 p (leaf update ⊛ part Array ⊛ part Arithmetic ⊛ part Arithmetic))
+      (16, upTo 31 p (pure (array p)))
+      ∷ (17, upTo 0 p (pure zeros))
+      ∷ (18, upTo 0 p (pure update ⊛ part Array ⊛ part Arithmetic ⊛ part Arithmetic))
       ∷ [])
 
   abbrev pub expressionWord : (j : Sort) → ℕ → ℕ → Option (Reader (Expr j))
@@ -67,14 +67,14 @@ expression file (suc d) j at = wordDue file (λ _ k p. expressionWord (λ i q. e
 abbrev pub commandWord :
     ((j : Sort) → Reader (Expr j)) → Reader Command → ℕ → ℕ → Option (Reader Command)
 commandWord part body k p = allow k (
-    (24, upTo 0 p (leaf skip))
-    ∷ (25, upTo 0 p (leaf sequence ⊛ body ⊛ body))
-    ∷ (26, upTo 0 p (leaf assert ⊛ part Boolean))
-    ∷ (27, upTo 31 p (leaf (λ e. assign (toScalar p e)) ⊛ part Arithmetic))
-    ∷ (28, upTo 31 p (leaf (λ e. assign (toArray p e)) ⊛ part Array))
-    ∷ (29, upTo 0 p (leaf ifElse ⊛ part Boolean ⊛ body ⊛ body))
-    ∷ (30, upTo 0 p (leaf while ⊛ part Boolean ⊛ body))
-    ∷ (31, upTo 1023 p (leaf (for (p % 32) (p / 32)) ⊛ body))
+    (24, upTo 0 p (pure skip))
+    ∷ (25, upTo 0 p (pure sequence ⊛ body ⊛ body))
+    ∷ (26, upTo 0 p (pure assert ⊛ part Boolean))
+    ∷ (27, upTo 31 p (pure (λ e. assign (toScalar p e)) ⊛ part Arithmetic))
+    ∷ (28, upTo 31 p (pure (λ e. assign (toArray p e)) ⊛ part Array))
+    ∷ (29, upTo 0 p (pure ifElse ⊛ part Boolean ⊛ body ⊛ body))
+    ∷ (30, upTo 0 p (pure while ⊛ part Boolean ⊛ body))
+    ∷ (31, upTo 1023 p (pure (for (p % 32) (p / 32)) ⊛ body))
     ∷ [])
 
 unfoldable pub command : List ℕ → ℕ → Reader Command
@@ -88,10 +88,10 @@ sortOf k = cond (leb 8 k && leb k 12) Boolean (cond (leb 16 k && leb k 18) Array
 
 -- a consequent, read as the member that it makes of an antecedent
 abbrev pub consequentAt : List ℕ → ℕ → Reader (Expr Boolean → Member)
-consequentAt file d at = (leaf (λ e φ. member φ e) ⊛ expression file d (sortOf (kindAt file at))) at
+consequentAt file d at = (pure (λ e φ. member φ e) ⊛ expression file d (sortOf (kindAt file at))) at
 
 abbrev pub memberAt : List ℕ → ℕ → Reader Member
-memberAt file d = leaf (λ φ f. f φ) ⊛ expression file d Boolean ⊛ consequentAt file d
+memberAt file d = pure (λ φ f. f φ) ⊛ expression file d Boolean ⊛ consequentAt file d
 
 unfoldable pub set : Context → List ℕ → ℕ → Reader Members
 set Γ file zero at = noLevel file at

@@ -14,7 +14,7 @@ use Rattle.rules.specs.Context.{Context}
 use Rattle.rules.specs.Evidence as tree
 use Rattle.rules.specs.Evidence.{Judgement, flow, implication, precondition, Item, assertionItem, commandItem}
 use Rattle.rules.specs.Evidence.{membersItem, childItem, Row, rules, item, Tree, by, done, _&_, Evidence, Parts}
-use Rattle.layout.specs.Reading.{Reader, leaf, _⊛_, noLevel, wordDue, allow, onOption}
+use Rattle.layout.specs.Reading.{Reader, pure, _⊛_, noLevel, wordDue, allow, onOption}
 use Rattle.layout.specs.Read.{expression, command, set}
 
 abbrev pub evidenceKind : Judgement → ℕ
@@ -29,19 +29,19 @@ ruleOf n (r ∷ l) = cond (eqb n (r .number)) (some r) (ruleOf n l)
 -- `child j` reads evidence of the judgement j
 module _ (Γ : Context) (file : List ℕ) (d : ℕ) (child : (j : Judgement) → Reader (Evidence j)) where
   abbrev pub itemReader : (x : Item) → Reader (Tree (item x))
-  itemReader assertionItem = leaf tree.assertion ⊛ expression file d Boolean
-  itemReader commandItem = leaf tree.command ⊛ command file d
-  itemReader membersItem = leaf tree.members ⊛ set Γ file d
-  itemReader (childItem j) = leaf tree.child ⊛ child j
+  itemReader assertionItem = pure tree.assertion ⊛ expression file d Boolean
+  itemReader commandItem = pure tree.command ⊛ command file d
+  itemReader membersItem = pure tree.members ⊛ set Γ file d
+  itemReader (childItem j) = pure tree.child ⊛ child j
 
   abbrev pub partsReader : (l : List Item) → Reader (Parts l)
-  partsReader [] = leaf done
-  partsReader (x ∷ l) = leaf _&_ ⊛ itemReader x ⊛ partsReader l
+  partsReader [] = pure done
+  partsReader (x ∷ l) = pure _&_ ⊛ itemReader x ⊛ partsReader l
 
 unfoldable pub evidence : Context → List ℕ → ℕ → (j : Judgement) → Reader (Evidence j)
 evidence Γ file zero j at = noLevel file at
 evidence Γ file (suc d) j at = wordDue file (λ i k p. allow k ((
   evidenceKind j,
   onOption (ruleOf p (rules j)) λ r.
-      leaf (by (r .rule) i) ⊛ partsReader Γ file d (λ j q. evidence Γ file d j q) (r .after),
+      pure (by (r .rule) i) ⊛ partsReader Γ file d (λ j q. evidence Γ file d j q) (r .after),
 ) ∷ [])) at

@@ -1,7 +1,7 @@
 -- What reading gives, and readers one after the other (document 01, "Judging order" 3 to 5).
 -- Trusted. Assumes nothing.
 --     Reading, Reader      what was read with the place after it, or a refusal's number and place
---     onRead, leaf, _⊛_    going on from what was read; what takes no word; a reader, and then the next part
+--     onRead, pure, _⊛_    going on from what was read; what takes no word; a reader, and then the next part
 --     several              the same part so many times
 --     noLevel, wordDue     a word that is due too deep; a word that is due
 --     allowed, allow       a word that may stand there; the entry of a table
@@ -24,8 +24,8 @@ abbrev pub onRead : {A B : Type 0} → Reading A → (A → ℕ → Reading B) �
 onRead (read a p) f = f a p
 onRead (fault n p) f = fault n p
 
-abbrev pub leaf : {A : Type 0} → A → Reader A
-leaf a at = read a at
+abbrev pub pure : {A : Type 0} → A → Reader A
+pure a at = read a at
 
 infixl 50 _⊛_
 unfoldable pub _⊛_ : {A B : Type 0} → Reader (A → B) → Reader A → Reader B

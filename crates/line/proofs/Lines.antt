@@ -20,11 +20,11 @@ use lib.Seq.{paste, take-paste, take-all, length-take-le}
 use Rattle.io.specs.Digits.{glyph, digits, Fewest}
 use Rattle.rules.specs.Judge.{accepted, refused}
 use Rattle.line.specs.Line.{decimalBy, decimal, acceptedText, refusedText, lineOf, Written}
-use Rattle.line.specs.Putting.{Put}
+use Rattle.line.specs.Putting.{TextPut}
 
 pub put-done : (before : List ℕ) (at : ℕ) (text after : List ℕ) (i : ℕ) → i ≤ length text → length text ≤ i →
     at + length text ≤ length before → length after ≡ length before → after ≡ paste before at text i →
-    Put before at text after (at + length text)
+    TextPut before at text after (at + length text)
 put-done before at text after i h k r l e =
     let n : i ≡ length text = omega arith in
     record {
@@ -110,15 +110,15 @@ decimal-short n = short-by 20 n
 
 -- what crate io puts into an array of 20 bytes
 pub put-digits : {before after : List ℕ} (text : List ℕ) {at r n k : ℕ} → k ≤ 20 → Fewest 10 1 n k →
-    take k text ≡ digits 10 k n → Put before at (take k text) after r → Put before at (decimal n) after r
+    take k text ≡ digits 10 k n → TextPut before at (take k text) after r → TextPut before at (decimal n) after r
 put-digits {before} {after} text {at} {r} {n} {k} h f e p =
-    subst (λ (z : List ℕ). Put before at z after r) (e ∙ decimal-digits k n h f) p
+    subst (λ (z : List ℕ). TextPut before at z after r) (e ∙ decimal-digits k n h f) p
 
 -- ---- lines
-more : {a b s t : List ℕ} {at r : ℕ} → Put a at t b r → take at a ≡ s → take r b ≡ s ++ t
+more : {a b s t : List ℕ} {at r : ℕ} → TextPut a at t b r → take at a ≡ s → take r b ≡ s ++ t
 more {t = t} p e = p .content ∙ ap (λ (z : List ℕ). z ++ t) e
 
-pub put-both : {a b c s t : List ℕ} {at q r : ℕ} → Put a at s b q → Put b q t c r → Put a at (s ++ t) c r
+pub put-both : {a b c s t : List ℕ} {at q r : ℕ} → TextPut a at s b q → TextPut b q t c r → TextPut a at (s ++ t) c r
 put-both {a} {s = s} {t} {at} p q =
     let l = length-append s t in
     record {
@@ -132,7 +132,7 @@ pub number-short : (n x : ℕ) → length (decimal n ++ (x ∷ [])) ≤ 21
 number-short n x = let h = decimal-short n in let l = length-append (decimal n) (x ∷ []) in omega arith
 
 pub accepted-line : {o₀ o₁ o₂ : List ℕ} {a r : ℕ} (n : ℕ) → 64 ≤ length o₀ →
-    Put o₀ 0 acceptedText o₁ a → Put o₁ a (decimal n ++ (10 ∷ [])) o₂ r → Written (accepted n) o₂ r
+    TextPut o₀ 0 acceptedText o₁ a → TextPut o₁ a (decimal n ++ (10 ∷ [])) o₂ r → Written (accepted n) o₂ r
 unfolding lineOf
 accepted-line {o₂ = o₂} {r = r} n h p q =
     let l = number-short n 10 in
@@ -140,7 +140,7 @@ accepted-line {o₂ = o₂} {r = r} n h p q =
     record { inside = inside; count = sym (length-take-le _ _ inside); content = more q (more p refl) }
 
 pub refused-line : {o₀ o₁ o₂ o₃ : List ℕ} {a b r : ℕ} (k i : ℕ) → 64 ≤ length o₀ →
-    Put o₀ 0 refusedText o₁ a → Put o₁ a (decimal k ++ (32 ∷ [])) o₂ b → Put o₂ b (decimal i ++ (10 ∷ [])) o₃ r →
+    TextPut o₀ 0 refusedText o₁ a → TextPut o₁ a (decimal k ++ (32 ∷ [])) o₂ b → TextPut o₂ b (decimal i ++ (10 ∷ [])) o₃ r →
     Written (refused k i) o₃ r
 unfolding lineOf
 refused-line {o₃ = o₃} {r = r} k i h p q s =

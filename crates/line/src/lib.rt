@@ -4,12 +4,12 @@ ghost use Prim.Native.Nat.{_+_};
 ghost use lib.ListN.{length};
 ghost use Rattle.rules.specs.Judge.{accepted, refused};
 ghost use Rattle.line.specs.Line.{decimal, Written};
-ghost use Rattle.line.specs.Putting.{Room, Put};
+ghost use Rattle.line.specs.Putting.{Room, TextPut};
 
 // Puts bytes at a place, and answers the place past them.
 fn put(out: &mut [u8], at: usize, text: &[u8]) -> usize
     requires { ⌜ Room (now out) «at» (length (now text)) ⌝ }
-    ensures { λ r. ⌜ Put (now (out .entry)) «at» (now (text .entry)) (now (out .exit)) r ⌝ }
+    ensures { λ r. ⌜ TextPut (now (out .entry)) «at» (now (text .entry)) (now (out .exit)) r ⌝ }
 {
     let mut i = 0;
     while i < text.len() {
@@ -22,7 +22,7 @@ fn put(out: &mut [u8], at: usize, text: &[u8]) -> usize
 // Puts a number in decimal.
 fn put_decimal(out: &mut [u8], at: usize, n: u64) -> usize
     requires { ⌜ Room (now out) «at» 20 ⌝ }
-    ensures { λ r. ⌜ Put (now (out .entry)) «at» (decimal n) (now (out .exit)) r ⌝ }
+    ensures { λ r. ⌜ TextPut (now (out .entry)) «at» (decimal n) (now (out .exit)) r ⌝ }
 {
     let mut digits = [0u8; 20];
     let k = io::decimal(n, &mut digits);
@@ -32,7 +32,7 @@ fn put_decimal(out: &mut [u8], at: usize, n: u64) -> usize
 // Puts a number in decimal, and bytes behind it.
 fn put_number(out: &mut [u8], at: usize, n: u64, end: &[u8]) -> usize
     requires { ⌜ Room (now out) «at» (20 + length (now end)) ⌝ }
-    ensures { λ r. ⌜ Put (now (out .entry)) «at» (decimal n ++ now (end .entry)) (now (out .exit)) r ⌝ }
+    ensures { λ r. ⌜ TextPut (now (out .entry)) «at» (decimal n ++ now (end .entry)) (now (out .exit)) r ⌝ }
 {
     let next = put_decimal(out, at, n);
     put(out, next, end)

@@ -28,7 +28,7 @@ use Rattle.ends.proofs.Places.{node-at}
 use Rattle.goals.specs.declared.Goal.the-variants as Goal
 use Rattle.goals.specs.declared.Judged.{Judged}
 use Rattle.goals.specs.declared.Judged.the-variants as Judged
-use Rattle.outcomes.specs.Outcome.{withPlaces, outcomeOf, WithinLimits, CanJudgeFile, Within}
+use Rattle.outcomes.specs.Outcome.{withPlaces, outcomeOf, WithinLimits, CanJudgeFile, FitsRoom}
 use Rattle.outcomes.specs.declared.Outcome.{Outcome}
 use Rattle.outcomes.specs.declared.Outcome.the-variants.{Accepted, Refused}
 
@@ -90,7 +90,7 @@ module _ {w ends : List ℕ} (context : Context) {s : Places} (h : CanJudgeFile 
 
 -- ---- refusals 1 to 7
 -- room for so many words
-pub can-load : {bytes words table : List ℕ} {n : ℕ} {context : Context} → Within bytes n context → length words ≡ n →
+pub can-load : {bytes words table : List ℕ} {n : ℕ} {context : Context} → FitsRoom bytes n context → length words ≡ n →
     n + 2 * (n / 32) ≤ length table → CanLoad bytes words table
 can-load {table = table} h e r = record {
   fits = λ g. let f = h .fits g in omega arith;

@@ -1,9 +1,9 @@
 -- What refusals 1 to 9 leave of a file, with the places of its parts.
 -- Working: `outcome-answer` of flow/proofs/Answers and `accepted-at` of flow/proofs/Parts tie it to the layout's verdict.
 -- Assumes nothing.
---     withPlaces, outcomeOf    a verdict with places; of what was read
---     WithinLimits             limits that the code can serve
---     CanJudgeFile, Within     the words of a file that 1 to 7 let pass; a file's words are not over a number
+--     withPlaces, outcomeOf     a verdict with places; of what was read
+--     WithinLimits              limits that the code can serve
+--     CanJudgeFile, FitsRoom    the words of a file that 1 to 7 let pass; a file's words are not over a number
 use mathlib.Core.Path.{_≡_}
 use mathlib.Core.Bool.{false}
 use mathlib.Core.List.{List}
@@ -44,6 +44,6 @@ pub record CanJudgeFile (file ends : List ℕ) (x : Context) (s : Places) : Type
   pub was-read : Layout.Found s ≡ placesOf (wordsRead (contextOf x) file)
 
 -- a byte count that is good is not over that of n words
-pub record Within (bytes : List ℕ) (n : ℕ) (x : Context) : Type 0 where
+pub record FitsRoom (bytes : List ℕ) (n : ℕ) (x : Context) : Type 0 where
   pub fits : badLength bytes ≡ false → length bytes ≤ 4 * n
   pub within : WithinLimits x

@@ -10,7 +10,7 @@ ghost use mathlib.Core.Path.{_≡_};
 ghost use Rattle.layout.specs.File.{fileOf, wordsRead};
 ghost use Rattle.context.specs.Contexts.{contextOf};
 ghost use Rattle.file.specs.Found.{CanLoad};
-ghost use Rattle.outcomes.specs.Outcome.{outcomeOf, WithinLimits, Within, CanJudgeFile};
+ghost use Rattle.outcomes.specs.Outcome.{outcomeOf, WithinLimits, FitsRoom, CanJudgeFile};
 
 // Refusals 8 and 9: the evidence is judged with every level left.
 fn judge_file(w: &[u32], ends: &[u32], context: Context, places: Places) -> Outcome
@@ -42,7 +42,7 @@ fn check_in(file: &[u8], words: &mut [u32], table: &mut [u32], context: Context)
 
 // The same, of at most 256 words.
 fn check_256(file: &[u8], context: Context) -> Outcome
-    requires { ⌜ Within (now file) 256 context ⌝ }
+    requires { ⌜ FitsRoom (now file) 256 context ⌝ }
     ensures { λ r. ⌜ r ≡ outcomeOf (contextOf context) (fileOf (contextOf context) (now (file .entry))) ⌝ }
 {
     let mut words = [0u32; 256];
@@ -52,7 +52,7 @@ fn check_256(file: &[u8], context: Context) -> Outcome
 
 // The same, of at most 512 words.
 fn check_512(file: &[u8], context: Context) -> Outcome
-    requires { ⌜ Within (now file) 512 context ⌝ }
+    requires { ⌜ FitsRoom (now file) 512 context ⌝ }
     ensures { λ r. ⌜ r ≡ outcomeOf (contextOf context) (fileOf (contextOf context) (now (file .entry))) ⌝ }
 {
     let mut words = [0u32; 512];
@@ -62,7 +62,7 @@ fn check_512(file: &[u8], context: Context) -> Outcome
 
 // The same, of at most 1,024 words.
 fn check_1024(file: &[u8], context: Context) -> Outcome
-    requires { ⌜ Within (now file) 1024 context ⌝ }
+    requires { ⌜ FitsRoom (now file) 1024 context ⌝ }
     ensures { λ r. ⌜ r ≡ outcomeOf (contextOf context) (fileOf (contextOf context) (now (file .entry))) ⌝ }
 {
     let mut words = [0u32; 1024];
@@ -72,7 +72,7 @@ fn check_1024(file: &[u8], context: Context) -> Outcome
 
 // The same, of at most 2,048 words.
 fn check_2048(file: &[u8], context: Context) -> Outcome
-    requires { ⌜ Within (now file) 2048 context ⌝ }
+    requires { ⌜ FitsRoom (now file) 2048 context ⌝ }
     ensures { λ r. ⌜ r ≡ outcomeOf (contextOf context) (fileOf (contextOf context) (now (file .entry))) ⌝ }
 {
     let mut words = [0u32; 2048];
@@ -82,7 +82,7 @@ fn check_2048(file: &[u8], context: Context) -> Outcome
 
 // The same, of at most 4,096 words.
 fn check_4096(file: &[u8], context: Context) -> Outcome
-    requires { ⌜ Within (now file) 4096 context ⌝ }
+    requires { ⌜ FitsRoom (now file) 4096 context ⌝ }
     ensures { λ r. ⌜ r ≡ outcomeOf (contextOf context) (fileOf (contextOf context) (now (file .entry))) ⌝ }
 {
     let mut words = [0u32; 4096];
@@ -92,7 +92,7 @@ fn check_4096(file: &[u8], context: Context) -> Outcome
 
 // The same, of at most 8,192 words.
 fn check_8192(file: &[u8], context: Context) -> Outcome
-    requires { ⌜ Within (now file) 8192 context ⌝ }
+    requires { ⌜ FitsRoom (now file) 8192 context ⌝ }
     ensures { λ r. ⌜ r ≡ outcomeOf (contextOf context) (fileOf (contextOf context) (now (file .entry))) ⌝ }
 {
     let mut words = [0u32; 8192];

@@ -1,12 +1,12 @@
 -- A goal of necessary preconditions with its evidence, as trees at their places.
 -- Assumes nothing.
---     GoalAt, here                   the trees of a goal that can be tried
---     command-head, low-command      its command's first word is in the file
+--     PreGoalAt, here              the trees of a goal that can be tried
+--     command-head, low-command    its command's first word is in the file
 --     first-known, second-known, command-known
---                                    its three parts are in the list of ends
---     first-carried                  an assertion that stands first after the word of a rule
---     leaf-rule, misfit-rule         a rule with no children, by its conditions' result; a command of another form
---     is-30                          the last rule that has children
+--                                  its three parts are in the list of ends
+--     first-carried                an assertion that stands first after the word of a rule
+--     leaf-rule, misfit-rule       a rule with no children, by its conditions' result; a command of another form
+--     is-30                        the last rule that has children
 use mathlib.Core.Path.{_≡_, refl, sym, subst}
 use mathlib.Core.List.{List, [], _∷_}
 use Prim.Native.Nat.{ℕ, _+_, _<_}
@@ -16,7 +16,7 @@ use lib.ListN.{length}
 use Rattle.language.specs.Syntax.{Boolean, Expr, Command}
 use Rattle.rules.specs.Context.{Context}
 use Rattle.rules.specs.Evidence.{Item, assertionItem, Rule, Parts, precondition, assertion, done, _&_}
-use Rattle.rules.specs.Judge.{accepted, misfit, leaf, applied, preRule, judge}
+use Rattle.rules.specs.Judge.{accepted, misfit, childless, applied, preRule, judge}
 use Rattle.implication.specs.Sides.{resultOf}
 use Rattle.implication.specs.declared.Condition.{Condition}
 use Rattle.implication.specs.declared.Condition.the-variants.{Fails}
@@ -30,7 +30,7 @@ use Rattle.goals.proofs.Comes.{no-children, comes, misfit-comes, PreComes, pre-
 use Rattle.compare.specs.Places.{ExpressionAt}
 use Rattle.rule_laws.proofs.Trying.{first-word, parts-of, only-rule}
 
-pub record GoalAt (Γ : Context) (file ends : List ℕ) (f c g : ℕ) : Type 0 where
+pub record PreGoalAt (Γ : Context) (file ends : List ℕ) (f c g : ℕ) : Type 0 where
   pub φ : Expr Boolean
   pub φ′ : Expr Boolean
   pub command : Command
@@ -39,7 +39,7 @@ pub record GoalAt (Γ : Context) (file ends : List ℕ) (f c g : ℕ) : Type 0 w
   pub command-at : CommandAt file ends command c
 
 trees : {Γ : Context} {file ends : List ℕ} {f c g : ℕ} {t : TreeGoal} {d at end : ℕ} →
-    GoalStands Γ file ends (Pre f c g) t d at end → GoalAt Γ file ends f c g
+    GoalStands Γ file ends (Pre f c g) t d at end → PreGoalAt Γ file ends f c g
 trees (pre-stands {φ = φ} {φ′ = φ′} {c = e} x y z s) =
     record { φ = φ; φ′ = φ′; command = e; first-at = x; second-at = z; command-at = y }
 
@@ -50,7 +50,7 @@ first-of Γ file ends d at end (assertion φ & t) (a, x) = record { tree = φ; t
 
 module _ {file ends : List ℕ} {Γ : Context} {f c g at : ℕ} where
   module _ {n : ℕ} (can : CanTry file ends Γ n (Pre f c g) at) where
-    pub here : GoalAt Γ file ends f c g
+    pub here : PreGoalAt Γ file ends f c g
     here = trees (can .can .goal-stands)
 
     pub command-head : c < length file
@@ -75,7 +75,7 @@ module _ {file ends : List ℕ} {Γ : Context} {f c g at : ℕ} where
 
     pub leaf-rule : (r : Rule precondition n []) → childrenAt ends (Pre f c g) n at ≡ [] → {u : Condition} →
         ((φ φ′ : Expr Boolean) (e : Command) → WrittenAt file ends φ f → CommandAt file ends e c →
-        WrittenAt file ends φ′ g → preRule Γ r φ e φ′ ≡ leaf (resultOf u)) → StepOf file ends Γ (Pre f c g) at u
+        WrittenAt file ends φ′ g → preRule Γ r φ e φ′ ≡ childless (resultOf u)) → StepOf file ends Γ (Pre f c g) at u
     leaf-rule r none {u} h = pre-rule can r go
       where
         go : PreComes Γ file ends f c g at r u

@@ -12,7 +12,7 @@ use native.Mathlib.Omega.{arith}
 use Rattle.rules.specs.Context.{Context}
 use Rattle.rules.specs.Condition.{byForm}
 use Rattle.rules.specs.Evidence.{pre22, pre24, pre25, pre26}
-use Rattle.rules.specs.Judge.{misfit, leaf, preRule}
+use Rattle.rules.specs.Judge.{misfit, childless, preRule}
 use Rattle.layout.specs.Bytes.{kindAt, payloadAt, wordOf}
 use Rattle.implication.specs.declared.Condition.{Condition}
 use Rattle.implication.specs.declared.Condition.the-variants.{Fails}
@@ -38,7 +38,7 @@ module _ {file ends : List ℕ} {Γ : Context} {f c g at : ℕ} where
         StepOf file ends Γ (Pre f c g) at r
     unfolding preRule byForm
     skip-rule h same i = leaf-rule can pre22 refl λ φ φ′ e x y z.
-        ap (λ u. preRule Γ pre22 φ u φ′) (is-skip y h) ∙ ap leaf (sym (tested i (same .is φ φ′ x z)))
+        ap (λ u. preRule Γ pre22 φ u φ′) (is-skip y h) ∙ ap childless (sym (tested i (same .is φ φ′ x z)))
 
   -- the right side is in the list of ends
   replaceable : {n : ℕ} → CanTry file ends Γ n (Pre f c g) at → {a : ℕ} → PartKnown file ends a →
@@ -70,7 +70,7 @@ module _ {file ends : List ℕ} {Γ : Context} {f c g at : ℕ} where
           let n = a .parts .payload in
           let is = replaced .scalars φ φ′ (a .name) (a .right) x z (a .parts .right-at) (a .parts .small)
           (omega arith) in
-          ap (λ u. preRule Γ pre24 φ u φ′) (a .is) ∙ ap leaf (sym (tested i is))
+          ap (λ u. preRule Γ pre24 φ u φ′) (a .is) ∙ ap childless (sym (tested i is))
 
   module _ (can : CanTry file ends Γ 25 (Pre f c g) at) where
     pub array-fails : (kindAt file c ≡ 28 → ⊥) → StepOf file ends Γ (Pre f c g) at Fails
@@ -92,7 +92,7 @@ module _ {file ends : List ℕ} {Γ : Context} {f c g at : ℕ} where
           let n = a .parts .payload in
           let is = replaced .arrays φ φ′ (a .name) (a .right) x z (a .parts .right-at) (a .parts .small)
           (omega arith) in
-          ap (λ u. preRule Γ pre25 φ u φ′) (a .is) ∙ ap leaf (sym (tested i is))
+          ap (λ u. preRule Γ pre25 φ u φ′) (a .is) ∙ ap childless (sym (tested i is))
 
   module _ (can : CanTry file ends Γ 26 (Pre f c g) at) where
     pub assert-fails : (kindAt file c ≡ 26 → ⊥) → StepOf file ends Γ (Pre f c g) at Fails
@@ -114,4 +114,4 @@ module _ {file ends : List ℕ} {Γ : Context} {f c g at : ℕ} where
       unfolding preRule byForm
       assert-rule join i = leaf-rule can pre26 refl λ φ φ′ e x y z.
           let a = is-assert (can .can .ends-of) y h in
-          ap (λ u. preRule Γ pre26 φ u φ′) (a .is) ∙ ap leaf (sym (tested i (join .is φ φ′ (a .test) x z (a .test-at))))
+          ap (λ u. preRule Γ pre26 φ u φ′) (a .is) ∙ ap childless (sym (tested i (join .is φ φ′ (a .test) x z (a .test-at))))

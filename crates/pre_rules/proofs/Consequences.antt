@@ -8,7 +8,7 @@ use mathlib.Core.List.{List}
 use Prim.Native.Nat.{ℕ, _+_}
 use Rattle.rules.specs.Context.{Context}
 use Rattle.rules.specs.Evidence.{assertion, child, done, _&_, pre28, pre29}
-use Rattle.rules.specs.Judge.{leaf, preRule, judge}
+use Rattle.rules.specs.Judge.{childless, preRule, judge}
 use Rattle.implication.specs.declared.Condition.{Condition}
 use Rattle.goals.specs.Conditions.{conditionOf}
 use Rattle.goals.specs.Goals.{CanTry, StepOf, pre-stands}
@@ -42,4 +42,4 @@ module _ {file ends : List ℕ} {Γ : Context} {f c g at : ℕ} where
   pub true-rule : CanTry file ends Γ 29 (Pre f c g) at → {b : Bool} → TrueAt file ends f b → {r : Condition} →
       r ≡ conditionOf b → StepOf file ends Γ (Pre f c g) at r
   unfolding preRule
-  true-rule can holds i = leaf-rule can pre29 refl λ φ φ′ e x y z. ap leaf (sym (tested i (holds .is φ x)))
+  true-rule can holds i = leaf-rule can pre29 refl λ φ φ′ e x y z. ap childless (sym (tested i (holds .is φ x)))

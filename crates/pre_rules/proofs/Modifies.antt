@@ -7,7 +7,7 @@ use mathlib.Core.List.{List}
 use Prim.Native.Nat.{ℕ}
 use Rattle.rules.specs.Context.{Context}
 use Rattle.rules.specs.Evidence.{pre27}
-use Rattle.rules.specs.Judge.{leaf, preRule}
+use Rattle.rules.specs.Judge.{childless, preRule}
 use Rattle.implication.specs.declared.Condition.{Condition}
 use Rattle.implication.specs.declared.Condition.the-variants.{Fails}
 use Rattle.goals.specs.Conditions.{conditionOf}
@@ -22,10 +22,10 @@ module _ {file ends : List ℕ} {Γ : Context} {f c g at : ℕ} (can : CanTry fi
     (same : SameAssertionAt file ends f g a) where
   pub differs-fails : a ≡ false → StepOf file ends Γ (Pre f c g) at Fails
   unfolding preRule
-  differs-fails h = leaf-rule can pre27 refl λ φ φ′ e x y z. ap leaf (then-fails _ (sym (same .is φ φ′ x z) ∙ h))
+  differs-fails h = leaf-rule can pre27 refl λ φ φ′ e x y z. ap childless (then-fails _ (sym (same .is φ φ′ x z) ∙ h))
 
   pub kept-rule : a ≡ true → {b : Bool} → KeptAt file ends f c b → {r : Condition} → r ≡ conditionOf b →
       StepOf file ends Γ (Pre f c g) at r
   unfolding preRule
   kept-rule h kept i = leaf-rule can pre27 refl λ φ φ′ e x y z.
-      ap leaf (then-passes _ (sym (same .is φ φ′ x z) ∙ h) ∙ sym (tested i (kept .expression φ e x y)))
+      ap childless (then-passes _ (sym (same .is φ φ′ x z) ∙ h) ∙ sym (tested i (kept .expression φ e x y)))

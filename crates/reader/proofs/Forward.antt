@@ -19,8 +19,8 @@ use Rattle.reader.specs.Walk.{walkOf, onward, dueOf}
 use Rattle.reader.specs.Items.{itemWalk}
 use Rattle.reader.specs.declared.Walk.{Walk}
 use Rattle.reader.specs.declared.Walk.the-variants.{Next, Refused}
-use Rattle.reader.specs.declared.Due.{Due}
-use Rattle.reader.specs.declared.Due.the-variants.{There}
+use Rattle.reader.specs.declared.FirstWord.{FirstWord}
+use Rattle.reader.specs.declared.FirstWord.the-variants.{There}
 use Rattle.reader.proofs.Walks.{room}
 
 -- after a refusal no word is left
@@ -50,7 +50,7 @@ pub record Fewer (file : List ℕ) (s : Walk) (n : ℕ) : Type 0 where
   pub fewer : wordsLeft file s < n
 
 -- as the code has them: past the word that is due at a place
-pub word-left : (file : List ℕ) (d at : ℕ) {x : Due} {k p q b : ℕ} → x ≡ dueOf file d at → x ≡ There k p q b →
+pub word-left : (file : List ℕ) (d at : ℕ) {x : FirstWord} {k p q b : ℕ} → x ≡ dueOf file d at → x ≡ There k p q b →
     Fewer file (Next q) (wordCount file - at)
 word-left file d at e f = let h = room file d at e f in record { fewer = omega arith }
 

@@ -1,9 +1,9 @@
 -- Evidence is read by the table of rules, item by item.
 -- Assumes nothing.
---     item-walk, parts-walk            the layout's readers of an item and of items, as walks
---     Reached                          where the loop over a row's digits stands
+--     item-walk, parts-walk                              the layout's readers of an item and of items, as walks
+--     Reached                                            where the loop over a row's digits stands
 --     items-start, items-next, items-stop, items-done    as the loop has them
---     rule-none, rule-some             the word that is due has no rule; it has one
+--     rule-none, rule-some                               the word that is due has no rule; it has one
 use mathlib.Core.Path.{_≡_, refl, sym, _∙_, ap}
 use mathlib.Core.List.{List, [], _∷_}
 use mathlib.Core.Option.{Option}
@@ -15,7 +15,7 @@ use Rattle.rules.specs.Evidence.{Judgement, Item, assertionItem, commandItem, m
 use Rattle.layout.specs.Bytes.{wordCount}
 use Rattle.layout.specs.Reading.{onOption}
 use Rattle.layout.specs.ReadEvidence.{itemReader, partsReader, evidence}
-use Rattle.words.specs.Rows.{itemOf, packed, ruleDue, rowDue}
+use Rattle.words.specs.Rows.{itemOf, packedItems, ruleDue, rowDue}
 use Rattle.words.proofs.RowItems.{item-first, digit-rest, no-item, row-none, row-some}
 use Rattle.context.specs.Contexts.{refusal}
 use Rattle.context.specs.declared.Refusal.{Refusal}
@@ -23,8 +23,8 @@ use Rattle.reader.specs.Walk.{walkOf, onward, dueOf}
 use Rattle.reader.specs.Items.{itemWalk, ItemsRead}
 use Rattle.reader.specs.declared.Walk.{Walk}
 use Rattle.reader.specs.declared.Walk.the-variants.{Next, Refused}
-use Rattle.reader.specs.declared.Due.{Due}
-use Rattle.reader.specs.declared.Due.the-variants.{There}
+use Rattle.reader.specs.declared.FirstWord.{FirstWord}
+use Rattle.reader.specs.declared.FirstWord.the-variants.{There}
 use Rattle.reader.proofs.Walks.{onto, alone, on, off, ruleReader, evidence-goes, arm, none-arm}
 use Rattle.reader.proofs.Forward.{wordsLeft, item-left}
 
@@ -44,8 +44,8 @@ module _ (Γ : Context) (file : List ℕ) (d : ℕ) where
   parts-walk x l p = onto _ _ _ refl (item-walk x p ∙ alone _&_ _ p)
 
   -- the first digit of a row is its first item, and the others are the rest
-  row-step : {rest : ℕ} (p : ℕ) (m : List Item) → rest ≡ packed m → (rest ≡ 0 → ⊥) →
-      (l : List Item) × (rest / 8 ≡ packed l)
+  row-step : {rest : ℕ} (p : ℕ) (m : List Item) → rest ≡ packedItems m → (rest ≡ 0 → ⊥) →
+      (l : List Item) × (rest / 8 ≡ packedItems l)
       × (onward (itemWalk Γ file d (itemOf (rest % 8)) p) (λ q. itemsWalk l q) ≡ itemsWalk m p)
   row-step p [] e h = absurd (h e)
   row-step p (x ∷ m) e h = (
@@ -58,8 +58,8 @@ module _ (Γ : Context) (file : List ℕ) (d : ℕ) where
   -- the items of `row` from `at` on are read up to p, and the digits of `rest` are left
   pub record Reached (row at rest p : ℕ) : Type 0 where
     pub left : wordCount file - p ≤ wordCount file - at
-    pub items : (l : List Item) → row ≡ packed l →
-        (m : List Item) × (rest ≡ packed m) × (itemsWalk m p ≡ itemsWalk l at)
+    pub items : (l : List Item) → row ≡ packedItems l →
+        (m : List Item) × (rest ≡ packedItems m) × (itemsWalk m p ≡ itemsWalk l at)
 
   pub items-start : (row at : ℕ) → Reached row at row at
   items-start row at = record { left = omega arith; items = λ l e. (l, e, refl) }
@@ -99,7 +99,7 @@ module _ (Γ : Context) (file : List ℕ) (d : ℕ) where
       }
 
 -- ---- as the code has them: r is what `word_due` returned, `row` the row of the word
-module _ (Γ : Context) (file : List ℕ) (d : ℕ) (j : Judgement) (at : ℕ) {r : Due} (due : r ≡ dueOf file d at)
+module _ (Γ : Context) (file : List ℕ) (d : ℕ) (j : Judgement) (at : ℕ) {r : FirstWord} (due : r ≡ dueOf file d at)
     {k p q b row : ℕ} (there : r ≡ There k p q b) (e : row ≡ rowDue j k p) where
   pub rule-none : row ≡ 7 → Refused (refusal 5 at) ≡ walkOf (evidence Γ file d j at)
   unfolding rowDue

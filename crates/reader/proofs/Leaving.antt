@@ -23,8 +23,8 @@ use Rattle.context.specs.declared.Refusal.{Refusal}
 use Rattle.reader.specs.Walk.{sortMeant, walkOf, dueOf, after}
 use Rattle.reader.specs.Leaves.{arithmeticLeaf, booleanLeaf, arrayLeaf, leafOf, leafDue}
 use Rattle.reader.specs.declared.Walk.the-variants.{Next}
-use Rattle.reader.specs.declared.Due.{Due}
-use Rattle.reader.specs.declared.Due.the-variants.{There, Stop}
+use Rattle.reader.specs.declared.FirstWord.{FirstWord}
+use Rattle.reader.specs.declared.FirstWord.the-variants.{There, Stop}
 use Rattle.reader.specs.declared.Sort.{Sort}
 use Rattle.reader.specs.declared.Sort.the-variants.{Arithmetic, Boolean, Array}
 use Rattle.reader.proofs.Walks.{room, arithmetic-goes, boolean-goes, array-goes, arm}
@@ -67,13 +67,13 @@ leaf-goes file d Array at {k} {p} {q} {b} e h =
 pub leaf-walk : (file : List ℕ) (d : ℕ) (s : Sort) (at : ℕ) → leafDue s (dueOf file d at) ≡ true → LeafAt file d s at
 leaf-walk file d s at h = go (dueOf file d at) refl h
   where
-    go : (u : Due) → dueOf file d at ≡ u → leafDue s u ≡ true → LeafAt file d s at
+    go : (u : FirstWord) → dueOf file d at ≡ u → leafDue s u ≡ true → LeafAt file d s at
     go (Stop x) e h = absurd (false≢true h)
     go (There k p q b) e h =
         let r = room file d at (sym e) refl in
         record { inside = r .0; past = ap Next (sym (r .1)) ∙ leaf-goes file d s at e h }
 
-module _ (file : List ℕ) (d at : ℕ) {r : Due} (due : r ≡ dueOf file d at) where
+module _ (file : List ℕ) (d at : ℕ) {r : FirstWord} (due : r ≡ dueOf file d at) where
   pub due-none : (s : Sort) {x : Refusal} → r ≡ Stop x → false ≡ leafDue s (dueOf file d at)
   due-none s e = ap (leafDue s) (sym e ∙ due)
 

@@ -22,7 +22,7 @@ use Rattle.rules.specs.Assertion.{Members}
 use Rattle.rules.specs.Context.{Context}
 use Rattle.rules.specs.Evidence.{Judgement, Row, rules, by, Evidence}
 use Rattle.layout.specs.Bytes.{wordCount, kindAt, payloadAt}
-use Rattle.layout.specs.Reading.{Reading, read, fault, Reader, onRead, leaf, _⊛_, several, noLevel, allowed}
+use Rattle.layout.specs.Reading.{Reading, read, fault, Reader, onRead, pure, _⊛_, several, noLevel, allowed}
 use Rattle.layout.specs.Reading.{wordDue, allow, upTo, onOption}
 use Rattle.layout.specs.Read.{expression, command, memberAt, set}
 use Rattle.layout.specs.ReadEvidence.{evidenceKind, ruleOf, partsReader, evidence}
@@ -35,8 +35,8 @@ use Rattle.context.specs.declared.Refusal.{Refusal}
 use Rattle.reader.specs.Walk.{walkOf, onward, dueOf, onDue, after}
 use Rattle.reader.specs.declared.Walk.{Walk}
 use Rattle.reader.specs.declared.Walk.the-variants.{Next, Refused}
-use Rattle.reader.specs.declared.Due.{Due}
-use Rattle.reader.specs.declared.Due.the-variants.{There, Stop}
+use Rattle.reader.specs.declared.FirstWord.{FirstWord}
+use Rattle.reader.specs.declared.FirstWord.the-variants.{There, Stop}
 
 -- ---- the word that is due
 module _ (file : List ℕ) where
@@ -72,7 +72,7 @@ module _ (file : List ℕ) where
       go true t e = (ltb-true _ _ t, (cc), (cc))
       go false t e = let z : _≡_ {A = ℕ} 0 1 = cc in absurd (omega arith)
 
-pub room : (file : List ℕ) (d at : ℕ) {r : Due} {k p q b : ℕ} → r ≡ dueOf file d at → r ≡ There k p q b →
+pub room : (file : List ℕ) (d at : ℕ) {r : FirstWord} {k p q b : ℕ} → r ≡ dueOf file d at → r ≡ There k p q b →
     (at < wordCount file) × (q ≡ at + 1) × (d ≡ suc b)
 room file d at {k} {p} {q} {b} e f = due-room file d at k p q b (sym e ∙ f)
 
@@ -91,8 +91,8 @@ pub onto : {A B : Type 0} (x : Reader (A → B)) (y : Reader A) (q : ℕ) {r s :
 unfolding _⊛_
 onto x y q e h = e ∙ ap (λ (z : Walk). onward z (λ p. walkOf (y p))) h ∙ sym (then-walk (x q) y)
 
-pub alone : {A B : Type 0} (f : A → B) (y : Reader A) (q : ℕ) → walkOf (y q) ≡ walkOf ((leaf f ⊛ y) q)
-alone f y q = onto (leaf f) y q {s = Next q} refl refl
+pub alone : {A B : Type 0} (f : A → B) (y : Reader A) (q : ℕ) → walkOf (y q) ≡ walkOf ((pure f ⊛ y) q)
+alone f y q = onto (pure f) y q {s = Next q} refl refl
 
 pub on : {p : ℕ} {r x : Walk} (k : ℕ → Walk) → r ≡ Next p → x ≡ k p → x ≡ onward r k
 on k e h = h ∙ ap (λ (z : Walk). onward z k) (sym e)
@@ -197,7 +197,7 @@ module _ (file : List ℕ) where
 
     -- the rule's parts stand after the word
     abbrev pub ruleReader : (j : Judgement) → ℕ → ℕ → Row j → Reader (Evidence j)
-    ruleReader j at b r = leaf (by (r .rule) at) ⊛ partsReader Γ file b (evidence Γ file b) (r .after)
+    ruleReader j at b r = pure (by (r .rule) at) ⊛ partsReader Γ file b (evidence Γ file b) (r .after)
 
     pub evidence-goes : (d : ℕ) (j : Judgement) (at : ℕ) →
         GoesBy (walkOf (evidence Γ file d j at)) file d at (ruleDue j) (λ b o. onOption o (ruleReader j at b))
@@ -216,17 +216,17 @@ module _ (file : List ℕ) where
 -- ---- as the code has them: r is what `word_due` returned, v the decoded word
 module _
     {A W : Type 0} {walk : Walk} {file : List ℕ} {d at : ℕ} {of : ℕ → ℕ → W} {meaning : ℕ → W → Option (Reader A)}
-    (law : GoesBy walk file d at of meaning) {r : Due} (due : r ≡ dueOf file d at)
+    (law : GoesBy walk file d at of meaning) {r : FirstWord} (due : r ≡ dueOf file d at)
   where
     pub stop : {x : Refusal} → r ≡ Stop x → Refused x ≡ walk
     stop e =
-        ap (λ (y : Due). onDue y (λ k p q b. walkOf (after (meaning b (of k p)) at q))) (sym e ∙ due) ∙ sym (law .goes)
+        ap (λ (y : FirstWord). onDue y (λ k p q b. walkOf (after (meaning b (of k p)) at q))) (sym e ∙ due) ∙ sym (law .goes)
 
     pub arm : {k p q b : ℕ} {v u : W} {x : Walk} → r ≡ There k p q b → v ≡ of k p → v ≡ u →
         x ≡ walkOf (after (meaning b u) at q) → x ≡ walk
     arm {q} {b} e word g h =
         h ∙ ap (λ (y : W). walkOf (after (meaning b y) at q)) (sym g ∙ word)
-        ∙ ap (λ (y : Due). onDue y (λ k p q b. walkOf (after (meaning b (of k p)) at q))) (sym e ∙ due)
+        ∙ ap (λ (y : FirstWord). onDue y (λ k p q b. walkOf (after (meaning b (of k p)) at q))) (sym e ∙ due)
         ∙ sym (law .goes)
 
     pub none-arm : {k p q b : ℕ} {v : W} → r ≡ There k p q b → v ≡ of k p → meaning b v ≡ none → Refused (refusal 5 at) ≡ walk

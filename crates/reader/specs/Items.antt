@@ -10,7 +10,7 @@ use Rattle.rules.specs.Context.{Context}
 use Rattle.rules.specs.Evidence.{Item, assertionItem, commandItem, membersItem, childItem}
 use Rattle.layout.specs.Read.{expression, command, set}
 use Rattle.layout.specs.ReadEvidence.{partsReader, evidence}
-use Rattle.words.specs.Rows.{packed}
+use Rattle.words.specs.Rows.{packedItems}
 use Rattle.reader.specs.Walk.{walkOf}
 use Rattle.reader.specs.declared.Walk.{Walk}
 
@@ -21,4 +21,4 @@ itemWalk Γ file d membersItem p = walkOf (set Γ file d p)
 itemWalk Γ file d (childItem j) p = walkOf (evidence Γ file d j p)
 
 pub record ItemsRead (Γ : Context) (file : List ℕ) (d row at : ℕ) (r : Walk) : Type 0 where
-  pub items : (l : List Item) → row ≡ packed l → r ≡ walkOf (partsReader Γ file d (evidence Γ file d) l at)
+  pub items : (l : List Item) → row ≡ packedItems l → r ≡ walkOf (partsReader Γ file d (evidence Γ file d) l at)

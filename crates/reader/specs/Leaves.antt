@@ -11,8 +11,8 @@ use Rattle.words.specs.declared.BooleanWord.{BooleanWord}
 use Rattle.words.specs.declared.BooleanWord.the-variants as boolean
 use Rattle.words.specs.declared.ArrayWord.{ArrayWord}
 use Rattle.words.specs.declared.ArrayWord.the-variants as array
-use Rattle.reader.specs.declared.Due.{Due}
-use Rattle.reader.specs.declared.Due.the-variants.{There, Stop}
+use Rattle.reader.specs.declared.FirstWord.{FirstWord}
+use Rattle.reader.specs.declared.FirstWord.the-variants.{There, Stop}
 use Rattle.reader.specs.declared.Sort.{Sort}
 use Rattle.reader.specs.declared.Sort.the-variants.{Arithmetic, Boolean, Array}
 
@@ -42,6 +42,6 @@ leafOf Arithmetic k p = arithmeticLeaf (arithmeticOf k p)
 leafOf Boolean k p = booleanLeaf (booleanOf k p)
 leafOf Array k p = arrayLeaf (arrayOf k p)
 
-abbrev pub leafDue : Sort → Due → Bool
+abbrev pub leafDue : Sort → FirstWord → Bool
 leafDue s (There k p q b) = leafOf s k p
 leafDue s (Stop x) = false

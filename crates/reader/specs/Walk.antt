@@ -16,8 +16,8 @@ use Rattle.layout.specs.Reading.{Reading, read, fault, Reader}
 use Rattle.context.specs.Contexts.{refusal}
 use Rattle.reader.specs.declared.Walk.{Walk}
 use Rattle.reader.specs.declared.Walk.the-variants.{Next, Refused}
-use Rattle.reader.specs.declared.Due.{Due}
-use Rattle.reader.specs.declared.Due.the-variants.{There, Stop}
+use Rattle.reader.specs.declared.FirstWord.{FirstWord}
+use Rattle.reader.specs.declared.FirstWord.the-variants.{There, Stop}
 use Rattle.reader.specs.declared.Sort.{Sort}
 use Rattle.reader.specs.declared.Sort.the-variants.{Arithmetic, Boolean, Array}
 
@@ -34,13 +34,13 @@ abbrev pub onward : Walk → (ℕ → Walk) → Walk
 onward (Next p) f = f p
 onward (Refused x) f = Refused x
 
-unfoldable pub dueOf : List ℕ → ℕ → ℕ → Due
+unfoldable pub dueOf : List ℕ → ℕ → ℕ → FirstWord
 dueOf file zero at = cond (ltb at (wordCount file)) (Stop (refusal 4 at)) (Stop (refusal 3 (wordCount file)))
 dueOf file (suc d) at =
     cond (ltb at (wordCount file)) (There (kindAt file at) (payloadAt file at) (at + 1) d)
     (Stop (refusal 3 (wordCount file)))
 
-abbrev pub onDue : Due → (ℕ → ℕ → ℕ → ℕ → Walk) → Walk
+abbrev pub onDue : FirstWord → (ℕ → ℕ → ℕ → ℕ → Walk) → Walk
 onDue (There k p q d) f = f k p q d
 onDue (Stop x) f = Refused x
 

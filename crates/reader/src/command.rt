@@ -1,5 +1,5 @@
 // Commands. The words left fall.
-use super::Due;
+use super::FirstWord;
 use super::Sort;
 use super::Walk;
 use super::expression::read_arithmetic;
@@ -18,8 +18,8 @@ pub fn read_command(w: &[u32], at: usize, left: usize) -> Walk
 {
     let d = word_due(w, at, left);
     match d {
-        Due::Stop(refusal) => Walk::Refused(refusal),
-        Due::There(kind, payload, next, below) => {
+        FirstWord::Stop(refusal) => Walk::Refused(refusal),
+        FirstWord::There(kind, payload, next, below) => {
             let word = command_word(kind, payload);
             let from = Walk::Next(next);
             match word {

@@ -1,6 +1,6 @@
 // Evidence, by the table of rules: the walk calls itself on children, and both the words left and the levels left fall
 // (document 01, "Where to use each form").
-use super::Due;
+use super::FirstWord;
 use super::Walk;
 use super::command::read_command;
 use super::expression::read_boolean;
@@ -18,7 +18,7 @@ use words::rows::NO_RULE;
 use words::rows::evidence_row;
 ghost use mathlib.Core.Path.{_≡_};
 ghost use Rattle.layout.specs.ReadEvidence.{evidence};
-ghost use Rattle.words.specs.Rows.{itemOf, judgementOf};
+ghost use Rattle.words.specs.Rows.{itemOf, judgementMeant};
 ghost use Rattle.context.specs.Contexts.{contextOf};
 ghost use Rattle.reader.specs.Walk.{walkOf};
 ghost use Rattle.reader.specs.Items.{itemWalk, ItemsRead};
@@ -30,12 +30,12 @@ pub fn read_evidence(
     at: usize,
     left: usize,
 ) -> Walk
-    ensures { λ r. ⌜ r ≡ walkOf (evidence (contextOf context) (now (w .entry)) left (judgementOf judgement) at) ⌝ }
+    ensures { λ r. ⌜ r ≡ walkOf (evidence (contextOf context) (now (w .entry)) left (judgementMeant judgement) at) ⌝ }
 {
     let d = word_due(w, at, left);
     match d {
-        Due::Stop(refusal) => Walk::Refused(refusal),
-        Due::There(kind, payload, next, below) => {
+        FirstWord::Stop(refusal) => Walk::Refused(refusal),
+        FirstWord::There(kind, payload, next, below) => {
             let row = evidence_row(judgement, kind, payload);
             if row == NO_RULE {
                 Walk::Refused(Refusal {

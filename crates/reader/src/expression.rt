@@ -1,5 +1,5 @@
 // Expressions: a function for each sort, each calling on the others by way of `read_operand`. The words left fall.
-use super::Due;
+use super::FirstWord;
 use super::Sort;
 use super::Walk;
 use super::leaf::is_leaf;
@@ -21,8 +21,8 @@ pub fn read_arithmetic(w: &[u32], at: usize, left: usize) -> Walk
 {
     let d = word_due(w, at, left);
     match d {
-        Due::Stop(refusal) => Walk::Refused(refusal),
-        Due::There(kind, payload, next, below) => {
+        FirstWord::Stop(refusal) => Walk::Refused(refusal),
+        FirstWord::There(kind, payload, next, below) => {
             let word = arithmetic_word(kind, payload);
             match word {
                 ArithmeticWord::Constant(_) => Walk::Next(next),
@@ -49,8 +49,8 @@ pub fn read_boolean(w: &[u32], at: usize, left: usize) -> Walk
 {
     let d = word_due(w, at, left);
     match d {
-        Due::Stop(refusal) => Walk::Refused(refusal),
-        Due::There(kind, payload, next, below) => {
+        FirstWord::Stop(refusal) => Walk::Refused(refusal),
+        FirstWord::There(kind, payload, next, below) => {
             let word = boolean_word(kind, payload);
             match word {
                 BooleanWord::Compare(_) => {
@@ -81,8 +81,8 @@ pub fn read_array(w: &[u32], at: usize, left: usize) -> Walk
 {
     let d = word_due(w, at, left);
     match d {
-        Due::Stop(refusal) => Walk::Refused(refusal),
-        Due::There(kind, payload, next, below) => {
+        FirstWord::Stop(refusal) => Walk::Refused(refusal),
+        FirstWord::There(kind, payload, next, below) => {
             let word = array_word(kind, payload);
             match word {
                 ArrayWord::Identifier(_) => Walk::Next(next),

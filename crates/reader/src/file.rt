@@ -9,6 +9,7 @@ use context::Context;
 use context::Refusal;
 use words::Judgement;
 use words::kinds::FILE_WORD;
+use words::numbers::wide;
 ghost use mathlib.Core.Path.{_≡_};
 ghost use Rattle.layout.specs.File.{parts};
 ghost use Rattle.context.specs.Contexts.{contextOf};
@@ -59,12 +60,6 @@ fn from_evidence(w: &[u32], context: Context, pre: usize, post: usize, evidence:
         }),
         Walk::Refused(refusal) => Layout::Refused(refusal),
     }
-}
-
-fn wide(x: u32) -> usize
-    ensures { λ r. ⌜ r ≡ x ⌝ }
-{
-    x as usize
 }
 
 // Refusal 2: word 0 is 63:n.

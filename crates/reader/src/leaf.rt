@@ -1,5 +1,5 @@
 // Operands of one word: constants, scalars, truths, identifiers of arrays and zero everywhere.
-use super::Due;
+use super::FirstWord;
 use super::Sort;
 use super::word::word_due;
 use words::ArithmeticWord;
@@ -54,8 +54,8 @@ pub fn is_leaf(sort: Sort, w: &[u32], at: usize, left: usize) -> bool
 {
     let d = word_due(w, at, left);
     match d {
-        Due::Stop(_) => false,
-        Due::There(kind, payload, _, _) => match sort {
+        FirstWord::Stop(_) => false,
+        FirstWord::There(kind, payload, _, _) => match sort {
             Sort::Arithmetic => is_arithmetic_leaf(arithmetic_word(kind, payload)),
             Sort::Boolean => is_boolean_leaf(boolean_word(kind, payload)),
             Sort::Array => is_array_leaf(array_word(kind, payload)),

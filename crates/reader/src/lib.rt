@@ -16,7 +16,7 @@ pub enum Walk {
 }
 
 // The kind and payload of the word that is due, the place past it and the levels left below it; or refusal 3 or 4.
-pub enum Due {
+pub enum FirstWord {
     There(u32, u32, usize, usize),
     Stop(Refusal),
 }

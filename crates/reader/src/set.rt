@@ -1,5 +1,5 @@
 // Members and sets.
-use super::Due;
+use super::FirstWord;
 use super::Sort;
 use super::Walk;
 use super::expression::read_operand;
@@ -84,8 +84,8 @@ pub fn read_set(w: &[u32], context: Context, at: usize, left: usize) -> Walk
 {
     let d = word_due(w, at, left);
     match d {
-        Due::Stop(refusal) => Walk::Refused(refusal),
-        Due::There(kind, payload, next, below) => {
+        FirstWord::Stop(refusal) => Walk::Refused(refusal),
+        FirstWord::There(kind, payload, next, below) => {
             let count = payload as usize;
             let most = context.members;
             if kind == SET {

@@ -1,28 +1,28 @@
 // The word that is due at a place.
-use super::Due;
+use super::FirstWord;
 use context::Refusal;
 ghost use mathlib.Core.Path.{_≡_};
 ghost use Rattle.reader.specs.Walk.{dueOf};
 
 // Refusal 3, the file ends, comes before refusal 4, no level is left.
-pub fn word_due(w: &[u32], at: usize, left: usize) -> Due
+pub fn word_due(w: &[u32], at: usize, left: usize) -> FirstWord
     ensures { λ r. ⌜ r ≡ dueOf (now (w .entry)) left at ⌝ }
 {
     let n = w.len();
     if n <= at {
-        return Due::Stop(Refusal {
+        return FirstWord::Stop(Refusal {
             number: 3,
             place: n,
         });
     }
     if left == 0 {
-        return Due::Stop(Refusal {
+        return FirstWord::Stop(Refusal {
             number: 4,
             place: at,
         });
     }
     let word = w[at];
-    Due::There(
+    FirstWord::There(
         words::decode::kind(word),
         words::decode::payload(word),
         at + 1,

@@ -93,16 +93,16 @@ module _ {file ends : List ℕ} {c : Command} {at : ℕ} (x : CommandAt file end
 
 -- by the parts at their places, up to p
 module _ (file ends : List ℕ) (at p : ℕ) where
-  abbrev Parts : Command → Type 0
-  Parts c = NodesAt file ends (partsOf (commandNode c)) (at + 1) p
+  abbrev CommandPartsStand : Command → Type 0
+  CommandPartsStand c = NodesAt file ends (partsOf (commandNode c)) (at + 1) p
 
-  sequence-at : {c : Command} → Form 25 (commandNode c) → Parts c → SequenceAt file ends at c
+  sequence-at : {c : Command} → Form 25 (commandNode c) → CommandPartsStand c → SequenceAt file ends at c
   sequence-at form-sequence y = record { first = _; second = _; is = refl; first-at = y .0; second-at = y .1 .0 }
 
-  assert-at : {c : Command} → Form 26 (commandNode c) → Parts c → AssertAt file ends at c
+  assert-at : {c : Command} → Form 26 (commandNode c) → CommandPartsStand c → AssertAt file ends at c
   assert-at form-assert y = record { test = _; is = refl; test-at = y .0 }
 
-  scalar-at : {c : Command} → Form 27 (commandNode c) → NodeHead file (commandNode c) at → Parts c →
+  scalar-at : {c : Command} → Form 27 (commandNode c) → NodeHead file (commandNode c) at → CommandPartsStand c →
       AssignAt file ends at c Arithmetic toScalar
   scalar-at form-scalar h y = record {
     name = _;
@@ -111,7 +111,7 @@ module _ (file ends : List ℕ) (at p : ℕ) where
     parts = record { small = omega (arith, h .in-range .0); payload = h .content; right-at = y .0 };
   }
 
-  array-at : {c : Command} → Form 28 (commandNode c) → NodeHead file (commandNode c) at → Parts c →
+  array-at : {c : Command} → Form 28 (commandNode c) → NodeHead file (commandNode c) at → CommandPartsStand c →
       AssignAt file ends at c Array toArray
   array-at form-array h y = record {
     name = _;
@@ -120,7 +120,7 @@ module _ (file ends : List ℕ) (at p : ℕ) where
     parts = record { small = omega (arith, h .in-range .0); payload = h .content; right-at = y .0 };
   }
 
-  if-at : {c : Command} → Form 29 (commandNode c) → Parts c → IfAt file ends at c
+  if-at : {c : Command} → Form 29 (commandNode c) → CommandPartsStand c → IfAt file ends at c
   if-at form-if y = record {
     test = _;
     first = _;
@@ -131,7 +131,7 @@ module _ (file ends : List ℕ) (at p : ℕ) where
     second-at = y .1 .1 .0;
   }
 
-  while-at : {c : Command} → Form 30 (commandNode c) → Parts c → WhileAt file ends at c
+  while-at : {c : Command} → Form 30 (commandNode c) → CommandPartsStand c → WhileAt file ends at c
   while-at form-while y = record { test = _; body = _; is = refl; test-at = y .0; body-at = y .1 .0 }
 
 module _ {file ends : List ℕ} (o : EndsOf file ends) where

@@ -23,7 +23,7 @@ use Rattle.compare.specs.declared.cursor.Match.{Match}
 use Rattle.compare.proofs.Whole.{cursor}
 use Rattle.rule_laws.specs.Sameness.{startNumbers, nextNumbers, MeaningAt}
 use Rattle.rule_laws.proofs.Commands.{ForParts, parts-of-for}
-use Rattle.rule_laws.proofs.Passing.{Passes, then, passes-command, same-command}
+use Rattle.rule_laws.proofs.Passing.{WordsMatched, then, passes-command, same-command}
 
 module _ (file : List ℕ) (m : Match) where
   pub start-matched : (q n : ℕ) (m₁ m₂ m₃ m₄ m₅ m₆ m₇ r : Match) → m₁ ≡ matchedWord file m (wordOf 25 0) →
@@ -98,17 +98,17 @@ module _ {file ends : List ℕ} {d c : ℕ} (o : EndsOf file ends) where
       (b : body ≡ matched file start (part file ends (c + 1)))
       (n : next ≡ matched file body (nextNumbers (payloadAt file c % 32))) where
     means : (q m : ℕ) (e : Command) → ForParts file ends c q m e →
-        Passes file (cursor true d) (commandWords (meaning q m e)) next
+        WordsMatched file (cursor true d) (commandWords (meaning q m e)) next
     means q m e x =
         let i = ap (λ n. n % 32) (x .payload) ∙ for-first q m (x .counter-small) in
         let j = ap (λ n. n / 32) (x .payload) ∙ for-second q m (x .counter-small) in
-        let first : Passes file (cursor true d) (startWords q m) start = record {
+        let first : WordsMatched file (cursor true d) (startWords q m) start = record {
           is =
               s
               ∙ ap₂ (λ y z. matched file (cursor true d) (startNumbers y z)) i j
               ∙ ap (matched file (cursor true d)) (start-words q m);
         } in
-        let last : Passes file body (nextWords q) next = record {
+        let last : WordsMatched file body (nextWords q) next = record {
           is = n ∙ ap (λ y. matched file body (nextNumbers y)) i ∙ ap (matched file body) (next-words q);
         } in
         rw meaning-words (then first (then (passes-command b (x .body-at)) last))

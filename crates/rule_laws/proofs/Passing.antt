@@ -1,9 +1,9 @@
 -- Sameness with what stands at a place, as the functions that compare find it (document 01 compares by words).
 -- Assumes nothing.
---     Passes, then, passes-command                  a cursor after words, one after the other
---     same-command                                  sameness of a written command, found by a cursor
---     can-assertion, assertion-at                   two written assertions
---     can-consequent, consequent-at                 two written consequents
+--     WordsMatched, then, passes-command    a cursor after words, one after the other
+--     same-command                          sameness of a written command, found by a cursor
+--     can-assertion, assertion-at           two written assertions
+--     can-consequent, consequent-at         two written consequents
 use mathlib.Core.Path.{_≡_, sym, ap, _∙_}
 use mathlib.Core.Bool.{Bool, true}
 use mathlib.Core.List.{List, _++_}
@@ -29,11 +29,11 @@ use Rattle.compare.proofs.Halves.{is-written, antecedent-same, is-plain, conseq
 use Rattle.rule_laws.specs.Sameness.{CanSame, SameAssertionAt, SameAt}
 
 -- a cursor after words
-pub record Passes (file : List ℕ) (m : Match) (l : List Word) (n : Match) : Type 0 where
+pub record WordsMatched (file : List ℕ) (m : Match) (l : List Word) (n : Match) : Type 0 where
   pub is : n ≡ matched file m (numbers l)
 
 module _ {file : List ℕ} where
-  pub then : {m n r : Match} {k l : List Word} → Passes file m k n → Passes file n l r → Passes file m (k ++ l) r
+  pub then : {m n r : Match} {k l : List Word} → WordsMatched file m k n → WordsMatched file n l r → WordsMatched file m (k ++ l) r
   then {m} {n} {r} {k} {l} x y = record {
     is =
         y .is
@@ -43,14 +43,14 @@ module _ {file : List ℕ} where
   }
 
   pub passes-command : {ends : List ℕ} {m n : Match} {c : Command} {a : ℕ} → n ≡ matched file m (part file ends a) →
-      CommandAt file ends c a → Passes file m (commandWords c) n
+      CommandAt file ends c a → WordsMatched file m (commandWords c) n
   passes-command {ends} {m} {c = c} {a} h x = record {
     is = h ∙ ap (matched file m) (stands-between file a (commandWords c) (endAt ends a) (x .stands .stand));
   }
 
 module _ {file ends : List ℕ} where
   pub same-command : {c : Command} {at : ℕ} {l : List Word} {m : Match} → CommandAt file ends c at →
-      AllInRange l → Passes file (cursor true at) l m → came m (endAt ends at) ≡ sameWords (commandWords c) l
+      AllInRange l → WordsMatched file (cursor true at) l m → came m (endAt ends at) ≡ sameWords (commandWords c) l
   same-command {c} {at} {l} {m} x f p =
       let i = node-inside x in
       let s = i .start in

@@ -27,7 +27,7 @@ use Rattle.language.proofs.Kept.{kept}
 use Rattle.rules.specs.Words.{words, sameWords}
 use Rattle.rules.specs.Assertion.{Member, Members, member, OneValue, SameValue, Holds, Agree}
 use Rattle.rules.specs.Replace.{replacement, replaceMembers}
-use Rattle.rules.specs.Sets.{SameAntecedent, SameConsequent, SameMember, Stands, stands-here, stands-later}
+use Rattle.rules.specs.Sets.{SameAntecedent, SameConsequent, SameMember, StandsIn, stands-here, stands-later}
 use Rattle.rules.specs.Sets.{Within, Same, under, listed, without, operands, setIdentifiers, Unmodified}
 use Rattle.rules.proofs.Unique.{same-tree, expression-unique}
 use Rattle.rules.proofs.Decides.{sameWords-decides}
@@ -55,7 +55,7 @@ module _ (s t : Store) where
       consequent-value (n .consequent) (m .consequent) (sym (h .consequents)) s t
       (a (sym (same s) ∙ i) (sym (same t) ∙ j))
 
-  pub standing : {m : Member} {p : Members} → Stands m p → Agree p s t → Holds m s t
+  pub standing : {m : Member} {p : Members} → StandsIn m p → Agree p s t → Holds m s t
   standing (stands-here h) a = same-holds h (a .0)
   standing (stands-later h) a = standing h (a .1)
 

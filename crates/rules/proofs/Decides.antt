@@ -16,7 +16,7 @@ use Rattle.language.specs.Modifies.{Identifier, modifies}
 use Rattle.language.proofs.Integers.{sameInteger-decides}
 use Rattle.rules.specs.Words.{Word, word, forWord, words, sameWord, sameWords}
 use Rattle.rules.specs.Assertion.{Member, Members}
-use Rattle.rules.specs.Sets.{SameAntecedent, SameConsequent, SameMember, Stands, stands-here, stands-later}
+use Rattle.rules.specs.Sets.{SameAntecedent, SameConsequent, SameMember, StandsIn, stands-here, stands-later}
 use Rattle.rules.specs.Sets.{Within, Same, Unmodified}
 use Rattle.rules.specs.Tests.{sameAntecedent, sameConsequent, sameMember, stands, within, same}
 use Rattle.rules.specs.Tests.{unmodified, isEmpty}
@@ -63,11 +63,11 @@ sameMember-decides m n =
     (sameAntecedent-decides (m .antecedent) (n .antecedent))
     (sameConsequent-decides (m .consequent) (n .consequent)))
 
-stands-cases : {m n : Member} {p : Members} → Stands m (n ∷ p) → SameMember m n ⊎ Stands m p
+stands-cases : {m n : Member} {p : Members} → StandsIn m (n ∷ p) → SameMember m n ⊎ StandsIn m p
 stands-cases (stands-here h) = inl h
 stands-cases (stands-later h) = inr h
 
-pub stands-decides : (m : Member) (p : Members) → Decides (stands m p) (Stands m p)
+pub stands-decides : (m : Member) (p : Members) → Decides (stands m p) (StandsIn m p)
 stands-decides m [] = decides-no (elim [ ])
 stands-decides m (n ∷ p) =
     decides-map

@@ -22,7 +22,7 @@ use Rattle.rules.specs.Evidence.{set19, pre20, pre21, pre22, pre23, pre2
 use Rattle.rules.specs.Evidence.{pre30}
 use Rattle.rules.specs.Condition.{Result, passes, fails, tooLarge, byForm, onSkip, onSequence, onAssert, onScalar}
 use Rattle.rules.specs.Condition.{onArray, onIf, onWhile, onFor, onEmpty, onOne, onSome}
-use Rattle.rules.specs.Judge.{Verdict, accepted, refused, oneMore, _also_, Step, step, misfit, leaf, judgeWord}
+use Rattle.rules.specs.Judge.{Verdict, accepted, refused, oneMore, _also_, RuleStep, step, misfit, childless, judgeWord}
 use Rattle.rules.specs.Judge.{Judge, GivenItem, GivenItems, Given, applied, preRule, setRule, flowRule, judge}
 
 -- the count of evidence: what is carried has none
@@ -36,11 +36,11 @@ tally done = 0
 tally (x & t) = tally x + tally t
 
 -- the counts of parts, and their sum: a last child's is not added to 0, as its verdict is joined with no other
-abbrev Counts : List Item → Type 0
-Counts [] = Unit {0}
-Counts (x ∷ l) = ℕ × Counts l
+abbrev PartCounts : List Item → Type 0
+PartCounts [] = Unit {0}
+PartCounts (x ∷ l) = ℕ × PartCounts l
 
-abbrev total : (l : List Item) → Counts l → ℕ
+abbrev total : (l : List Item) → PartCounts l → ℕ
 total [] n = 0
 total (assertionItem ∷ l) n = total l (n .1)
 total (commandItem ∷ l) n = total l (n .1)
@@ -48,7 +48,7 @@ total (membersItem ∷ l) n = total l (n .1)
 total (childItem j ∷ []) n = n .0
 total (childItem j ∷ (x ∷ l)) n = n .0 + total (x ∷ l) (n .1)
 
-abbrev counts : {l : List Item} → Parts l → Counts l
+abbrev counts : {l : List Item} → Parts l → PartCounts l
 counts done = tt
 counts (x & t) = (tally x, counts t)
 
@@ -80,19 +80,19 @@ pub record Holding (H : ℕ → Type 0) (P : Verdict → ℕ → Type 0) : Type 
 
 module _ {H : ℕ → Type 0} {P : Verdict → ℕ → Type 0} (holding : Holding H P) where
   -- what a rule comes to, whose children have m where its conditions pass
-  abbrev HoldsBy : Step → ℕ → Type 0
+  abbrev HoldsBy : RuleStep → ℕ → Type 0
   HoldsBy (step passes v) m = P v m
   HoldsBy (step fails v) m = Unit {0}
   HoldsBy (step tooLarge v) m = Unit {0}
 
-  record StepHolds (s : Step) (m : ℕ) : Type 0 where
+  record StepHolds (s : RuleStep) (m : ℕ) : Type 0 where
     children : HoldsBy s m
 
-  word-holds : (i : ℕ) → H i → {s : Step} {m n : ℕ} → StepHolds s m → n ≡ suc m → P (judgeWord i s) n
+  word-holds : (i : ℕ) → H i → {s : RuleStep} {m n : ℕ} → StepHolds s m → n ≡ suc m → P (judgeWord i s) n
   unfolding judgeWord
   word-holds i h {s} {m} {n} x e = go s (x .children)
     where
-      go : (s : Step) → HoldsBy s m → P (judgeWord i s) n
+      go : (s : RuleStep) → HoldsBy s m → P (judgeWord i s) n
       go (step passes v) c = subst (P (oneMore v)) (sym e) (holding .passed v m c)
       go (step fails v) c = holding .failed i n h
       go (step tooLarge v) c = holding .large i n h
@@ -105,15 +105,15 @@ module _ {H : ℕ → Type 0} {P : Verdict → ℕ → Type 0} (holding : Holdin
   passing fails h = record { children = tt }
   passing tooLarge h = record { children = tt }
 
-  leaf-holds : (r : Result) → StepHolds (leaf r) 0
+  leaf-holds : (r : Result) → StepHolds (childless r) 0
   leaf-holds r = passing r (holding .nothing)
 
   -- a command, a set or operands, by their form: it holds in every case
   module _ (m : ℕ) where
-    form-holds : (c : Command) {s : Step} {q : Command → Command → Step} {t : Expr Boolean → Step}
-        {x : ℕ → Expr Arithmetic → Step} {a : ℕ → Expr Array → Step}
-        {f : Expr Boolean → Command → Command → Step} {w : Expr Boolean → Command → Step}
-        {o : ℕ → ℕ → Command → Step} → StepHolds s m → ((c d : Command) → StepHolds (q c d) m) →
+    form-holds : (c : Command) {s : RuleStep} {q : Command → Command → RuleStep} {t : Expr Boolean → RuleStep}
+        {x : ℕ → Expr Arithmetic → RuleStep} {a : ℕ → Expr Array → RuleStep}
+        {f : Expr Boolean → Command → Command → RuleStep} {w : Expr Boolean → Command → RuleStep}
+        {o : ℕ → ℕ → Command → RuleStep} → StepHolds s m → ((c d : Command) → StepHolds (q c d) m) →
         ((b : Expr Boolean) → StepHolds (t b) m) → ((y : ℕ) (e : Expr Arithmetic) → StepHolds (x y e) m) →
         ((y : ℕ) (e : Expr Array) → StepHolds (a y e) m) →
         ((b : Expr Boolean) (c d : Command) → StepHolds (f b c d) m) →
@@ -132,51 +132,51 @@ module _ {H : ℕ → Type 0} {P : Verdict → ℕ → Type 0} (holding : Holdin
     no : StepHolds misfit m
     no = record { children = tt }
 
-    skip-holds : (c : Command) {f : Step} → StepHolds f m →
+    skip-holds : (c : Command) {f : RuleStep} → StepHolds f m →
         StepHolds (onSkip c misfit f) m
     skip-holds c h = form-holds c h (λ c d. no) (λ b. no) (λ y e. no) (λ y e. no) (λ b c d. no) (λ b c. no) (λ y n c. no)
 
-    sequence-holds : (c : Command) {f : Command → Command → Step} → ((c₁ c₂ : Command) → StepHolds (f c₁ c₂) m) →
+    sequence-holds : (c : Command) {f : Command → Command → RuleStep} → ((c₁ c₂ : Command) → StepHolds (f c₁ c₂) m) →
         StepHolds (onSequence c misfit f) m
     sequence-holds c h = form-holds c no h (λ b. no) (λ y e. no) (λ y e. no) (λ b c d. no) (λ b c. no) (λ y n c. no)
 
-    assert-holds : (c : Command) {f : Expr Boolean → Step} → ((b : Expr Boolean) → StepHolds (f b) m) →
+    assert-holds : (c : Command) {f : Expr Boolean → RuleStep} → ((b : Expr Boolean) → StepHolds (f b) m) →
         StepHolds (onAssert c misfit f) m
     assert-holds c h = form-holds c no (λ c d. no) h (λ y e. no) (λ y e. no) (λ b c d. no) (λ b c. no) (λ y n c. no)
 
-    scalar-holds : (c : Command) {f : ℕ → Expr Arithmetic → Step} → ((x : ℕ) (e : Expr Arithmetic) → StepHolds (f x e) m) →
+    scalar-holds : (c : Command) {f : ℕ → Expr Arithmetic → RuleStep} → ((x : ℕ) (e : Expr Arithmetic) → StepHolds (f x e) m) →
         StepHolds (onScalar c misfit f) m
     scalar-holds c h = form-holds c no (λ c d. no) (λ b. no) h (λ y e. no) (λ b c d. no) (λ b c. no) (λ y n c. no)
 
-    array-holds : (c : Command) {f : ℕ → Expr Array → Step} → ((a : ℕ) (e : Expr Array) → StepHolds (f a e) m) →
+    array-holds : (c : Command) {f : ℕ → Expr Array → RuleStep} → ((a : ℕ) (e : Expr Array) → StepHolds (f a e) m) →
         StepHolds (onArray c misfit f) m
     array-holds c h = form-holds c no (λ c d. no) (λ b. no) (λ y e. no) h (λ b c d. no) (λ b c. no) (λ y n c. no)
 
-    if-holds : (c : Command) {f : Expr Boolean → Command → Command → Step} → ((b : Expr Boolean) (c₁ c₂ : Command) → StepHolds (f b c₁ c₂) m) →
+    if-holds : (c : Command) {f : Expr Boolean → Command → Command → RuleStep} → ((b : Expr Boolean) (c₁ c₂ : Command) → StepHolds (f b c₁ c₂) m) →
         StepHolds (onIf c misfit f) m
     if-holds c h = form-holds c no (λ c d. no) (λ b. no) (λ y e. no) (λ y e. no) h (λ b c. no) (λ y n c. no)
 
-    while-holds : (c : Command) {f : Expr Boolean → Command → Step} → ((b : Expr Boolean) (c₁ : Command) → StepHolds (f b c₁) m) →
+    while-holds : (c : Command) {f : Expr Boolean → Command → RuleStep} → ((b : Expr Boolean) (c₁ : Command) → StepHolds (f b c₁) m) →
         StepHolds (onWhile c misfit f) m
     while-holds c h = form-holds c no (λ c d. no) (λ b. no) (λ y e. no) (λ y e. no) (λ b c d. no) h (λ y n c. no)
 
-    for-holds : (c : Command) {f : ℕ → ℕ → Command → Step} → ((q n : ℕ) (c₁ : Command) → StepHolds (f q n c₁) m) →
+    for-holds : (c : Command) {f : ℕ → ℕ → Command → RuleStep} → ((q n : ℕ) (c₁ : Command) → StepHolds (f q n c₁) m) →
         StepHolds (onFor c misfit f) m
     for-holds c h = form-holds c no (λ c d. no) (λ b. no) (λ y e. no) (λ y e. no) (λ b c d. no) (λ b c. no) h
 
-    empty-holds : (p : Members) {v : Step} → StepHolds v m → StepHolds (onEmpty p misfit v) m
+    empty-holds : (p : Members) {v : RuleStep} → StepHolds v m → StepHolds (onEmpty p misfit v) m
     unfolding onEmpty
     empty-holds [] h = h
     empty-holds (x ∷ p) h = no
 
-    one-holds : (p : Members) {f : Member → Step} → ((x : Member) → StepHolds (f x) m) →
+    one-holds : (p : Members) {f : Member → RuleStep} → ((x : Member) → StepHolds (f x) m) →
         StepHolds (onOne p misfit f) m
     unfolding onOne
     one-holds [] h = no
     one-holds (x ∷ []) h = h x
     one-holds (x ∷ (y ∷ p)) h = no
 
-    some-holds : (o : Option Members) {f : Members → Step} → ((r : Members) → StepHolds (f r) m) →
+    some-holds : (o : Option Members) {f : Members → RuleStep} → ((r : Members) → StepHolds (f r) m) →
         StepHolds (onSome o misfit f) m
     unfolding onSome
     some-holds none h = no
@@ -194,7 +194,7 @@ module _ {H : ℕ → Type 0} {P : Verdict → ℕ → Type 0} (holding : Holdin
   PartHolds membersItem g n = Unit {0}
   PartHolds (childItem j) g n = JudgeHolds j g n
 
-  abbrev PartsHold : (l : List Item) → GivenItems l → Counts l → Type 0
+  abbrev PartsHold : (l : List Item) → GivenItems l → PartCounts l → Type 0
   PartsHold [] g n = Unit {0}
   PartsHold (x ∷ l) g n = PartHolds x (g .0) (n .0) × PartsHold l (g .1) (n .1)
 
@@ -204,7 +204,7 @@ module _ {H : ℕ → Type 0} {P : Verdict → ℕ → Type 0} (holding : Holdin
   TreeHolds (items l) g t = PartsHold l g (counts t)
 
   module _ (Γ : Context) where
-    pre-rule : {n : ℕ} {l : List Item} (r : Rule precondition n l) (g : GivenItems l) (m : Counts l) → PartsHold l g m →
+    pre-rule : {n : ℕ} {l : List Item} (r : Rule precondition n l) (g : GivenItems l) (m : PartCounts l) → PartsHold l g m →
         (φ : Expr Boolean) (c : Command) (φ′ : Expr Boolean) → StepHolds (applied l (preRule Γ r) g φ c φ′) (total l m)
     unfolding preRule
     pre-rule pre20 (φ₁, (φ₂, _)) m (_, (_, (k, (l, _)))) φ c φ′ =
@@ -221,7 +221,7 @@ module _ {H : ℕ → Type 0} {P : Verdict → ℕ → Type 0} (holding : Holdin
     pre-rule pre29 g m h φ c φ′ = leaf-holds _
     pre-rule pre30 (d, _) m (_, (k, _)) φ c φ′ = for-holds _ c λ q n c₁. passing _ (k φ d φ′)
 
-    set-rule : {n : ℕ} {l : List Item} (r : Rule implication n l) (g : GivenItems l) (m : Counts l) → PartsHold l g m →
+    set-rule : {n : ℕ} {l : List Item} (r : Rule implication n l) (g : GivenItems l) (m : PartCounts l) → PartsHold l g m →
         (p q : Members) → StepHolds (applied l (setRule Γ r) g p q) (total l m)
     unfolding setRule
     set-rule set13 g m h p q = leaf-holds _
@@ -232,7 +232,7 @@ module _ {H : ℕ → Type 0} {P : Verdict → ℕ → Type 0} (holding : Holdin
     set-rule set18 g m h p q = one-holds _ p λ x. one-holds _ q λ y. leaf-holds _
     set-rule set19 g m h p q = one-holds _ q λ x. some-holds _ (operands (x .antecedent) (x .consequent)) λ r. leaf-holds _
 
-    flow-rule : {n : ℕ} {l : List Item} (r : Rule flow n l) (g : GivenItems l) (m : Counts l) → PartsHold l g m →
+    flow-rule : {n : ℕ} {l : List Item} (r : Rule flow n l) (g : GivenItems l) (m : PartCounts l) → PartsHold l g m →
         (p : Members) (c : Command) (q : Members) → StepHolds (applied l (flowRule Γ r) g p c q) (total l m)
     unfolding flowRule
     flow-rule flow1 g m h p c q = skip-holds _ c (leaf-holds _)

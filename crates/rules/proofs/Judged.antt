@@ -22,7 +22,7 @@ use Rattle.rules.specs.Derivation.{set-rule-15, set-rule-16, set-rule-17
 use Rattle.rules.specs.Derivation.{rule-1, rule-2, rule-3, rule-4, rule-5, rule-6, rule-7, rule-8, rule-9}
 use Rattle.rules.specs.Derivation.{rule-10, rule-11, rule-12, rule-13, rule-14}
 use Rattle.rules.specs.Condition.{Result, passes, fails, tooLarge, test, byForm, onEmpty, onOne, onSome}
-use Rattle.rules.specs.Judge.{Verdict, accepted, refused, oneMore, _also_, Step, step, leaf, misfit, judgeWord}
+use Rattle.rules.specs.Judge.{Verdict, accepted, refused, oneMore, _also_, RuleStep, step, childless, misfit, judgeWord}
 use Rattle.rules.specs.Judge.{preRule, setRule, flowRule, judge}
 use Rattle.rules.proofs.Decides.{sameWords-decides, sameAntecedent-decides, sameConsequent-decides}
 use Rattle.rules.proofs.Decides.{stands-decides, within-decides, same-decides, unmodified-decides}
@@ -37,10 +37,10 @@ Accepts (accepted n) = Unit {0}
 Accepts (refused k i) = ⊥
 
 -- a word at place i whose rule comes to a step that is accepted
-abbrev Word : ℕ → Step → Type 0
-Word i s = Accepts (judgeWord i s)
+abbrev WordAccepted : ℕ → RuleStep → Type 0
+WordAccepted i s = Accepts (judgeWord i s)
 
-misfits : (i : ℕ) → Word i misfit → ⊥
+misfits : (i : ℕ) → WordAccepted i misfit → ⊥
 unfolding judgeWord
 misfits i h = h
 
@@ -66,7 +66,7 @@ word-accepts i passes (refused j l) g h = h
 word-accepts i fails v g h = g
 word-accepts i tooLarge v g h = g
 
-leaf-accepts : (i : ℕ) (r : Result) → Passes r → Accepts (judgeWord i (leaf r))
+leaf-accepts : (i : ℕ) (r : Result) → Passes r → Accepts (judgeWord i (childless r))
 leaf-accepts i r h = word-accepts i r (accepted 0) h tt
 
 also-accepts : (v w : Verdict) → Accepts v → Accepts w → Accepts (v also w)
@@ -80,30 +80,30 @@ module _ (Γ : Context) where
       Accepts (judge Γ k φ c φ′) → Necessary Γ k φ c φ′
   unfolding judge preRule
   necessary-sound (by pre20 i (assertion φ₁ & assertion φ₂ & child k & child l & done)) φ c φ′ h =
-      if-is (Word i) _ (misfits i) (λ c. Necessary Γ (by pre20 i (assertion φ₁ & assertion φ₂ & child k & child l & done)) φ c φ′) c _ h λ b c₁ c₂ h.
+      if-is (WordAccepted i) _ (misfits i) (λ c. Necessary Γ (by pre20 i (assertion φ₁ & assertion φ₂ & child k & child l & done)) φ c φ′) c _ h λ b c₁ c₂ h.
       word-is i _ _ h λ g h. also-is _ _ h λ u v.
       rule-20 (test-passes (sameAntecedent-decides φ _) .sound g) (necessary-sound k φ₁ c₁ φ′ u)
       (necessary-sound l φ₂ c₂ φ′ v)
   necessary-sound (by pre21 i (assertion φ₀ & child k & done)) φ c φ′ h =
-      while-is (Word i) _ (misfits i) (λ c. Necessary Γ (by pre21 i (assertion φ₀ & child k & done)) φ c φ′) c _ h λ b c₁ h.
+      while-is (WordAccepted i) _ (misfits i) (λ c. Necessary Γ (by pre21 i (assertion φ₀ & child k & done)) φ c φ′) c _ h λ b c₁ h.
       word-is i _ _ h λ g u.
       let both = then-passes (implication-passes Γ _ φ) (implication-passes Γ _ φ) .sound g in
       rule-21 (both .0) (both .1) (necessary-sound k φ₀ c₁ φ u)
   necessary-sound (by pre22 i done) φ c φ′ h =
-      skip-is (Word i) _ (misfits i) (λ c. Necessary Γ (by pre22 i done) φ c φ′) c _ h λ h.
+      skip-is (WordAccepted i) _ (misfits i) (λ c. Necessary Γ (by pre22 i done) φ c φ′) c _ h λ h.
       word-is i _ _ h λ g u. rule-22 (test-passes (sameAntecedent-decides φ φ′) .sound g)
   necessary-sound (by pre23 i (assertion φ₁ & child k & child l & done)) φ c φ′ h =
-      sequence-is (Word i) _ (misfits i) (λ c. Necessary Γ (by pre23 i (assertion φ₁ & child k & child l & done)) φ c φ′) c _ h λ c₁ c₂ h.
+      sequence-is (WordAccepted i) _ (misfits i) (λ c. Necessary Γ (by pre23 i (assertion φ₁ & child k & child l & done)) φ c φ′) c _ h λ c₁ c₂ h.
       word-is i _ _ h λ g h. also-is _ _ h λ u v.
       rule-23 (necessary-sound k φ c₁ φ₁ u) (necessary-sound l φ₁ c₂ φ′ v)
   necessary-sound (by pre24 i done) φ c φ′ h =
-      scalar-is (Word i) _ (misfits i) (λ c. Necessary Γ (by pre24 i done) φ c φ′) c _ h λ x e h.
+      scalar-is (WordAccepted i) _ (misfits i) (λ c. Necessary Γ (by pre24 i done) φ c φ′) c _ h λ x e h.
       word-is i _ _ h λ g u. rule-24 (test-passes (sameAntecedent-decides φ _) .sound g)
   necessary-sound (by pre25 i done) φ c φ′ h =
-      array-is (Word i) _ (misfits i) (λ c. Necessary Γ (by pre25 i done) φ c φ′) c _ h λ a e h.
+      array-is (WordAccepted i) _ (misfits i) (λ c. Necessary Γ (by pre25 i done) φ c φ′) c _ h λ a e h.
       word-is i _ _ h λ g u. rule-25 (test-passes (sameAntecedent-decides φ _) .sound g)
   necessary-sound (by pre26 i done) φ c φ′ h =
-      assert-is (Word i) _ (misfits i) (λ c. Necessary Γ (by pre26 i done) φ c φ′) c _ h λ b h.
+      assert-is (WordAccepted i) _ (misfits i) (λ c. Necessary Γ (by pre26 i done) φ c φ′) c _ h λ b h.
       word-is i _ _ h λ g u. rule-26 (test-passes (sameAntecedent-decides φ _) .sound g)
   necessary-sound (by pre27 i done) φ c φ′ h = word-is i _ _ h λ g u.
       let both = then-passes (test-passes (sameAntecedent-decides φ φ′))
@@ -114,7 +114,7 @@ module _ (Γ : Context) where
   necessary-sound (by pre29 i done) φ c φ′ h = word-is i _ _ h λ g u.
       rule-29 (test-passes (sameAntecedent-decides φ _) .sound g)
   necessary-sound (by pre30 i (command d & child k & done)) φ c φ′ h =
-      for-is (Word i) _ (misfits i) (λ c. Necessary Γ (by pre30 i (command d & child k & done)) φ c φ′) c _ h λ q m c₁ h.
+      for-is (WordAccepted i) _ (misfits i) (λ c. Necessary Γ (by pre30 i (command d & child k & done)) φ c φ′) c _ h λ q m c₁ h.
       word-is i _ _ h λ g u. rule-30 (test-passes (sameWords-decides _ _) .sound g) (necessary-sound k φ d φ′ u)
 
   necessary-complete : {k : PreEvidence} {φ : Expr Boolean} {c : Command} {φ′ : Expr Boolean} →
@@ -146,11 +146,11 @@ module _ (Γ : Context) where
   unfolding judge setRule
   follows-sound (by set13 i done) p q h = word-is i _ _ h λ g u. set-rule-13 (test-passes (within-decides q p) .sound g)
   follows-sound (by set14 i done) p q h =
-      empty-is (Word i) _ (misfits i) (λ p. Follows Γ (by set14 i done) p q) p _ h λ h.
+      empty-is (WordAccepted i) _ (misfits i) (λ p. Follows Γ (by set14 i done) p q) p _ h λ h.
       word-is i _ _ h λ g u. set-rule-14 (eachImpliesFalse-passes Γ q .sound g)
   follows-sound (by set15 i done) p q h =
-      empty-is (Word i) _ (misfits i) (λ p. Follows Γ (by set15 i done) p q) p _ h λ h.
-      one-is (Word i) _ (misfits i) (λ q. Follows Γ (by set15 i done) [] q) q _ h λ n h.
+      empty-is (WordAccepted i) _ (misfits i) (λ p. Follows Γ (by set15 i done) p q) p _ h λ h.
+      one-is (WordAccepted i) _ (misfits i) (λ q. Follows Γ (by set15 i done) [] q) q _ h λ n h.
       word-is i _ _ h λ g u. set-rule-15 (test-passes (isEmpty-decides _) .sound g)
   follows-sound (by set16 i (members s & members s′ & members t & members t′ & child k & child l & done)) p q h = word-is i _ _ h λ g h. also-is _ _ h λ u v.
       let both = then-passes (test-passes (same-decides p _)) (test-passes (same-decides q _)) .sound g in
@@ -158,15 +158,15 @@ module _ (Γ : Context) where
   follows-sound (by set17 i (members s & members s′ & members t & child k & child l & done)) p q h = word-is i _ _ h λ g h. also-is _ _ h λ u v.
       set-rule-17 (test-passes (same-decides p _) .sound g) (follows-sound k s s′ u) (follows-sound l t q v)
   follows-sound (by set18 i done) p q h =
-      one-is (Word i) _ (misfits i) (λ p. Follows Γ (by set18 i done) p q) p _ h λ m h.
-      one-is (Word i) _ (misfits i) (λ q. Follows Γ (by set18 i done) (m ∷ []) q) q _ h λ n h.
+      one-is (WordAccepted i) _ (misfits i) (λ p. Follows Γ (by set18 i done) p q) p _ h λ m h.
+      one-is (WordAccepted i) _ (misfits i) (λ q. Follows Γ (by set18 i done) (m ∷ []) q) q _ h λ n h.
       word-is i _ _ h λ g u.
       let both = then-passes (test-passes (sameConsequent-decides (m .consequent) (n .consequent)))
       (implication-passes Γ _ _) .sound g in
       set-rule-18 (both .0) (both .1)
   follows-sound (by set19 i done) p q h =
-      one-is (Word i) _ (misfits i) (λ q. Follows Γ (by set19 i done) p q) q _ h λ n h.
-      some-is (Word i) _ (misfits i) (operands (n .antecedent) (n .consequent)) _ h λ r e h.
+      one-is (WordAccepted i) _ (misfits i) (λ q. Follows Γ (by set19 i done) p q) q _ h λ n h.
+      some-is (WordAccepted i) _ (misfits i) (operands (n .antecedent) (n .consequent)) _ h λ r e h.
       word-is i _ _ h λ g u. set-rule-19 e (test-passes (same-decides p r) .sound g)
 
   follows-complete : {k : SetEvidence} {p q : Members} → Follows Γ k p q → Accepts (judge Γ k p q)
@@ -186,32 +186,32 @@ module _ (Γ : Context) where
       leaf-accepts i _
       (then-passes (test-passes (sameConsequent-decides e e′)) (implication-passes Γ _ _) .complete (g, h))
   follows-complete (set-rule-19 {i = i} {p = p} e g) =
-      subst (λ o. Word i (onSome o misfit (λ r. leaf (test (same p r))))) (sym e)
+      subst (λ o. WordAccepted i (onSome o misfit (λ r. childless (test (same p r))))) (sym e)
       (leaf-accepts i _ (test-passes (same-decides _ _) .complete g))
 
   flow-sound : (k : FlowEvidence) (p : Members) (c : Command) (q : Members) →
       Accepts (judge Γ k p c q) → Flow Γ k p c q
   unfolding judge flowRule
   flow-sound (by flow1 i done) p c q h =
-      skip-is (Word i) _ (misfits i) (λ c. Flow Γ (by flow1 i done) p c q) c _ h λ h.
+      skip-is (WordAccepted i) _ (misfits i) (λ c. Flow Γ (by flow1 i done) p c q) c _ h λ h.
       word-is i _ _ h λ g u. rule-1 (test-passes (same-decides p q) .sound g)
   flow-sound (by flow2 i (members m & child k & child l & done)) p c q h =
-      sequence-is (Word i) _ (misfits i) (λ c. Flow Γ (by flow2 i (members m & child k & child l & done)) p c q) c _ h λ c₁ c₂ h.
+      sequence-is (WordAccepted i) _ (misfits i) (λ c. Flow Γ (by flow2 i (members m & child k & child l & done)) p c q) c _ h λ c₁ c₂ h.
       word-is i _ _ h λ g h. also-is _ _ h λ u v. rule-2 (flow-sound k p c₁ m u) (flow-sound l m c₂ q v)
   flow-sound (by flow3 i done) p c q h =
-      scalar-is (Word i) _ (misfits i) (λ c. Flow Γ (by flow3 i done) p c q) c _ h λ x e h.
+      scalar-is (WordAccepted i) _ (misfits i) (λ c. Flow Γ (by flow3 i done) p c q) c _ h λ x e h.
       word-is i _ _ h λ g u. rule-3 (test-passes (same-decides p _) .sound g)
   flow-sound (by flow4 i done) p c q h =
-      array-is (Word i) _ (misfits i) (λ c. Flow Γ (by flow4 i done) p c q) c _ h λ a e h.
+      array-is (WordAccepted i) _ (misfits i) (λ c. Flow Γ (by flow4 i done) p c q) c _ h λ a e h.
       word-is i _ _ h λ g u. rule-4 (test-passes (same-decides p _) .sound g)
   flow-sound (by flow5 i done) p c q h =
-      assert-is (Word i) _ (misfits i) (λ c. Flow Γ (by flow5 i done) p c q) c _ h λ b h.
+      assert-is (WordAccepted i) _ (misfits i) (λ c. Flow Γ (by flow5 i done) p c q) c _ h λ b h.
       word-is i _ _ h λ g u. rule-5 (test-passes (same-decides p _) .sound g)
   flow-sound (by flow6 i (members s & members t & assertion φ₀ & child k & child l & child n & done)) p c q h =
-      if-is (Word i) _ (misfits i)
+      if-is (WordAccepted i) _ (misfits i)
       (λ d. c ≡ d → Flow Γ (by flow6 i (members s & members t & assertion φ₀ & child k & child l & child n & done)) p d q)
       c _ h (λ b c₁ c₂ h e.
-      one-is (Word i) _ (misfits i)
+      one-is (WordAccepted i) _ (misfits i)
       (λ r. q ≡ r → Flow Γ (by flow6 i (members s & members t & assertion φ₀ & child k & child l & child n & done)) p (ifElse b c₁ c₂) r)
       q _ h (λ m h e′.
       word-is i _ _ h λ g h. also-is _ _ h λ u h. also-is _ _ h λ v w.
@@ -230,8 +230,8 @@ module _ (Γ : Context) where
       (test-passes (unmodified-decides (setIdentifiers q) c)) .sound g in
       rule-10 (both .0) (both .1)
   flow-sound (by flow11 i (child n & done)) p c q h =
-      one-is (Word i) _ (misfits i) (λ p. Flow Γ (by flow11 i (child n & done)) p c q) p _ h λ m h.
-      one-is (Word i) _ (misfits i) (λ q. Flow Γ (by flow11 i (child n & done)) (m ∷ []) c q) q _ h λ m′ h.
+      one-is (WordAccepted i) _ (misfits i) (λ p. Flow Γ (by flow11 i (child n & done)) p c q) p _ h λ m h.
+      one-is (WordAccepted i) _ (misfits i) (λ q. Flow Γ (by flow11 i (child n & done)) (m ∷ []) c q) q _ h λ m′ h.
       word-is i _ _ h λ g u.
       let both = then-passes (test-passes (sameConsequent-decides (m .consequent) (m′ .consequent)))
       (test-passes (unmodified-decides (identifiers (m .consequent)) c)) .sound g in
@@ -241,12 +241,12 @@ module _ (Γ : Context) where
       let both = then-passes (test-passes (same-decides p _)) (test-passes (same-decides q _)) .sound g in
       rule-12 (both .0) (both .1) (flow-sound k s c s′ u) (necessary-sound n φ c φ′ v)
   flow-sound (by flow13 i (child k & done)) p c q h =
-      while-is (Word i) _ (misfits i) (λ c. Flow Γ (by flow13 i (child k & done)) p c q) c _ h λ b c₁ h.
+      while-is (WordAccepted i) _ (misfits i) (λ c. Flow Γ (by flow13 i (child k & done)) p c q) c _ h λ b c₁ h.
       word-is i _ _ h λ g u.
       let both = then-passes (test-passes (same-decides p q)) (test-passes (stands-decides _ p)) .sound g in
       rule-13 (both .0) (both .1) (flow-sound k p c₁ q u)
   flow-sound (by flow14 i (command d & child k & done)) p c q h =
-      for-is (Word i) _ (misfits i) (λ c. Flow Γ (by flow14 i (command d & child k & done)) p c q) c _ h λ v m c₁ h.
+      for-is (WordAccepted i) _ (misfits i) (λ c. Flow Γ (by flow14 i (command d & child k & done)) p c q) c _ h λ v m c₁ h.
       word-is i _ _ h λ g u. rule-14 (test-passes (sameWords-decides _ _) .sound g) (flow-sound k p d q u)
 
   flow-complete : {k : FlowEvidence} {p q : Members} {c : Command} →

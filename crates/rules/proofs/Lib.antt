@@ -9,7 +9,7 @@
 --     Judged         the judge accepts exactly the derivations
 --     Holds          what holds of every verdict
 --     Replaced       substitution, in values
---     Starts         what is known of commands and stores
+--     Stores         what is known of commands and stores
 --     Agreement      agreement as sets demand
 --     Sound          the rules are sound
 pub mod Spell
@@ -22,6 +22,6 @@ pub mod Forms
 pub mod Judged
 pub mod Holds
 pub mod Replaced
-pub mod Starts
+pub mod Stores
 pub mod Agreement
 pub mod Sound

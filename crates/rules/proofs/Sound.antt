@@ -31,8 +31,8 @@ use Rattle.rules.specs.Derivation.{rule-10, rule-11, rule-12, rule-13, r
 use Rattle.rules.proofs.Unique.{command-unique}
 use Rattle.rules.proofs.Implication.{implies-holds, eachImpliesFalse-agree}
 use Rattle.rules.proofs.Replaced.{replaced-assigned}
-use Rattle.rules.proofs.Starts.{Fits, fits-first, fits-second, fits-then, fits-else, fits-body, fits-meaning}
-use Rattle.rules.proofs.Starts.{Inside, Start, inside-kept, start-kept}
+use Rattle.rules.proofs.Stores.{Fits, fits-first, fits-second, fits-then, fits-else, fits-body, fits-meaning}
+use Rattle.rules.proofs.Stores.{StoreFits, Start, inside-kept, start-kept}
 use Rattle.rules.proofs.Agreement.{antecedent-value, consequent-value, one-value, standing, agree-within}
 use Rattle.rules.proofs.Agreement.{agree-same, agree-back, agree-left, agree-right, agree-both, agree-under}
 use Rattle.rules.proofs.Agreement.{under-agree, agree-without, agree-operands, agree-replaced, kept-value}
@@ -48,10 +48,10 @@ module _ (Γ : Context) where
 
   -- what a necessary precondition means
   abbrev Needs : Expr Boolean → Command → Expr Boolean → Type 0
-  Needs φ c φ′ = (n : ℕ) (s t : Store) → Inside Γ s → Runs c n s t → value φ′ t ≡ true → value φ s ≡ true
+  Needs φ c φ′ = (n : ℕ) (s t : Store) → StoreFits Γ s → Runs c n s t → value φ′ t ≡ true → value φ s ≡ true
 
   needs-while : (b φ φ₀ φ′ : Expr Boolean) (c : Command) → Implies Γ (and φ₀ b) φ → Implies Γ (and φ′ (neg b)) φ →
-      Fits Γ c → Needs φ₀ c φ → {n : ℕ} {s t : Store} → Inside Γ s → Runs (while b c) n s t →
+      Fits Γ c → Needs φ₀ c φ → {n : ℕ} {s t : Store} → StoreFits Γ s → Runs (while b c) n s t →
       value φ′ t ≡ true → value φ s ≡ true
   unfolding value
   needs-while b φ φ₀ φ′ c h k w f i (runs-done {s = s} e) v = implies-holds Γ _ _ k s (and-both v (ap not e))
@@ -60,7 +60,7 @@ module _ (Γ : Context) where
       implies-holds Γ _ _ h s (and-both (f _ _ _ i r after) e)
 
   pub necessary-sound : {k : PreEvidence} {φ φ′ : Expr Boolean} {c : Command} → Necessary Γ k φ c φ′ → Fits Γ c →
-      (n : ℕ) (s t : Store) → Inside Γ s → Runs c n s t → value φ′ t ≡ true → value φ s ≡ true
+      (n : ℕ) (s t : Store) → StoreFits Γ s → Runs c n s t → value φ′ t ≡ true → value φ s ≡ true
   unfolding value
   necessary-sound (rule-20 {φ = φ} h f g) w n s t i (runs-then e r) v =
       antecedent-value φ _ h s ∙ or-first _ (and-both (necessary-sound f (fits-then w) _ s t i r v) e)

@@ -1,11 +1,11 @@
 -- Words taken from the last to the first, on a stack of trees, give back the trees that they spell.
 -- Assumes nothing.
---     operatorOf, comparisonOf, truthOf    payloads back
---     Tree, fields, tree, commandTree      a tree of any sort
---     treeAt                               a tree of a stack
---     kinds, replace, push, treesOf        words by their kinds; a word on a stack; the trees that words spell
---     Spells, spells-before                words put a tree on any stack; before any other words
---     words-spell, command-spells          the words of an expression, of a command do so with it
+--     payloadOperator, payloadComparison, payloadTruth    payloads back
+--     Fields, fields, tree, commandTree                   a tree of any sort
+--     treeAt                                              a tree of a stack
+--     kinds, replace, push, treesOf                       words by their kinds; a word on a stack; the trees that words spell
+--     Spells, spells-before                               words put a tree on any stack; before any other words
+--     words-spell, command-spells                         the words of an expression, of a command do so with it
 use mathlib.Core.Path.{_≡_, refl, _∙_, ap}
 use mathlib.Core.Bool.{Bool, true, false, cond}
 use mathlib.Core.List.{List, [], _∷_, _++_}
@@ -21,69 +21,69 @@ use Rattle.rules.specs.Words.{Word, word, forWord, operatorPayload, comp
 use Rattle.rules.specs.Words.{words, commandWords}
 
 -- payloads back
-abbrev pub operatorOf : ℤ → Operator
-operatorOf (pos zero) = plus
-operatorOf (pos (suc zero)) = minus
-operatorOf (pos (suc (suc n))) = times
-operatorOf (negsuc n) = plus
+abbrev pub payloadOperator : ℤ → Operator
+payloadOperator (pos zero) = plus
+payloadOperator (pos (suc zero)) = minus
+payloadOperator (pos (suc (suc n))) = times
+payloadOperator (negsuc n) = plus
 
-abbrev pub comparisonOf : ℤ → Comparison
-comparisonOf (pos zero) = equal
-comparisonOf (pos (suc zero)) = less
-comparisonOf (pos (suc (suc n))) = atMost
-comparisonOf (negsuc n) = equal
+abbrev pub payloadComparison : ℤ → Comparison
+payloadComparison (pos zero) = equal
+payloadComparison (pos (suc zero)) = less
+payloadComparison (pos (suc (suc n))) = atMost
+payloadComparison (negsuc n) = equal
 
-abbrev pub truthOf : ℤ → Bool
-truthOf (pos zero) = false
-truthOf (pos (suc n)) = true
-truthOf (negsuc n) = false
+abbrev pub payloadTruth : ℤ → Bool
+payloadTruth (pos zero) = false
+payloadTruth (pos (suc n)) = true
+payloadTruth (negsuc n) = false
 
-operatorOf-payload : (o : Operator) → operatorOf (operatorPayload o) ≡ o
+operatorOf-payload : (o : Operator) → payloadOperator (operatorPayload o) ≡ o
 operatorOf-payload plus = refl
 operatorOf-payload minus = refl
 operatorOf-payload times = refl
 
-comparisonOf-payload : (r : Comparison) → comparisonOf (comparisonPayload r) ≡ r
+comparisonOf-payload : (r : Comparison) → payloadComparison (comparisonPayload r) ≡ r
 comparisonOf-payload equal = refl
 comparisonOf-payload less = refl
 comparisonOf-payload atMost = refl
 
-truthOf-payload : (t : Bool) → truthOf (truthPayload t) ≡ t
+truthOf-payload : (t : Bool) → payloadTruth (truthPayload t) ≡ t
 truthOf-payload false = refl
 truthOf-payload true = refl
 
 -- an expression of the sort, or a command, in its field; the other fields are of no account
-pub record Tree : Type 0 where
+pub record Fields : Type 0 where
   pub sort : Sort
   pub arithmetic : Expr Arithmetic
   pub boolean : Expr Boolean
   pub array : Expr Array
   pub command : Command
 
-abbrev pub fields : Sort → Expr Arithmetic → Expr Boolean → Expr Array → Command → Tree
+abbrev pub fields : Sort → Expr Arithmetic → Expr Boolean → Expr Array → Command → Fields
 fields k a b h c = record { sort = k; arithmetic = a; boolean = b; array = h; command = c }
 
-abbrev pub tree : {k : Sort} → Expr k → Tree
+abbrev pub tree : {k : Sort} → Expr k → Fields
 tree {k = Arithmetic} e = fields Arithmetic e (truth false) zeros skip
 tree {k = Boolean} e = fields Boolean (scalar 0) e zeros skip
 tree {k = Array} e = fields Array (scalar 0) (truth false) e skip
 
-abbrev pub commandTree : Command → Tree
+abbrev pub commandTree : Command → Fields
 commandTree c = fields Arithmetic (scalar 0) (truth false) zeros c
 
 -- a tree on a stack, by its place
-abbrev pub treeAt : List Tree → ℕ → Tree
+abbrev pub treeAt : List Fields → ℕ → Fields
 treeAt s i = getD s i (commandTree skip)
 
 -- the kinds of words, each with how many parts it has and with its tree, of the payload p and the parts
-abbrev pub kinds : ℤ → Tree → Tree → Tree → List (ℕ × ℕ × Tree)
+abbrev pub kinds : ℤ → Fields → Fields → Fields → List (ℕ × ℕ × Fields)
 kinds p t u v =
     (1, 0, tree (constant p))
     ∷ (2, 0, tree (scalar (natAbs p)))
-    ∷ (3, 2, tree (operation (operatorOf p) (t .arithmetic) (u .arithmetic)))
+    ∷ (3, 2, tree (operation (payloadOperator p) (t .arithmetic) (u .arithmetic)))
     ∷ (4, 2, tree (select (t .array) (u .arithmetic)))
-    ∷ (8, 2, tree (compare (comparisonOf p) (t .arithmetic) (u .arithmetic)))
-    ∷ (9, 0, tree (truth (truthOf p)))
+    ∷ (8, 2, tree (compare (payloadComparison p) (t .arithmetic) (u .arithmetic)))
+    ∷ (9, 0, tree (truth (payloadTruth p)))
     ∷ (10, 2, tree (and (t .boolean) (u .boolean)))
     ∷ (11, 2, tree (or (t .boolean) (u .boolean)))
     ∷ (12, 1, tree (neg (t .boolean)))
@@ -100,51 +100,51 @@ kinds p t u v =
     ∷ []
 
 -- the stack with the tree of the kind k in the place of its parts
-abbrev pub replace : ℕ → List (ℕ × ℕ × Tree) → List Tree → List Tree
+abbrev pub replace : ℕ → List (ℕ × ℕ × Fields) → List Fields → List Fields
 replace k [] s = s
 replace k (x ∷ l) s = cond (eqb k (x .0)) (x .2 ∷ drop (x .1) s) (replace k l s)
 
-abbrev pub push : Word → List Tree → List Tree
+abbrev pub push : Word → List Fields → List Fields
 push (word k p) s = replace k (kinds p (treeAt s 0) (treeAt s 1) (treeAt s 2)) s
 push (forWord q m) s = commandTree (for q m (treeAt s 0 .command)) ∷ drop 1 s
 
 -- the trees that words spell, on a stack
-abbrev pub treesOf : List Word → List Tree → List Tree
+abbrev pub treesOf : List Word → List Fields → List Fields
 treesOf [] s = s
 treesOf (w ∷ l) s = push w (treesOf l s)
 
-treesOf-append : (k l : List Word) (s : List Tree) → treesOf (k ++ l) s ≡ treesOf k (treesOf l s)
+treesOf-append : (k l : List Word) (s : List Fields) → treesOf (k ++ l) s ≡ treesOf k (treesOf l s)
 treesOf-append [] l s = refl
 treesOf-append (w ∷ k) l s = ap (push w) (treesOf-append k l s)
 
 -- words spell a tree: they put it on any stack
-pub record Spells (l : List Word) (t : Tree) : Type 0 where
-  pub on : (s : List Tree) → treesOf l s ≡ t ∷ s
+pub record Spells (l : List Word) (t : Fields) : Type 0 where
+  pub on : (s : List Fields) → treesOf l s ≡ t ∷ s
 
 -- so before any other words
-pub spells-before : {k : List Word} {t : Tree} → Spells k t → (l : List Word) (s : List Tree) →
+pub spells-before : {k : List Word} {t : Fields} → Spells k t → (l : List Word) (s : List Fields) →
     treesOf (k ++ l) s ≡ t ∷ treesOf l s
 spells-before {k} x l s = treesOf-append k l s ∙ x .on (treesOf l s)
 
-spells-both : {k l : List Word} {t u : Tree} → Spells k t → Spells l u → (s : List Tree) →
+spells-both : {k l : List Word} {t u : Fields} → Spells k t → Spells l u → (s : List Fields) →
     treesOf (k ++ l) s ≡ t ∷ u ∷ s
 spells-both {l} {t} x y s = spells-before x l s ∙ ap (λ q. t ∷ q) (y .on s)
 
 -- by a word with no part, of one, two and three parts
-module _ {w : Word} {v : Tree} where
-  no-part : ((s : List Tree) → push w s ≡ v ∷ s) → Spells (w ∷ []) v
+module _ {w : Word} {v : Fields} where
+  no-part : ((s : List Fields) → push w s ≡ v ∷ s) → Spells (w ∷ []) v
   no-part h = record { on = h }
 
-  one-part : {k : List Word} {t : Tree} →
-      Spells k t → ((s : List Tree) → push w (t ∷ s) ≡ v ∷ s) → Spells (w ∷ k) v
+  one-part : {k : List Word} {t : Fields} →
+      Spells k t → ((s : List Fields) → push w (t ∷ s) ≡ v ∷ s) → Spells (w ∷ k) v
   one-part x h = record { on = λ s. ap (push w) (x .on s) ∙ h s }
 
-  two-parts : {k l : List Word} {t u : Tree} →
-      Spells k t → Spells l u → ((s : List Tree) → push w (t ∷ u ∷ s) ≡ v ∷ s) → Spells (w ∷ (k ++ l)) v
+  two-parts : {k l : List Word} {t u : Fields} →
+      Spells k t → Spells l u → ((s : List Fields) → push w (t ∷ u ∷ s) ≡ v ∷ s) → Spells (w ∷ (k ++ l)) v
   two-parts x y h = record { on = λ s. ap (push w) (spells-both x y s) ∙ h s }
 
-  three-parts : {j k l : List Word} {r t u : Tree} →
-      Spells j r → Spells k t → Spells l u → ((s : List Tree) → push w (r ∷ t ∷ u ∷ s) ≡ v ∷ s) →
+  three-parts : {j k l : List Word} {r t u : Fields} →
+      Spells j r → Spells k t → Spells l u → ((s : List Fields) → push w (r ∷ t ∷ u ∷ s) ≡ v ∷ s) →
       Spells (w ∷ (j ++ (k ++ l))) v
   three-parts {k} {l} {r} x y z h = record {
     on = λ s. ap (push w) (spells-before x (k ++ l) s ∙ ap (λ q. r ∷ q) (spells-both y z s)) ∙ h s;

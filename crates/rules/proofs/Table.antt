@@ -1,4 +1,4 @@
--- The table of `Tests` decides the sentence of `Implies`. Under an assignment v the two sides are worth what they are
+-- The truth table of `Tests` decides the sentence of `Implies`. Under an assignment v the two sides are worth what they are
 -- under the list of v's values of their comparisons, since every comparison of both sides is listed.
 -- Assumes nothing.
 --     given-map, truth-agrees    a listed comparison's value; assignments that agree on the comparisons of a boolean
@@ -15,7 +15,7 @@ use Rattle.laws.proofs.Decides.{Decides, decides-implies}
 use Rattle.language.specs.Syntax.{Boolean, Expr, compare, truth, and, or, neg}
 use Rattle.rules.specs.Words.{Word, words, sameWords}
 use Rattle.rules.specs.Implies.{truthUnder, amongWords, comparisons, distinct}
-use Rattle.rules.specs.Tests.{given, every, table}
+use Rattle.rules.specs.Tests.{assignmentOf, every, truthTable}
 use Rattle.rules.proofs.Decides.{sameWords-decides}
 
 -- a comparison that is listed stays listed
@@ -59,12 +59,12 @@ truth-agrees (neg b) l u v h = ap not (truth-agrees b l u v h)
 
 -- the values of v, written as a list, give a listed comparison its value
 given-map : (v : List Word → Bool) (l : List (List Word)) (w : List Word) →
-    amongWords w l ≡ true → given l (map v l) w ≡ v w
+    amongWords w l ≡ true → assignmentOf l (map v l) w ≡ v w
 given-map v [] w h = clash h refl
 given-map v (c ∷ l) w h = go (sameWords c w) refl (or-cases (sameWords w c) (amongWords w l) h) (given-map v l w)
   where
     go : (t : Bool) → sameWords c w ≡ t → (sameWords w c ≡ true) ⊎ (amongWords w l ≡ true) →
-        (amongWords w l ≡ true → given l (map v l) w ≡ v w) → cond t (v c) (given l (map v l) w) ≡ v w
+        (amongWords w l ≡ true → assignmentOf l (map v l) w ≡ v w) → cond t (v c) (assignmentOf l (map v l) w) ≡ v w
     go true e k r = ap v (sameWords-decides c w .sound e)
     go false e (inl k) r =
         clash (sameWords-decides c w .complete (sym (sameWords-decides w c .sound k))) e
@@ -90,22 +90,22 @@ every-each (suc n) f h =
     (every-each n (λ x. f (false ∷ x)) (λ x. h (false ∷ x)))
 
 pub table-decides : (φ ψ : Expr Boolean) →
-    Decides (table (distinct φ ψ) φ ψ) ((v : List Word → Bool) → truthUnder φ v ≡ true → truthUnder ψ v ≡ true)
-unfolding table
+    Decides (truthTable (distinct φ ψ) φ ψ) ((v : List Word → Bool) → truthUnder φ v ≡ true → truthUnder ψ v ≡ true)
+unfolding truthTable
 table-decides φ ψ = record { sound = by-map; complete = by-each }
   where
     l : List (List Word)
     l = distinct φ ψ
 
-    by-map : table l φ ψ ≡ true → (v : List Word → Bool) → truthUnder φ v ≡ true → truthUnder ψ v ≡ true
+    by-map : truthTable l φ ψ ≡ true → (v : List Word → Bool) → truthUnder φ v ≡ true → truthUnder ψ v ≡ true
     by-map h v k =
-        let u = given l (map v l) in
-        let tried = every-map v l (λ x. not (truthUnder φ (given l x)) || truthUnder ψ (given l x)) h in
+        let u = assignmentOf l (map v l) in
+        let tried = every-map v l (λ x. not (truthUnder φ (assignmentOf l x)) || truthUnder ψ (assignmentOf l x)) h in
         let left = truth-agrees φ [] u v (λ w e. given-map v l w (comparisons-keep ψ w (comparisons φ []) e)) in
         let right = truth-agrees ψ (comparisons φ []) u v (given-map v l) in
         sym right ∙ decides-implies (truthUnder φ u) (truthUnder ψ u) .sound tried (left ∙ k)
 
-    by-each : ((v : List Word → Bool) → truthUnder φ v ≡ true → truthUnder ψ v ≡ true) → table l φ ψ ≡ true
+    by-each : ((v : List Word → Bool) → truthUnder φ v ≡ true → truthUnder ψ v ≡ true) → truthTable l φ ψ ≡ true
     by-each h =
         every-each (length l) _
-        (λ x. decides-implies (truthUnder φ (given l x)) (truthUnder ψ (given l x)) .complete (h (given l x)))
+        (λ x. decides-implies (truthUnder φ (assignmentOf l x)) (truthUnder ψ (assignmentOf l x)) .complete (h (assignmentOf l x)))

@@ -1,18 +1,18 @@
 -- One tree has a given spelling (document 01 compares trees by their words).
 -- Assumes nothing.
---     expressionOf, expressionOf-words        the expression that words spell
---     AnyExpr                                 an expression with its sort
---     words-unique, same-tree                 two expressions with one spelling are one, of one sort
---     expression-unique, expression-prefix    the same within a sort; before any other words
---     command-unique, command-prefix          two commands with one spelling are one; before any other words
+--     expressionOf, expressionOf-words    the expression that words spell
+--     AnyExpr                             an expression with its sort
+--     words-unique, same-tree             two expressions with one spelling are one, of one sort
+--     expression-unique                   the same within a sort
+--     command-unique, command-prefix      two commands with one spelling are one; before any other words
 use mathlib.Core.Path.{_≡_, refl, sym, _∙_, ap, subst}
 use mathlib.Core.List.{List, [], _++_, head-eq-of-cons-eq, append-cancel-left}
 use Rattle.language.specs.Syntax.{Sort, Arithmetic, Boolean, Array, Expr, Command}
 use Rattle.rules.specs.Words.{Word, words, commandWords}
-use Rattle.rules.proofs.Spell.{Tree, tree, treeAt, treesOf, Spells, spells-before, words-spell, command-spells}
+use Rattle.rules.proofs.Spell.{Fields, tree, treeAt, treesOf, Spells, spells-before, words-spell, command-spells}
 
 -- the field of a sort
-abbrev ofSort : (k : Sort) → Tree → Expr k
+abbrev ofSort : (k : Sort) → Fields → Expr k
 ofSort Arithmetic t = t .arithmetic
 ofSort Boolean t = t .boolean
 ofSort Array t = t .array
@@ -31,7 +31,7 @@ unfolding expressionOf
 expressionOf-words {k} e = ap (λ s. ofSort k (treeAt s 0)) (words-spell e .on []) ∙ ofSort-tree e
 
 -- of two spellings that are one, before any other words: one tree
-spelled-once : {k l : List Word} {t u : Tree} (x y : List Word) → Spells k t → Spells l u → k ++ x ≡ l ++ y → t ≡ u
+spelled-once : {k l : List Word} {t u : Fields} (x y : List Word) → Spells k t → Spells l u → k ++ x ≡ l ++ y → t ≡ u
 spelled-once x y g h e =
     head-eq-of-cons-eq (sym (spells-before g x []) ∙ ap (λ l. treesOf l []) e ∙ spells-before h y [])
 
@@ -39,7 +39,7 @@ spelled-once x y g h e =
 abbrev pub AnyExpr : Type 0
 AnyExpr = (k : Sort) × Expr k
 
-abbrev withSort : Tree → AnyExpr
+abbrev withSort : Fields → AnyExpr
 withSort t = (t .sort, ofSort (t .sort) t)
 
 withSort-tree : {k : Sort} (e : Expr k) → _≡_ {A = AnyExpr} (withSort (tree e)) (k, e)
@@ -61,17 +61,10 @@ same-tree R d e h r = subst (λ (t : AnyExpr). R (t .0) (t .1)) (words-unique d 
 pub expression-unique : {k : Sort} (d e : Expr k) → words d ≡ words e → d ≡ e
 expression-unique {k} d e h = sym (expressionOf-words d) ∙ ap (expressionOf k) h ∙ expressionOf-words e
 
-pub expression-prefix : {k : Sort} (d e : Expr k) (x y : List Word) →
-    words d ++ x ≡ words e ++ y → (d ≡ e) × (x ≡ y)
-expression-prefix {k} d e x y h =
-    let trees = spelled-once x y (words-spell d) (words-spell e) h in
-    let one : d ≡ e = sym (ofSort-tree d) ∙ ap (ofSort k) trees ∙ ofSort-tree e in
-    (one, append-cancel-left (words d) x y (h ∙ ap (λ z. words z ++ y) (sym one)))
-
 pub command-prefix : (c d : Command) (x y : List Word) →
     commandWords c ++ x ≡ commandWords d ++ y → (c ≡ d) × (x ≡ y)
 command-prefix c d x y h =
-    let one : c ≡ d = ap (λ (t : Tree). t .command) (spelled-once x y (command-spells c) (command-spells d) h) in
+    let one : c ≡ d = ap (λ (t : Fields). t .command) (spelled-once x y (command-spells c) (command-spells d) h) in
     (one, append-cancel-left (commandWords c) x y (h ∙ ap (λ z. commandWords z ++ y) (sym one)))
 
 pub command-unique : (c d : Command) → commandWords c ≡ commandWords d → c ≡ d

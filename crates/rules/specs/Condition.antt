@@ -15,7 +15,7 @@ use Rattle.language.specs.Syntax.{Command, skip, sequence, assert, assign, ifEl
 use Rattle.rules.specs.Assertion.{Member, Members}
 use Rattle.rules.specs.Context.{Context}
 use Rattle.rules.specs.Implies.{distinct}
-use Rattle.rules.specs.Tests.{table}
+use Rattle.rules.specs.Tests.{truthTable}
 
 pub data Result : Type 0 where
   passes fails tooLarge : Result
@@ -30,11 +30,11 @@ passes then r = r
 fails then r = fails
 tooLarge then r = tooLarge
 
--- the table is made only where the comparisons are few enough
+-- the truth table is made only where the comparisons are few enough
 unfoldable pub implication : Context → Expr Boolean → Expr Boolean → Result
 implication Γ φ ψ =
     elim (leb (length (distinct φ ψ)) (Γ .limits .comparisons)) [
-      | true ↦ test (table (distinct φ ψ) φ ψ)
+      | true ↦ test (truthTable (distinct φ ψ) φ ψ)
       | false ↦ tooLarge
     ]
 

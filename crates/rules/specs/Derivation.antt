@@ -16,7 +16,7 @@ use Rattle.rules.specs.Words.{commandWords}
 use Rattle.rules.specs.Assertion.{Members, member, one}
 use Rattle.rules.specs.Context.{Context}
 use Rattle.rules.specs.Replace.{replacement, replace, replaceMembers}
-use Rattle.rules.specs.Sets.{SameAntecedent, SameConsequent, Stands, Within, Same, under, without, operands}
+use Rattle.rules.specs.Sets.{SameAntecedent, SameConsequent, StandsIn, Within, Same, under, without, operands}
 use Rattle.rules.specs.Sets.{setIdentifiers, Unmodified}
 use Rattle.rules.specs.Implies.{Implies, EachImpliesFalse}
 use Rattle.rules.specs.Evidence.{FlowEvidence, SetEvidence, PreEvidence, by, assertion, command, members, child}
@@ -130,7 +130,7 @@ pub data Flow (Γ : Context) : FlowEvidence → Members → Command → Members 
       Flow Γ k s c s′ → Necessary Γ n φ c φ′ → Flow Γ (by flow12 i (members s & members s′ & assertion φ & assertion φ′ & child k & child n & done)) p c q
   -- 13 while: P same as Q; true ⇒ B stands in P; (P, C1, Q)
   rule-13 : {i : ℕ} {p q : Members} {b : Expr Boolean} {c₁ : Command} {k : FlowEvidence} →
-      Same p q → Stands (member (truth true) b) p → Flow Γ k p c₁ q → Flow Γ (by flow13 i (child k & done)) p (while b c₁) q
+      Same p q → StandsIn (member (truth true) b) p → Flow Γ k p c₁ q → Flow Γ (by flow13 i (child k & done)) p (while b c₁) q
   -- 14 for; carries the command D that the `for` means; (P, D, Q)
   rule-14 : {i v m : ℕ} {p q : Members} {c₁ d : Command} {k : FlowEvidence} →
       commandWords d ≡ commandWords (meaning v m c₁) → Flow Γ k p d q → Flow Γ (by flow14 i (command d & child k & done)) p (for v m c₁) q

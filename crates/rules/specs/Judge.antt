@@ -3,7 +3,7 @@
 -- Trusted. Assumes nothing.
 --     Verdict                         accepted, with a count of evidence words; or refused, with number and place
 --     _also_                          children in order
---     Step, misfit, leaf              what a rule comes to: its conditions' result, and its children's verdict
+--     RuleStep, misfit, childless     what a rule comes to: its conditions' result, and its children's verdict
 --     oneMore, judgeWord              an evidence word by what its rule comes to: the one place of 8 and 9
 --     Judge, GivenItem, GivenItems    how evidence is judged against a goal; what a rule is given of its parts
 --     Takes, applied                  a rule as what takes these one after the other
@@ -43,16 +43,16 @@ accepted m also accepted n = accepted (m + n)
 accepted m also refused k i = refused k i
 refused k i also v = refused k i
 
-pub data Step : Type 0 where
-  step : Result → Verdict → Step
+pub data RuleStep : Type 0 where
+  step : Result → Verdict → RuleStep
 
 -- the command or a set does not have the form that the rule asks for
-abbrev pub misfit : Step
+abbrev pub misfit : RuleStep
 misfit = step fails (accepted 0)
 
 -- a rule with no children
-abbrev pub leaf : Result → Step
-leaf r = step r (accepted 0)
+abbrev pub childless : Result → RuleStep
+childless r = step r (accepted 0)
 
 -- the count with one word more
 unfoldable pub oneMore : Verdict → Verdict
@@ -60,7 +60,7 @@ oneMore (accepted n) = accepted (suc n)
 oneMore (refused k i) = refused k i
 
 -- an evidence word at place i
-unfoldable pub judgeWord : ℕ → Step → Verdict
+unfoldable pub judgeWord : ℕ → RuleStep → Verdict
 judgeWord i (step passes v) = oneMore v
 judgeWord i (step fails v) = refused 8 i
 judgeWord i (step tooLarge v) = refused 9 i
@@ -96,51 +96,51 @@ Given (item x) = GivenItem x
 Given (items l) = GivenItems l
 
 unfoldable pub preRule :
-    Context → {n : ℕ} {l : List Item} → Rule evidence.precondition n l → Takes l (Expr Boolean → Command → Expr Boolean → Step)
+    Context → {n : ℕ} {l : List Item} → Rule evidence.precondition n l → Takes l (Expr Boolean → Command → Expr Boolean → RuleStep)
 preRule Γ pre20 = λ φ₁ φ₂ k l φ c φ′. onIf c misfit λ b c₁ c₂.
     step (test (sameAntecedent φ (or (and φ₁ b) (and φ₂ (neg b)))))
     (k φ₁ c₁ φ′ also l φ₂ c₂ φ′)
 preRule Γ pre21 = λ φ₀ k φ c φ′. onWhile c misfit λ b c₁.
     step (implication Γ (and φ₀ b) φ then implication Γ (and φ′ (neg b)) φ) (k φ₀ c₁ φ)
-preRule Γ pre22 = λ φ c φ′. onSkip c misfit (leaf (test (sameAntecedent φ φ′)))
+preRule Γ pre22 = λ φ c φ′. onSkip c misfit (childless (test (sameAntecedent φ φ′)))
 preRule Γ pre23 = λ φ₁ k l φ c φ′. onSequence c misfit λ c₁ c₂.
     step passes (k φ c₁ φ₁ also l φ₁ c₂ φ′)
 preRule Γ pre24 = λ φ c φ′. onScalar c misfit λ x e.
-    leaf (test (sameAntecedent φ (replace φ′ (replacement (toScalar x e)))))
+    childless (test (sameAntecedent φ (replace φ′ (replacement (toScalar x e)))))
 preRule Γ pre25 = λ φ c φ′. onArray c misfit λ a e.
-    leaf (test (sameAntecedent φ (replace φ′ (replacement (toArray a e)))))
-preRule Γ pre26 = λ φ c φ′. onAssert c misfit λ b. leaf (test (sameAntecedent φ (and φ′ b)))
-preRule Γ pre27 = λ φ c φ′. leaf (test (sameAntecedent φ φ′) then test (unmodified (identifiers φ) c))
+    childless (test (sameAntecedent φ (replace φ′ (replacement (toArray a e)))))
+preRule Γ pre26 = λ φ c φ′. onAssert c misfit λ b. childless (test (sameAntecedent φ (and φ′ b)))
+preRule Γ pre27 = λ φ c φ′. childless (test (sameAntecedent φ φ′) then test (unmodified (identifiers φ) c))
 preRule Γ pre28 = λ φ₁ k φ c φ′. step (implication Γ φ₁ φ) (k φ₁ c φ′)
-preRule Γ pre29 = λ φ c φ′. leaf (test (sameAntecedent φ (truth true)))
+preRule Γ pre29 = λ φ c φ′. childless (test (sameAntecedent φ (truth true)))
 preRule Γ pre30 = λ d k φ c φ′. onFor c misfit λ q m c₁.
     step (test (sameWords (commandWords d) (commandWords (meaning q m c₁)))) (k φ d φ′)
 
-unfoldable pub setRule : Context → {n : ℕ} {l : List Item} → Rule evidence.implication n l → Takes l (Members → Members → Step)
-setRule Γ set13 = λ p q. leaf (test (within q p))
-setRule Γ set14 = λ p q. onEmpty p misfit (leaf (eachImpliesFalse Γ q))
+unfoldable pub setRule : Context → {n : ℕ} {l : List Item} → Rule evidence.implication n l → Takes l (Members → Members → RuleStep)
+setRule Γ set13 = λ p q. childless (test (within q p))
+setRule Γ set14 = λ p q. onEmpty p misfit (childless (eachImpliesFalse Γ q))
 setRule Γ set15 = λ p q. onEmpty p misfit (onOne q misfit λ n.
-    leaf (test (isEmpty (identifiers (n .consequent)))))
+    childless (test (isEmpty (identifiers (n .consequent)))))
 setRule Γ set16 = λ s s′ t t′ k l p q.
     step (test (same p (s ++ t)) then test (same q (s′ ++ t′))) (k s s′ also l t t′)
 setRule Γ set17 = λ s s′ t k l p q.
     step (test (same p (without t s′ ++ s))) (k s s′ also l t q)
 setRule Γ set18 = λ p q. onOne p misfit λ m. onOne q misfit λ n.
-    leaf (test (sameConsequent (m .consequent) (n .consequent))
+    childless (test (sameConsequent (m .consequent) (n .consequent))
     then implication Γ (n .antecedent) (m .antecedent))
 setRule Γ set19 = λ p q. onOne q misfit λ n.
-    onSome (operands (n .antecedent) (n .consequent)) misfit λ r. leaf (test (same p r))
+    onSome (operands (n .antecedent) (n .consequent)) misfit λ r. childless (test (same p r))
 
 unfoldable pub flowRule :
-    Context → {n : ℕ} {l : List Item} → Rule evidence.flow n l → Takes l (Members → Command → Members → Step)
-flowRule Γ flow1 = λ p c q. onSkip c misfit (leaf (test (same p q)))
+    Context → {n : ℕ} {l : List Item} → Rule evidence.flow n l → Takes l (Members → Command → Members → RuleStep)
+flowRule Γ flow1 = λ p c q. onSkip c misfit (childless (test (same p q)))
 flowRule Γ flow2 = λ m k l p c q. onSequence c misfit λ c₁ c₂.
     step passes (k p c₁ m also l m c₂ q)
 flowRule Γ flow3 = λ p c q. onScalar c misfit λ x e.
-    leaf (test (same p (replaceMembers q (replacement (toScalar x e)))))
+    childless (test (same p (replaceMembers q (replacement (toScalar x e)))))
 flowRule Γ flow4 = λ p c q. onArray c misfit λ a e.
-    leaf (test (same p (replaceMembers q (replacement (toArray a e)))))
-flowRule Γ flow5 = λ p c q. onAssert c misfit λ b. leaf (test (same p (under q b)))
+    childless (test (same p (replaceMembers q (replacement (toArray a e)))))
+flowRule Γ flow5 = λ p c q. onAssert c misfit λ b. childless (test (same p (under q b)))
 flowRule Γ flow6 = λ s t φ₀ k l n p c q. onIf c misfit λ b c₁ c₂. onOne q misfit λ m.
     step (test (same p (under s b ++ (under t (neg b) ++ one φ₀ b))))
     (k s c₁ q also l t c₂ q also n φ₀ c (m .antecedent))
@@ -149,7 +149,7 @@ flowRule Γ flow8 = λ m k n p c q. step passes (k p c m also n m q)
 flowRule Γ flow9 = λ s s′ t t′ k l p c q.
     step (test (same p (s ++ t)) then test (same q (s′ ++ t′)))
     (k s c s′ also l t c t′)
-flowRule Γ flow10 = λ p c q. leaf (test (same p q) then test (unmodified (setIdentifiers q) c))
+flowRule Γ flow10 = λ p c q. childless (test (same p q) then test (unmodified (setIdentifiers q) c))
 flowRule Γ flow11 = λ n p c q. onOne p misfit λ m. onOne q misfit λ m′.
     step
     (test (sameConsequent (m .consequent) (m′ .consequent)) then test (unmodified (identifiers (m .consequent)) c))

@@ -2,7 +2,7 @@
 -- Trusted. Assumes nothing.
 --     SameAntecedent, SameConsequent    antecedents and assertions compared; consequents compared
 --     SameMember                        members compared: both
---     Stands, Within, Same              a member stands in a set; each of a set does; two sets are the same
+--     StandsIn, Within, Same            a member stands in a set; each of a set does; two sets are the same
 --     under                             a set under B
 --     listed, without                   a member is listed, by words; T without S' (rule 17)
 --     operands                          φ ⇒ each operand (rule 19)
@@ -29,13 +29,13 @@ pub record SameMember (m n : Member) : Type 0 where
   pub antecedents : SameAntecedent (m .antecedent) (n .antecedent)
   pub consequents : SameConsequent (m .consequent) (n .consequent)
 
-pub data Stands (m : Member) : Members → Type 0 where
-  stands-here : {n : Member} {p : Members} → SameMember m n → Stands m (n ∷ p)
-  stands-later : {n : Member} {p : Members} → Stands m p → Stands m (n ∷ p)
+pub data StandsIn (m : Member) : Members → Type 0 where
+  stands-here : {n : Member} {p : Members} → SameMember m n → StandsIn m (n ∷ p)
+  stands-later : {n : Member} {p : Members} → StandsIn m p → StandsIn m (n ∷ p)
 
 abbrev pub Within : Members → Members → Type 0
 Within [] q = Unit {0}
-Within (m ∷ p) q = Stands m q × Within p q
+Within (m ∷ p) q = StandsIn m q × Within p q
 
 -- each member of one stands in the other
 pub record Same (p q : Members) : Type 0 where

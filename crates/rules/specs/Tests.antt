@@ -2,11 +2,11 @@
 -- Working: `same-decides`, `stands-decides`, `within-decides`, `unmodified-decides`, `isEmpty-decides`,
 -- `sameAntecedent-decides` and `sameConsequent-decides` of proofs/Decides and `table-decides` of proofs/Table say that each
 -- test decides its statement.
---     sameAntecedent, sameConsequent, sameMember              of `Sets`
---     stands, within, same                                    of `Sets`
---     unmodified, isEmpty                                     no identifier is modified; there is none
---     given, every                                            a list of values as an assignment; every such list
---     table                                                   every assignment to the listed comparisons is tried
+--     sameAntecedent, sameConsequent, sameMember    of `Sets`
+--     stands, within, same                          of `Sets`
+--     unmodified, isEmpty                           no identifier is modified; there is none
+--     assignmentOf, every                           a list of values as an assignment; every such list
+--     truthTable                                    every assignment to the listed comparisons is tried
 use mathlib.Core.Bool.{Bool, true, false, not, _&&_, _||_, cond}
 use mathlib.Core.List.{List, [], _∷_}
 use Prim.Native.Nat.{ℕ, zero, suc}
@@ -46,15 +46,15 @@ isEmpty [] = true
 isEmpty (x ∷ l) = false
 
 -- an assignment written as a list of values for the listed comparisons
-abbrev pub given : List (List Word) → List Bool → List Word → Bool
-given [] v w = false
-given (c ∷ l) [] w = false
-given (c ∷ l) (t ∷ v) w = cond (sameWords c w) t (given l v w)
+abbrev pub assignmentOf : List (List Word) → List Bool → List Word → Bool
+assignmentOf [] v w = false
+assignmentOf (c ∷ l) [] w = false
+assignmentOf (c ∷ l) (t ∷ v) w = cond (sameWords c w) t (assignmentOf l v w)
 
 -- a test of every list of n values
 unfoldable pub every : ℕ → (List Bool → Bool) → Bool
 every zero f = f []
 every (suc n) f = every n (λ v. f (true ∷ v)) && every n (λ v. f (false ∷ v))
 
-unfoldable pub table : List (List Word) → Expr Boolean → Expr Boolean → Bool
-table l φ ψ = every (length l) (λ v. not (truthUnder φ (given l v)) || truthUnder ψ (given l v))
+unfoldable pub truthTable : List (List Word) → Expr Boolean → Expr Boolean → Bool
+truthTable l φ ψ = every (length l) (λ v. not (truthUnder φ (assignmentOf l v)) || truthUnder ψ (assignmentOf l v))

@@ -13,7 +13,7 @@ use Rattle.language.specs.Syntax.{skip, sequence, assert, assign, ifElse, while
 use Rattle.language.specs.Runs.{start, increment}
 use Rattle.rules.specs.Words.{words, commandWords}
 use Rattle.execution.specs.Lent.{Lent, storeOf}
-use Rattle.execution.specs.Evaluate.{Outcome, worked, stops, evaluate}
+use Rattle.execution.specs.Evaluate.{Evaluation, worked, stops, evaluate}
 use Rattle.execution.specs.Run.{End, ended, stopped, onEnded, step, given, assigns, turns, run}
 use Rattle.run.specs.Turns.{loopBody}
 
@@ -31,7 +31,7 @@ module _ (b : ℕ) where
   ended-bounded n (ended l m) f x g = bounded-up x (f l m) (g l m)
   ended-bounded n (stopped k p l m) f x g = x
 
-  step-bounded : {A : Type 0} (at n : ℕ) (m : Lent) (o : Outcome A) (f : A → ℕ → End) → at < b →
+  step-bounded : {A : Type 0} (at n : ℕ) (m : Lent) (o : Evaluation A) (f : A → ℕ → End) → at < b →
       ((v : A) (l : ℕ) → l < n → Bounded b n (f v l)) → Bounded b n (step at n m o f)
   step-bounded at zero m o f i g = (omega arith, i)
   step-bounded at (suc n) m (worked v) f i g = g v n (omega arith)

@@ -1,13 +1,13 @@
 -- One step, as the code takes it and as the definition has it.
 -- Assumes nothing.
---     stepped-none, stepped-one, stepped-held     a step by the progress of the run
---     running, step-taken, step-refused           what the definition's step comes to
---     given-step                                  an assignment's step
---     left-kept, due                              after operands were worked out
---     ended-on, stopped-on                        going on from an end
---     stepped-skip, stores                        skip; a step that gives the store a value
---     asserts-true, asserts-false, asserts-not    an assertion
---     scalar-stored, scalar-kept, array-stored, array-kept      an assignment
+--     stepped-none, stepped-one, stepped-held                 a step by the progress of the run
+--     running, step-taken, step-refused                       what the definition's step comes to
+--     given-step                                              an assignment's step
+--     left-kept, due                                          after operands were worked out
+--     ended-on, stopped-on                                    going on from an end
+--     stepped-skip, stores                                    skip; a step that gives the store a value
+--     asserts-true, asserts-false, asserts-not                an assertion
+--     scalar-stored, scalar-kept, array-stored, array-kept    an assignment
 use mathlib.Core.Path.{_≡_, refl, sym, ap, ap₂, _∙_}
 use mathlib.Core.Bool.{Bool, true, false, cond}
 use mathlib.Core.List.{List, [], _∷_}
@@ -19,7 +19,7 @@ use lib.Seq.{paste, getD-drop}
 use mir.Syntax.{w64}
 use mir.Val.{SFits, toZ, ofZ}
 use Rattle.execution.specs.Lent.{Lent, lent}
-use Rattle.execution.specs.Evaluate.{Outcome, worked, stops, onWorked}
+use Rattle.execution.specs.Evaluate.{Evaluation, worked, stops, onWorked}
 use Rattle.execution.specs.Run.{End, ended, stopped, onEnded, step}
 use Rattle.arithmetic.proofs.Signed.{back}
 use Rattle.evaluate.specs.Evaluated.{number, answer, after, Answered}
@@ -100,18 +100,18 @@ stepped-skip {at} {s} {s′} false m e h =
     step-refused at m m (λ m′ l. ended l m′) h ∙ ap (λ k. step at (stepsLeft s) m (answer m k) λ m′ l. ended l m′) e
 
 -- an assignment's step, by the value
-pub given-step : {A : Type 0} (at n : ℕ) (m : Lent) (o : Outcome A) (g : A → Lent) →
+pub given-step : {A : Type 0} (at n : ℕ) (m : Lent) (o : Evaluation A) (g : A → Lent) →
     (step at n m o λ v l. ended l (g v)) ≡ step at n m (onWorked o λ v. worked (g v)) λ m′ l. ended l m′
 given-step at zero m o g = refl
 given-step at (suc n) m (worked v) g = refl
 given-step at (suc n) m (stops k) g = refl
 
 -- ---- operands change the refusal alone
-module _ {A : Type 0} {s s₁ : List ℕ} {o : Outcome A} {v : A} (h : Answered s o v s₁) where
+module _ {A : Type 0} {s s₁ : List ℕ} {o : Evaluation A} {v : A} (h : Answered s o v s₁) where
   pub left-kept : stepsLeft s₁ ≡ stepsLeft s
   left-kept = sym (getD-drop 1 s₁ 0 0) ∙ ap (λ l. getD l 0 0) (h .kept) ∙ getD-drop 1 s 0 0
 
-  pub due : number s ≡ 0 → {B : Type 0} (f : ℕ → Outcome A → B) → f (stepsLeft s₁) (answer v (number s₁)) ≡ f (stepsLeft s) o
+  pub due : number s ≡ 0 → {B : Type 0} (f : ℕ → Evaluation A → B) → f (stepsLeft s₁) (answer v (number s₁)) ≡ f (stepsLeft s) o
   due e f = ap₂ f left-kept (h .is ∙ ap (λ k. after k o) e)
 
 -- ---- an assertion

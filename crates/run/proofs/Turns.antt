@@ -1,9 +1,9 @@
 -- Turns one after the other, by one turn and what follows it.
 -- Assumes nothing.
---     turns-again, turns-over    the definition's turns, where one more is due, and where none is
---     turn-less                  a turn takes a step
---     Going                      what a loop has done so far
---     falls                      the steps left fall
+--     turns-again, turns-over             the definition's turns, where one more is due, and where none is
+--     turn-less                           a turn takes a step
+--     LoopGoing                           what a loop has done so far
+--     falls                               the steps left fall
 --     going-none, going-on, going-over    its turns
 use mathlib.Core.Path.{_≡_, refl, sym, ap, _∙_}
 use mathlib.Core.Bool.{Bool, true, false}
@@ -16,7 +16,7 @@ use Rattle.language.specs.Syntax.{Expr}
 use Rattle.rules.specs.Words.{commandWords}
 use Rattle.layout.specs.EvidenceWords.{commandPart}
 use Rattle.execution.specs.Lent.{Lent, storeOf}
-use Rattle.execution.specs.Evaluate.{Outcome, worked, stops, evaluate}
+use Rattle.execution.specs.Evaluate.{Evaluation, worked, stops, evaluate}
 use Rattle.execution.specs.Run as definition
 use Rattle.execution.specs.Run.{ended, stopped, onEnded, step, turns}
 use Rattle.heads.specs.Stands.{PartAt, CommandStands}
@@ -39,7 +39,7 @@ go-on (ended n m) f = refl
 go-on (stopped k p n m) f = refl
 
 module _ (b : Expr syntax.Boolean) (body : ℕ → Lent → definition.End) (at : ℕ) where
-  turn-step : (k n : ℕ) (m : Lent) (o : Outcome Bool) →
+  turn-step : (k n : ℕ) (m : Lent) (o : Evaluation Bool) →
       (step at n m o λ v l. elim v [ true ↦ onEnded (body l m) (turns k b body at) | false ↦ ended l m ])
       ≡ afterTurn (turnBy at n o m body) (turns k b body at)
   turn-step k zero m o = refl
@@ -58,7 +58,7 @@ module _ (b : Expr syntax.Boolean) (body : ℕ → Lent → definition.End) (at 
     same-after k j l (ended n m) h x y f = f n m (omega arith) (omega arith)
     same-after k j l (stopped i p n m) h x y f = refl
 
-    same-step : (k j n : ℕ) (m : Lent) (o : Outcome Bool) → n ≤ suc k → n ≤ suc j →
+    same-step : (k j n : ℕ) (m : Lent) (o : Evaluation Bool) → n ≤ suc k → n ≤ suc j →
         ((n : ℕ) (m : Lent) → n ≤ k → n ≤ j → turns k b body at n m ≡ turns j b body at n m) →
         (step at n m o λ v l. elim v [ true ↦ onEnded (body l m) (turns k b body at) | false ↦ ended l m ])
         ≡ step at n m o λ v l. elim v [ true ↦ onEnded (body l m) (turns j b body at) | false ↦ ended l m ]
@@ -83,7 +83,7 @@ module _ (b : Expr syntax.Boolean) (body : ℕ → Lent → definition.End) (at 
     less-after l (ended i x) h {n} e = let q : n ≡ i = cc in omega arith
     less-after l (stopped k p i x) h e = never (cc)
 
-    less-by : (n : ℕ) (m : Lent) (o : Outcome Bool) {l : ℕ} {m′ : Lent} → again l m′ ≡ turnBy at n o m body →
+    less-by : (n : ℕ) (m : Lent) (o : Evaluation Bool) {l : ℕ} {m′ : Lent} → again l m′ ≡ turnBy at n o m body →
         l < n
     less-by zero m o e = never (cc)
     less-by (suc n) m (worked true) e = let h = less-after n (body n m) (bounded n m) e in omega arith
@@ -107,13 +107,13 @@ module _ (b : Expr syntax.Boolean) (body : ℕ → Lent → definition.End) (at 
   turns-over (suc n) m e = ap (λ y. afterTurn y (turns n b body at)) e ∙ sym (turn-is n (suc n) m)
 
 -- from m₀ with the progress s₀, a loop has come to m with the progress s, and nothing stopped it
-pub record Going (w ends : List ℕ) (at : ℕ) (m₀ : Lent) (s₀ : List ℕ) (m : Lent) (s : List ℕ) : Type 0 where
+pub record LoopGoing (w ends : List ℕ) (at : ℕ) (m₀ : Lent) (s₀ : List ℕ) (m : Lent) (s : List ℕ) : Type 0 where
   pub running : number s ≡ 0
   pub same : (c : syntax.Command) (p : ℕ) → PartAt w ends (commandPart c) at p →
       turns (stepsLeft s₀) (loopTest c) (loopBody c at) at (stepsLeft s₀) m₀
       ≡ turns (stepsLeft s) (loopTest c) (loopBody c at) at (stepsLeft s) m
 
-pub going-none : (w ends : List ℕ) (at : ℕ) (m : Lent) (s : List ℕ) → number s ≡ 0 → Going w ends at m s m s
+pub going-none : (w ends : List ℕ) (at : ℕ) (m : Lent) (s : List ℕ) → number s ≡ 0 → LoopGoing w ends at m s m s
 going-none w ends at m s e = record { running = e; same = λ c p x. refl }
 
 module _ {w ends : List ℕ} {at : ℕ} {m m′ : Lent} {s s′ : List ℕ} {r : Bool} where
@@ -123,8 +123,8 @@ module _ {w ends : List ℕ} {at : ℕ} {m m′ : Lent} {s s′ : List ℕ} {r :
       turn-less (loopTest c) (loopBody c at) at (at + length (commandWords c)) (body-bounded c at) (stepsLeft s) m
       (ap (λ y. turnedAt y s′ m′) (sym e) ∙ f .is c (x .past) (x .there))
 
-  module _ {m₀ : Lent} {s₀ : List ℕ} (g : Going w ends at m₀ s₀ m s) (f : TurnAs w ends at m s r s′ m′) where
-    pub going-on : r ≡ true → Going w ends at m₀ s₀ m′ s′
+  module _ {m₀ : Lent} {s₀ : List ℕ} (g : LoopGoing w ends at m₀ s₀ m s) (f : TurnAs w ends at m s r s′ m′) where
+    pub going-on : r ≡ true → LoopGoing w ends at m₀ s₀ m′ s′
     going-on e = record {
       running = f .running e;
       same = λ c p x.

@@ -2,7 +2,7 @@
 -- Working: `step-taken` and `step-refused` of proofs/Steps tie it to the definition's `step`. Assumes nothing.
 --     stepsLeft, stopPlace         of a run's progress: the steps left, the place where it stopped
 --     endAt                        progress and the store then, as an end of the definition
---     CanStep, Stepped             a step is taken, or not
+--     CanTakeStep, Stepped         a step is taken, or not
 --     Asserts                      an assertion
 --     StoresScalar, StoresArray    an identifier is given what was worked out
 use mathlib.Core.Path.{_≡_}
@@ -31,7 +31,7 @@ endBy (suc k) p n m = stopped (suc k) p n m
 abbrev pub endAt : List ℕ → Lent → definition.End
 endAt s m = endBy (number s) (stopPlace s) (stepsLeft s) m
 
-pub record CanStep (s : List ℕ) (at : ℕ) : Type 0 where
+pub record CanTakeStep (s : List ℕ) (at : ℕ) : Type 0 where
   pub sized : length s ≡ 3
   pub small : at < 8192
 

@@ -20,7 +20,7 @@ use Rattle.language.specs.Runs.{increment}
 use Rattle.rules.specs.Words.{words}
 use Rattle.layout.specs.EvidenceWords.{commandPart}
 use Rattle.execution.specs.Lent.{Lent, lent, storeOf}
-use Rattle.execution.specs.Evaluate.{Outcome, worked, stops, evaluate}
+use Rattle.execution.specs.Evaluate.{Evaluation, worked, stops, evaluate}
 use Rattle.execution.specs.Run as definition
 use Rattle.execution.specs.Run.{ended, stopped, onEnded, assigns, turns, run}
 use Rattle.words.specs.declared.CommandWord.{CommandWord}
@@ -76,7 +76,7 @@ goOn (ended n m) = again n m
 goOn (stopped k p n m) = over (stopped k p n m)
 
 -- by the steps left and the test
-abbrev pub turnBy : ℕ → ℕ → Outcome Bool → Lent → (ℕ → Lent → definition.End) → Turned
+abbrev pub turnBy : ℕ → ℕ → Evaluation Bool → Lent → (ℕ → Lent → definition.End) → Turned
 turnBy at zero o m body = over (stopped 13 at 0 m)
 turnBy at (suc n) (worked true) m body = goOn (body n m)
 turnBy at (suc n) (worked false) m body = over (ended n m)

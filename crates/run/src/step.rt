@@ -9,12 +9,12 @@ use words::CommandWord;
 ghost use Prim.Native.Nat.{_<_};
 ghost use lib.ListN.{length};
 ghost use Rattle.execution.specs.Lent.{lent};
-ghost use Rattle.run.specs.Steps.{CanStep, Stepped, Asserts, StoresScalar, StoresArray};
+ghost use Rattle.run.specs.Steps.{CanTakeStep, Stepped, Asserts, StoresScalar, StoresArray};
 ghost use Rattle.run.specs.Places.{CanRunAt, RunsAs};
 
 // Whether a step is taken: not if none is left, or if working out its operands stopped.
 pub fn take_step(progress: &mut [u32], at: usize) -> bool
-    requires { ⌜ CanStep (now progress) «at» ⌝ }
+    requires { ⌜ CanTakeStep (now progress) «at» ⌝ }
     ensures { λ r. ⌜ Stepped «at» (now (progress .entry)) (now (progress .exit)) r ⌝ }
 {
     if progress[1] == 0 {
@@ -32,7 +32,7 @@ pub fn take_step(progress: &mut [u32], at: usize) -> bool
 
 // Refusal 12: an assertion is false.
 fn assert_step(progress: &mut [u32], test: bool, at: usize)
-    requires { ⌜ CanStep (now progress) «at» ⌝ }
+    requires { ⌜ CanTakeStep (now progress) «at» ⌝ }
     ensures { λ _. ⌜ Asserts (now (progress .entry)) test «at» (now (progress .exit)) ⌝ }
 {
     let left = progress[1];
@@ -48,7 +48,7 @@ fn assert_step(progress: &mut [u32], test: bool, at: usize)
 
 // A scalar is given a value.
 pub fn store_scalar(scalars: &mut [i64], x: usize, v: i64, progress: &mut [u32], at: usize)
-    requires { ⌜ (x < length (now scalars)) × CanStep (now progress) «at» ⌝ }
+    requires { ⌜ (x < length (now scalars)) × CanTakeStep (now progress) «at» ⌝ }
     ensures { λ _. ⌜ StoresScalar (now (scalars .entry)) x v «at» (now (progress .entry)) (now (progress .exit))
         (now (scalars .exit)) ⌝ }
 {
@@ -65,7 +65,7 @@ fn store_array(
     progress: &mut [u32],
     at: usize,
 )
-    requires { ⌜ (a < 32) × CanStep (now progress) «at» ⌝ }
+    requires { ⌜ (a < 32) × CanTakeStep (now progress) «at» ⌝ }
     ensures { λ _. ⌜ StoresArray (now (values .entry)) a (now (scratch .entry)) «at» (now (progress .entry))
         (now (progress .exit)) (now (values .exit)) ⌝ }
 {

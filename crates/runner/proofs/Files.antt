@@ -19,7 +19,7 @@ use Rattle.claims.proofs.Runner.{runner}
 use Rattle.context.specs.Contexts.{contextOf}
 use Rattle.context.specs.declared.Context.{Context}
 use Rattle.context.specs.declared.Refusal.{Refusal}
-use Rattle.heads.specs.Stands.{Loaded, PartAt, CommandStands}
+use Rattle.heads.specs.Stands.{FileInRoom, PartAt, CommandStands}
 use Rattle.reader.specs.declared.Places.{Places}
 use Rattle.reader.specs.declared.Layout.{Layout}
 use Rattle.reader.specs.declared.Layout.the-variants as Layout
@@ -51,7 +51,7 @@ module _ {context : Context} {bytes words table : List ℕ} {r : Layout} (f : Fi
 
   module _ {s : Places} (e : r ≡ Layout.Found s) where
     -- the words in front of the room are the file's
-    loaded : Loaded (take (length bytes / 4) words) words
+    loaded : FileInRoom (take (length bytes / 4) words) words
     loaded =
         let w = file-words f e in
         let n = length-take (length bytes / 4) words in

@@ -27,7 +27,7 @@ use Rattle.evaluate.proofs.Elements.{whole}
 use Rattle.run.specs.Steps.{stepsLeft, stopPlace, endBy, endAt}
 use Rattle.run.specs.Places.{RunsAs}
 use Rattle.run.proofs.Bounds.{Bounded, run-bounded}
-use Rattle.runner.specs.Running.{ranAt, refusedAt, RanFile, CanReport, Reports, CanRunCopied}
+use Rattle.runner.specs.Running.{ranAt, refusedAt, RanFile, CanReport, ReportsEnd, CanRunCopied}
 use Rattle.runner.specs.declared.Answer.the-variants.{Done, Refused}
 use Rattle.runner.specs.declared.Ran.{Ran}
 
@@ -77,7 +77,7 @@ module _ {w ends : List ℕ} (budget : ℕ) (m : Lent) {r : Ran} where
 
 -- ---- a run, by its progress
 pub reports-done : {s : List ℕ} {budget n : ℕ} → number s ≡ 0 → n ≡ stepsLeft s →
-    Reports s budget (record { answer = Done; steps = budget - n })
+    ReportsEnd s budget (record { answer = Done; steps = budget - n })
 reports-done {s} {budget} e h =
     record { is = λ m. ap₂ (λ k n. ranOf budget (endBy k (stopPlace s) n m)) (sym e) h }
 
@@ -87,7 +87,7 @@ by-refusal zero p n budget m h = absurd (h refl)
 by-refusal (suc k) p n budget m h = refl
 
 pub reports-refused : {s : List ℕ} {budget n p : ℕ} → (number s ≡ 0 → ⊥) → n ≡ stepsLeft s → p ≡ stopPlace s →
-    Reports s budget (record { answer = Refused (refusal (number s) p); steps = budget - n })
+    ReportsEnd s budget (record { answer = Refused (refusal (number s) p); steps = budget - n })
 reports-refused {s} {budget} {n} {p} z h i = record {
   is = λ m. by-refusal (number s) p n budget m z ∙ ap₂ (λ p n. ranOf budget (endBy (number s) p n m)) i h;
 }
@@ -111,7 +111,7 @@ module _ {w ends : List ℕ} {m m₁ m₂ : Lent} {budget : ℕ} (c : CanRunCopi
             (subst (Bounded past budget) (sym (came d (c .command .there))) (run-bounded past d 1 budget m (omega arith)));
       }
 
-  pub reported : {r : Ran} {m₃ : Lent} → m₃ ≡ m₂ → Reports s′ budget r → RanFile w ends budget m r m₃
+  pub reported : {r : Ran} {m₃ : Lent} → m₃ ≡ m₂ → ReportsEnd s′ budget r → RanFile w ends budget m r m₃
   reported {r} back g = record {
     is = λ y x.
         ap (ranAt r) back ∙ g .is m₂ ∙ ap (ranOf budget) (came (y .program) x)

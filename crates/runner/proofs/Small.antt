@@ -19,10 +19,10 @@ use Rattle.execution.specs.Lent.{Lent}
 use Rattle.execution.specs.Run.{End, ended, stopped, run}
 use Rattle.execution.specs.Ran as definition
 use Rattle.execution.specs.Ran.{ranOf, runOf}
-use Rattle.execution.proofs.Order.{Judged, not-read, over-budget, ill-sized, is-run, judged}
+use Rattle.execution.proofs.Order.{StepJudged, not-read, over-budget, ill-sized, is-run, judged}
 use Rattle.context.specs.declared.Refusal.{Refusal}
 use Rattle.run.proofs.Bounds.{Bounded, run-bounded}
-use Rattle.runner.specs.Ran.{answerOf, RunOf}
+use Rattle.runner.specs.Ran.{answerMeant, RunOf}
 use Rattle.runner.specs.Packed.{codeOf, packedRan, PackedRun}
 use Rattle.runner.specs.Running.{ranAt, SmallAnswer, SmallRan, CanPack}
 use Rattle.runner.specs.declared.Answer.{Answer}
@@ -55,7 +55,7 @@ ran-small budget (stopped k p n m) l h = record { few = omega arith; near = omeg
 pub small-ran : (Γ : Context) (bytes : List ℕ) (budget : ℕ) (m : Lent) → SmallRan (runOf Γ bytes budget m)
 small-ran Γ bytes budget m = go (judged Γ bytes budget m)
   where
-    go : {r : definition.Ran} → Judged Γ bytes budget m r → SmallRan r
+    go : {r : definition.Ran} → StepJudged Γ bytes budget m r → SmallRan r
     go (not-read e) = record { few = omega arith; near = subst (FaultBy 8192) e (file-fault Γ bytes) .1 }
     go (over-budget e l) = record { few = omega arith; near = omega arith }
     go (ill-sized e l h) = record { few = omega arith; near = omega arith }
@@ -80,18 +80,18 @@ module _ {bytes : List ℕ} {budget : ℕ} {m m′ : Lent} {r : Ran} (f : RunOf 
   }
 
 -- the code's number
-packs : (s : ℕ) {a b : Answer} → a ≡ b → s * 4294967296 + codeOf (answerOf b) ≡ s * 4294967296 + codeOf (answerOf a)
-packs s e = ap (λ a. s * 4294967296 + codeOf (answerOf a)) (sym e)
+packs : (s : ℕ) {a b : Answer} → a ≡ b → s * 4294967296 + codeOf (answerMeant b) ≡ s * 4294967296 + codeOf (answerMeant a)
+packs s e = ap (λ a. s * 4294967296 + codeOf (answerMeant a)) (sym e)
 
-pub packs-done : (s : ℕ) {a : Answer} → a ≡ Done → s * 4294967296 ≡ s * 4294967296 + codeOf (answerOf a)
+pub packs-done : (s : ℕ) {a : Answer} → a ≡ Done → s * 4294967296 ≡ s * 4294967296 + codeOf (answerMeant a)
 packs-done s e = more (s * 4294967296) ∙ packs s e
   where
     more : (n : ℕ) → n ≡ n + 0
     more n = omega arith
 
 pub packs-refused : (s : ℕ) {a : Answer} {x : Refusal} → a ≡ Refused x →
-    s * 4294967296 + (x .number * 65536 + x .place) ≡ s * 4294967296 + codeOf (answerOf a)
+    s * 4294967296 + (x .number * 65536 + x .place) ≡ s * 4294967296 + codeOf (answerMeant a)
 packs-refused s e = packs s e
 
-pub refused-near : {a : Answer} {x : Refusal} → SmallAnswer (answerOf a) → a ≡ Refused x → x .place ≤ 8192
-refused-near h e = subst (λ a. SmallAnswer (answerOf a)) e h
+pub refused-near : {a : Answer} {x : Refusal} → SmallAnswer (answerMeant a) → a ≡ Refused x → x .place ≤ 8192
+refused-near h e = subst (λ a. SmallAnswer (answerMeant a)) e h

@@ -1,8 +1,8 @@
 -- What the runner promises (document 01, "Runner" and "Judging order" 1 to 7 and 10 to 15): the answer, the steps
 -- finished and the store afterwards are those of the definition, and demand 2 holds of the definition there.
 -- Trusted. Assumes nothing.
---     answerOf    the code's answer, as the definition's
---     RunOf       from the lent store m, the answer r and the store m′
+--     answerMeant    the code's answer, as the definition's
+--     RunOf          from the lent store m, the answer r and the store m′
 use mathlib.Core.Path.{_≡_}
 use mathlib.Core.List.{List}
 use Prim.Native.Nat.{ℕ}
@@ -15,12 +15,12 @@ use Rattle.runner.specs.declared.Answer.{Answer}
 use Rattle.runner.specs.declared.Answer.the-variants.{Done, Refused}
 use Rattle.runner.specs.declared.Ran.{Ran}
 
-abbrev pub answerOf : Answer → definition.Answer
-answerOf Done = done
-answerOf (Refused x) = refused (x .number) (x .place)
+abbrev pub answerMeant : Answer → definition.Answer
+answerMeant Done = done
+answerMeant (Refused x) = refused (x .number) (x .place)
 
 pub record RunOf (bytes : List ℕ) (budget : ℕ) (m : Lent) (r : Ran) (m′ : Lent) : Type 0 where
-  pub answer : answerOf (r .answer) ≡ (runOf standard bytes budget m) .answer
+  pub answer : answerMeant (r .answer) ≡ (runOf standard bytes budget m) .answer
   pub steps : r .steps ≡ (runOf standard bytes budget m) .steps
   pub scalars-left : m′ .scalars ≡ (runOf standard bytes budget m) .store .scalars
   pub values-left : m′ .values ≡ (runOf standard bytes budget m) .store .values

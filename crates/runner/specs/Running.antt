@@ -1,12 +1,12 @@
 -- The runner over words, from refusal 1 to the run.
 -- Working: `run-of` of proofs/Files and `packed-run` of proofs/Small tie it to the definition's `runOf`. Assumes
 -- nothing.
---     ranAt, refusedAt            the code's answer and the store then, as the definition's; a refusal before the run
---     ranBy, RanBy                by what reading gives; what the functions promise
---     RanFile                     what a run of words comes to
---     CanReport, Reports          a run, by its progress
---     CanRunCopied                a run that refusals 10 and 11 let pass
---     SmallRan, CanPack           an answer that can be packed
+--     ranAt, refusedAt         the code's answer and the store then, as the definition's; a refusal before the run
+--     ranBy, RanBy             by what reading gives; what the functions promise
+--     RanFile                  what a run of words comes to
+--     CanReport, ReportsEnd    a run, by its progress
+--     CanRunCopied             a run that refusals 10 and 11 let pass
+--     SmallRan, CanPack        an answer that can be packed
 use mathlib.Core.Path.{_≡_}
 use mathlib.Core.List.{List}
 use Prim.Native.Nat.{ℕ, _≤_}
@@ -20,12 +20,12 @@ use Rattle.execution.specs.Ran.{notRun, ranOf, runFile}
 use Rattle.context.specs.Contexts.{refusal}
 use Rattle.heads.specs.Stands.{PartAt, CommandStands}
 use Rattle.run.specs.Steps.{stepsLeft, endAt}
-use Rattle.runner.specs.Ran.{answerOf}
+use Rattle.runner.specs.Ran.{answerMeant}
 use Rattle.runner.specs.declared.Answer.the-variants.{Refused}
 use Rattle.runner.specs.declared.Ran.{Ran}
 
 abbrev pub ranAt : Ran → Lent → definition.Ran
-ranAt r m = record { answer = answerOf (r .answer); steps = r .steps; store = m }
+ranAt r m = record { answer = answerMeant (r .answer); steps = r .steps; store = m }
 
 abbrev pub refusedAt : ℕ → ℕ → Ran
 refusedAt k p = record { answer = Refused (refusal k p); steps = 0 }
@@ -45,7 +45,7 @@ pub record RanFile (w ends : List ℕ) (budget : ℕ) (m : Lent) (r : Ran) (m′
 pub record CanReport (s : List ℕ) (budget : ℕ) : Type 0 where
   pub within : stepsLeft s ≤ budget
 
-pub record Reports (s : List ℕ) (budget : ℕ) (r : Ran) : Type 0 where
+pub record ReportsEnd (s : List ℕ) (budget : ℕ) (r : Ran) : Type 0 where
   pub is : (m : Lent) → ranAt r m ≡ ranOf budget (endAt s m)
 
 -- 10 and 11 are not due
@@ -66,4 +66,4 @@ pub record SmallRan (r : definition.Ran) : Type 0 where
 
 pub record CanPack (r : Ran) : Type 0 where
   pub few : r .steps ≤ 1000000
-  pub near : SmallAnswer (answerOf (r .answer))
+  pub near : SmallAnswer (answerMeant (r .answer))

@@ -8,12 +8,13 @@ use evaluate::store::copy;
 use file::read_file;
 use reader::Layout;
 use run::command::run_command;
+use words::numbers::wide;
 ghost use mathlib.Core.Path.{_≡_};
 ghost use Rattle.layout.specs.File.{fileOf};
 ghost use Rattle.context.specs.Contexts.{contextOf};
 ghost use Rattle.execution.specs.Lent.{lent};
 ghost use Rattle.heads.specs.Stands.{CommandStands};
-ghost use Rattle.runner.specs.Running.{refusedAt, CanReport, Reports, CanRunCopied, RanFile, RanBy};
+ghost use Rattle.runner.specs.Running.{refusedAt, CanReport, ReportsEnd, CanRunCopied, RanFile, RanBy};
 
 // A refusal before the run: no step is finished.
 fn refused(number: u32, place: usize) -> Ran
@@ -25,16 +26,10 @@ fn refused(number: u32, place: usize) -> Ran
     }
 }
 
-fn wide(x: u32) -> usize
-    ensures { λ r. ⌜ r ≡ x ⌝ }
-{
-    x as usize
-}
-
 // What a run on a budget came to.
 fn report(progress: &Progress, budget: usize) -> Ran
     requires { ⌜ CanReport (now progress) budget ⌝ }
-    ensures { λ r. ⌜ Reports (now (progress .entry)) budget r ⌝ }
+    ensures { λ r. ⌜ ReportsEnd (now (progress .entry)) budget r ⌝ }
 {
     let number = progress[0];
     let left = wide(progress[1]);

@@ -1,7 +1,7 @@
 -- In a file that was read each word of kind 31 is the first of a `for` that stands there, of program or evidence.
 -- Assumes nothing.
---     ForAt, Fors    a `for` stands at a place; at each word of kind 31 between two places one does
---     file-fors      the law
+--     ForStands, Fors    a `for` stands at a place; at each word of kind 31 between two places one does
+--     file-fors          the law
 use mathlib.Core.Path.{_≡_, sym, ap, subst, _∙_}
 use mathlib.Core.List.{List, [], _∷_, map}
 use mathlib.Core.Logic.{inl, inr}
@@ -30,7 +30,7 @@ use Rattle.scan.specs.Steady.{WholeFile}
 
 -- of a file in which at most n levels are left
 module _ (file : List ℕ) (n : ℕ) where
-  pub record ForAt (at : ℕ) : Type 0 where
+  pub record ForStands (at : ℕ) : Type 0 where
     pub q : ℕ
     pub m : ℕ
     pub body : Command
@@ -40,7 +40,7 @@ module _ (file : List ℕ) (n : ℕ) where
     pub stands : PartStands file (commandPart (for q m body)) (suc levels) at past
 
   pub record Fors (at p : ℕ) : Type 0 where
-    pub each : (j : ℕ) → at ≤ j → j < p → kindAt file j ≡ 31 → ForAt j
+    pub each : (j : ℕ) → at ≤ j → j < p → kindAt file j ≡ 31 → ForStands j
 
   ended : {at p : ℕ} → at ≡ p → Fors at p
   ended e = record { each = λ j l k h. absurd (omega arith) }
@@ -50,15 +50,15 @@ module _ (file : List ℕ) (n : ℕ) where
     each = λ j l k h. elim (lt-or-le j q) [ inl i ↦ f .each j l i h | inr i ↦ g .each j i k h ];
   }
 
-  first : {at p : ℕ} → (kindAt file at ≡ 31 → ForAt at) → Fors (at + 1) p → Fors at p
+  first : {at p : ℕ} → (kindAt file at ≡ 31 → ForStands at) → Fors (at + 1) p → Fors at p
   first {at} f g = record {
     each = λ j l k h. elim (eq-or-lt-of-le l) [
-      | inl e ↦ subst ForAt e (f (ap (kindAt file) e ∙ h))
+      | inl e ↦ subst ForStands e (f (ap (kindAt file) e ∙ h))
       | inr i ↦ g .each j (omega arith) k h
     ];
   }
 
-  for-at : (d : ℕ) {x : Node} {at p : ℕ} → suc d ≤ n → Form 31 x → PartStands file (nodePart x) (suc d) at p → ForAt at
+  for-at : (d : ℕ) {x : Node} {at p : ℕ} → suc d ≤ n → Form 31 x → PartStands file (nodePart x) (suc d) at p → ForStands at
   for-at d l (form-expression h) s = absurd (omega arith)
   for-at d {p = p} l (form-for {q} {m} {c}) s =
       record { q = q; m = m; body = c; levels = d; past = p; within = l; stands = s }
@@ -94,7 +94,7 @@ module _ (file : List ℕ) (n : ℕ) where
 
 module _ (Γ : Context) (file : List ℕ) (h : WholeFile Γ file) where
   -- word 0 is 63:n
-  not-first : kindAt file 0 ≡ 31 → ForAt file (Γ .limits .depth) 0
+  not-first : kindAt file 0 ≡ 31 → ForStands file (Γ .limits .depth) 0
   not-first e = absurd (go (numberAt file 0) (wordCount file) (h .first) e)
     where
       go : (x n : ℕ) → x ≡ 63 * payloads + n → x / payloads ≡ 31 → ⊥

@@ -1,9 +1,9 @@
 -- The test of a place and the scan for the first, in a file that was read.
 -- Assumes nothing.
 --     tested-else, tested-same, tested-first, tested-second
---                                            a word of another kind; q = m; by q and by m in what the body modifies
---     Passed, passed-none, passed-more       no place before has such a `for`: at the first place, and after a turn
---     found-here, found-none                 the answers of the scan
+--                                               a word of another kind; q = m; by q and by m in what the body modifies
+--     SteadyBefore, passed-none, passed-more    no place before has such a `for`: at the first place, and after a turn
+--     found-here, found-none                    the answers of the scan
 use mathlib.Core.Path.{_≡_, refl, sym, ap, subst, _∙_}
 use mathlib.Core.Bool.{Bool, true, false, not, Bool·not-not}
 use mathlib.Core.List.{List}
@@ -36,7 +36,7 @@ use Rattle.scan.specs.Scan.{Modified}
 use Rattle.scan.specs.Steady.{WholeFile, steadinessOf, Tested, FirstFound}
 use Rattle.scan.specs.declared.steady.Steadiness.the-variants.{Steady, At}
 use Rattle.scan.proofs.Places.{node-starts}
-use Rattle.scan.proofs.Fors.{ForAt, file-fors}
+use Rattle.scan.proofs.Fors.{ForStands, file-fors}
 
 -- a `for` over q up to m with body c stands at the place
 record Over (file : List ℕ) (at q m : ℕ) (c : Command) : Type 0 where
@@ -64,7 +64,7 @@ module _ (file : List ℕ) (at : ℕ) where
   pub tested-else : (kindAt file at ≡ 31 → ⊥) → Tested file at false
   tested-else h = record { place = λ Γ f. sym (not-for Γ h) }
 
-  over : (n : ℕ) (x : ForAt file n at) → Over file at (x .q) (x .m) (x .body)
+  over : (n : ℕ) (x : ForStands file n at) → Over file at (x .q) (x .m) (x .body)
   unfolding commandWords FitsCommand
   over n x = record {
     levels = x .levels;
@@ -75,7 +75,7 @@ module _ (file : List ℕ) (at : ℕ) where
     stands = x .stands;
   }
 
-  read-for : (n : ℕ) (x : ForAt file n at) → command file n at ≡ read (for (x .q) (x .m) (x .body)) (x .past)
+  read-for : (n : ℕ) (x : ForStands file n at) → command file n at ≡ read (for (x .q) (x .m) (x .body)) (x .past)
   read-for n x =
       let c = for (x .q) (x .m) (x .body) in
       command-stands file n c at (x .past)
@@ -138,11 +138,11 @@ module _ (file : List ℕ) (at : ℕ) where
 -- the scan from a place on
 module _ (file : List ℕ) where
   -- no place before `at` has such a `for`
-  pub record Passed (at : ℕ) : Type 0 where
+  pub record SteadyBefore (at : ℕ) : Type 0 where
     pub rest-of : (Γ : Context) → WholeFile Γ file →
         firstUnsteady Γ file (wordCount file - at) at ≡ firstUnsteady Γ file (wordCount file) 0
 
-  pub passed-none : Passed 0
+  pub passed-none : SteadyBefore 0
   passed-none = record {
     rest-of = λ Γ f.
         let e : wordCount file - 0 ≡ wordCount file = omega arith in
@@ -166,14 +166,14 @@ module _ (file : List ℕ) where
   unfolding firstUnsteady
   nothing Γ at = refl
 
-  pub passed-more : (at : ℕ) → at < wordCount file → Passed at → Tested file at false → Passed (at + 1)
+  pub passed-more : (at : ℕ) → at < wordCount file → SteadyBefore at → Tested file at false → SteadyBefore (at + 1)
   passed-more at h p t = record {
     rest-of = λ Γ f.
         sym (skipped Γ (wordCount file - (at + 1)) at (sym (t .place Γ f)))
         ∙ ap (λ n. firstUnsteady Γ file n at) (sym (one-less at h)) ∙ p .rest-of Γ f;
   }
 
-  pub found-here : (at : ℕ) → at < wordCount file → Passed at → Tested file at true → FirstFound file (At at)
+  pub found-here : (at : ℕ) → at < wordCount file → SteadyBefore at → Tested file at true → FirstFound file (At at)
   found-here at h p t = record {
     place = λ Γ f.
         ap steadinessOf
@@ -181,7 +181,7 @@ module _ (file : List ℕ) where
         ∙ ap (λ n. firstUnsteady Γ file n at) (sym (one-less at h)) ∙ p .rest-of Γ f);
   }
 
-  pub found-none : (at : ℕ) → wordCount file ≤ at → Passed at → FirstFound file Steady
+  pub found-none : (at : ℕ) → wordCount file ≤ at → SteadyBefore at → FirstFound file Steady
   found-none at h p = record {
     place = λ Γ f.
         let e : 0 ≡ wordCount file - at = omega arith in

@@ -3,7 +3,7 @@
 -- it to the layout's `firstUnsteady`. Assumes nothing.
 --     WholeFile        the words were read as a file up to the last, as refusals 2 to 6 have it
 --     steadinessOf     the answer of the scan for the first `for` that refusal 7 refuses
---     CanTest, Tested, FirstFound
+--     CanTestFor, Tested, FirstFound
 --                      what the test of one place and the scan ask and say
 use mathlib.Core.Path.{_≡_}
 use mathlib.Core.Bool.{Bool}
@@ -28,7 +28,7 @@ abbrev pub steadinessOf : Option ℕ → Steadiness
 steadinessOf none = Steady
 steadinessOf (some at) = At at
 
-pub record CanTest (file ends : List ℕ) (at : ℕ) : Type 0 where
+pub record CanTestFor (file ends : List ℕ) (at : ℕ) : Type 0 where
   pub inside : at < wordCount file
   pub is-for : kindAt file at ≡ 31
   pub places : EndsOf file ends

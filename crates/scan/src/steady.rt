@@ -3,10 +3,9 @@ use super::range::modified;
 use ends::mask::has_bit;
 use words::kinds::FOR;
 use words::kinds::KIND;
-ghost use mathlib.Core.Path.{_≡_};
-ghost use Prim.Native.Nat.{_≤_};
+use words::numbers::least;
 ghost use Rattle.ends.specs.Ends.{EndsOf};
-ghost use Rattle.scan.specs.Steady.{CanTest, Tested, FirstFound};
+ghost use Rattle.scan.specs.Steady.{CanTestFor, Tested, FirstFound};
 
 // Whether a file has no such `for`, or the place of the first.
 pub enum Steadiness {
@@ -14,15 +13,9 @@ pub enum Steadiness {
     At(usize),
 }
 
-fn least(a: usize, b: usize) -> usize
-    ensures { λ r. ⌜ (r ≤ b) × (a ≤ b → r ≡ a) ⌝ }
-{
-    if a < b { a } else { b }
-}
-
 // Whether the `for` at a place is such.
 fn unsteady_at(w: &[u32], ends: &[u32], at: usize) -> bool
-    requires { ⌜ CanTest (now w) (now ends) «at» ⌝ }
+    requires { ⌜ CanTestFor (now w) (now ends) «at» ⌝ }
     ensures { λ r. ⌜ Tested (now (w .entry)) «at» r ⌝ }
 {
     let payload = w[at] % KIND;

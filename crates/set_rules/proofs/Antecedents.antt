@@ -11,7 +11,7 @@ use Rattle.language.specs.Syntax.{Boolean, Expr}
 use Rattle.rules.specs.Context.{Context}
 use Rattle.rules.specs.Condition.{test, _then_, implication, onOne}
 use Rattle.rules.specs.Evidence.{set18}
-use Rattle.rules.specs.Judge.{misfit, leaf, setRule}
+use Rattle.rules.specs.Judge.{misfit, childless, setRule}
 use Rattle.ends.specs.Places.{endAt, WrittenAt}
 use Rattle.implication.specs.Sides.{resultOf}
 use Rattle.implication.specs.declared.Condition.{Condition}
@@ -68,7 +68,7 @@ module _ {file ends : List ℕ} {Γ : Context} {p q at : ℕ} (can : CanTry file
               let is = same .is (z .only .consequent) (u .only .consequent)
               (at-place i (z .only-at .consequent-at)) (at-place l (u .only-at .consequent-at)) in
               ap₂ (setRule Γ set18) (z .is) (u .is)
-              ∙ ap leaf
+              ∙ ap childless
               (ap (λ t. test t then implication Γ (u .only .antecedent) (z .only .antecedent)) (sym is)
               ∙ d _ _ (u .only-at .antecedent-at) (z .only-at .antecedent-at))
 

@@ -15,7 +15,7 @@ use Rattle.rules.specs.Assertion.{Member, Members}
 use Rattle.rules.specs.Context.{Context}
 use Rattle.rules.specs.Condition.{Result, passes, _then_, eachImpliesFalse, onEmpty, onOne}
 use Rattle.rules.specs.Evidence.{set14, set15}
-use Rattle.rules.specs.Judge.{misfit, leaf, setRule}
+use Rattle.rules.specs.Judge.{misfit, childless, setRule}
 use Rattle.layout.specs.EvidenceWords.{expressionPart}
 use Rattle.layout.specs.Nodes.{expressionNode}
 use Rattle.layout.specs.Standing.{PartStands}
@@ -49,7 +49,7 @@ pub record Remains (file ends : List ℕ) (limit k from n i : ℕ) : Type 0 wher
   pub rest : (r : Condition) → EachAt file ends limit n i r → EachAt file ends limit k from r
 
 -- the first of some members
-record First (file ends : List ℕ) (l : Members) (i : ℕ) : Type 0 where
+record FirstEmpty (file ends : List ℕ) (l : Members) (i : ℕ) : Type 0 where
   first : Member
   others : Members
   is : l ≡ first ∷ others
@@ -57,7 +57,7 @@ record First (file ends : List ℕ) (l : Members) (i : ℕ) : Type 0 where
   others-at : MembersWritten file ends others (pastMember ends i)
 
 first-of : {file ends : List ℕ} (l : Members) {n i : ℕ} → length l ≡ n → 0 < n → MembersWritten file ends l i →
-    First file ends l i
+    FirstEmpty file ends l i
 first-of [] e h w = absurd (omega arith)
 first-of (m ∷ l) e h w = record { first = m; others = l; is = refl; first-at = w .0; others-at = w .1 }
 
@@ -95,7 +95,7 @@ module _ {file ends : List ℕ} {limit k from : ℕ} where
 
   module _ {n i : ℕ} (x : Remains file ends limit k from n i) where
     module _ (h : 0 < n) where
-      first-member : First file ends (x .members) i
+      first-member : FirstEmpty file ends (x .members) i
       first-member = first-of (x .members) (x .count) h (x .members-at)
 
       pub can-pass : EndsOf file ends → CanPass ends i
@@ -121,7 +121,7 @@ module _ {file ends : List ℕ} {limit k from : ℕ} where
 
         module _ {c : Condition} (imp : Implied file (One i to) False limit c) where
           -- the result of members whose first is at hand
-          each-first : (l : Members) (Γ : Context) → Γ .limits .comparisons ≡ limit → (z : First file ends l i) →
+          each-first : (l : Members) (Γ : Context) → Γ .limits .comparisons ≡ limit → (z : FirstEmpty file ends l i) →
               {v : Result} → v ≡ (resultOf c then eachImpliesFalse Γ (z .others)) → v ≡ eachImpliesFalse Γ l
           unfolding eachImpliesFalse
           each-first l Γ g z d =
@@ -185,7 +185,7 @@ module _ {file ends : List ℕ} {Γ : Context} {p q at : ℕ} where
       unfolding setRule onEmpty
       each-rule h n each = leaf-rule can set14 refl λ x y a b.
           ap (λ z. setRule Γ set14 z y) (is-empty a (sym m ∙ h))
-          ∙ ap leaf (sym (each .is y (sym (n ∙ set-count b)) (set-written (can .can .ends-of) b) Γ refl))
+          ∙ ap childless (sym (each .is y (sym (n ∙ set-count b)) (set-written (can .can .ends-of) b) Γ refl))
 
   module _ (can : CanTry file ends Γ 15 (Set p q) at) {j : ℕ} (m : j ≡ countAt file p) where
     pub some-fails : (j ≡ 0 → ⊥) → StepOf file ends Γ (Set p q) at Fails
@@ -212,4 +212,4 @@ module _ {file ends : List ℕ} {Γ : Context} {p q at : ℕ} where
             let z = is-one b (can .can .ends-of) (sym n ∙ g) in
             let t = at-place i (z .only-at .consequent-at) in
             ap₂ (setRule Γ set15) (is-empty a (sym m ∙ h)) (z .is)
-            ∙ ap leaf (sym (tested d (closed .expression (z .only .consequent) (t .levels) (endAt ends e) (t .stands))))
+            ∙ ap childless (sym (tested d (closed .expression (z .only .consequent) (t .levels) (endAt ends e) (t .stands))))

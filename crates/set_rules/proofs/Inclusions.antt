@@ -9,7 +9,7 @@ use Prim.Native.Nat.{ℕ, _+_}
 use Rattle.rules.specs.Assertion.{Members}
 use Rattle.rules.specs.Context.{Context}
 use Rattle.rules.specs.Evidence.{set13}
-use Rattle.rules.specs.Judge.{leaf, setRule}
+use Rattle.rules.specs.Judge.{childless, setRule}
 use Rattle.implication.specs.declared.Condition.{Condition}
 use Rattle.goals.specs.Conditions.{conditionOf}
 use Rattle.goals.specs.Goals.{CanTry, StepOf}
@@ -63,4 +63,4 @@ module _ {file ends : List ℕ} {Γ : Context} {p q at : ℕ} (can : CanTry file
   pub within-rule : {b : Bool} → WithinAt file ends q p b → {c : Condition} → c ≡ conditionOf b →
       StepOf file ends Γ (Set p q) at c
   unfolding setRule
-  within-rule w e = leaf-rule can set13 refl λ x y a b. ap leaf (sym (tested e (w .is Γ y x b a)))
+  within-rule w e = leaf-rule can set13 refl λ x y a b. ap childless (sym (tested e (w .is Γ y x b a)))

@@ -20,7 +20,7 @@ use Rattle.rules.specs.Assertion.{Members, member, one}
 use Rattle.rules.specs.Context.{Context}
 use Rattle.rules.specs.Condition.{test, onOne, onSome}
 use Rattle.rules.specs.Evidence.{set19}
-use Rattle.rules.specs.Judge.{misfit, leaf, setRule}
+use Rattle.rules.specs.Judge.{misfit, childless, setRule}
 use Rattle.rules.specs.Sets.{operands}
 use Rattle.rules.specs.Tests.{same}
 use Rattle.layout.specs.Bytes.{kindAt}
@@ -39,7 +39,7 @@ use Rattle.sets.specs.declared.pile.Pile.the-variants.{Empty, One}
 use Rattle.sets.specs.declared.pile.Piles.{Piles}
 use Rattle.sets.specs.Piles.{countAt}
 use Rattle.set_laws.proofs.Sets.{has-set, is-one, not-one}
-use Rattle.set_rules.specs.Conditions.{hasTwo, CanSplit, SplitAt}
+use Rattle.set_rules.specs.Conditions.{hasTwo, CanOperands, OperandsAt}
 use Rattle.set_unions.proofs.Goal.{here, right-one, leaf-rule}
 
 -- the kinds in code
@@ -133,7 +133,7 @@ has-pair : {file ends : List ℕ} {φ : Expr Boolean} {k : Sort} {d : Expr k} {f
     to ≡ at → WrittenAt file ends d at → HasPile file ends (One f to)
 has-pair {φ = φ} {d = d} x i y = record { tree = one φ d; stands = stands-one x (at-place i y) }
 
-module _ {file ends : List ℕ} {p f e : ℕ} (can : CanSplit file ends p f e) where
+module _ {file ends : List ℕ} {p f e : ℕ} (can : CanOperands file ends p f e) where
   pub whole-in : e < length file
   whole-in =
       let i = node-inside (can .whole-at) in
@@ -169,7 +169,7 @@ module _ {file ends : List ℕ} {p f e : ℕ} (can : CanSplit file ends p f e) w
     }
 
 module _ {file ends : List ℕ} {p f e : ℕ} (o : EndsOf file ends) where
-  pub one-split : kindAt file e ≡ 12 → {r : Bool} → SameSet file ends p (onePiles f (e + 1)) r → SplitAt file ends p f e r
+  pub one-split : kindAt file e ≡ 12 → {r : Bool} → SameSet file ends p (onePiles f (e + 1)) r → OperandsAt file ends p f e r
   unfolding onSome
   one-split h same-as = record {
     is = λ Γ l φ d a b c.
@@ -180,14 +180,14 @@ module _ {file ends : List ℕ} {p f e : ℕ} (o : EndsOf file ends) where
   }
 
   module _ (g : kindAt file e ≡ 12 → ⊥) where
-    pub none-split : {t : Bool} → t ≡ hasTwo (kindAt file e) → t ≡ false → SplitAt file ends p f e false
+    pub none-split : {t : Bool} → t ≡ hasTwo (kindAt file e) → t ≡ false → OperandsAt file ends p f e false
     unfolding onSome
     none-split i h = record {
       is = λ Γ l φ d a b c. ap (λ m. onSome m false (λ x. same l x)) (sym (by-none (split o c) g (sym i ∙ h) φ));
     }
 
     pub two-split : hasTwo (kindAt file e) ≡ true → {next : ℕ} → next ≡ endAt ends (e + 1) → {r : Bool} →
-        SameSet file ends p (twoPiles f (e + 1) next) r → SplitAt file ends p f e r
+        SameSet file ends p (twoPiles f (e + 1) next) r → OperandsAt file ends p f e r
     unfolding onSome
     two-split h i same-as = record {
       is = λ Γ l φ d a b c.
@@ -201,7 +201,7 @@ module _ {file ends : List ℕ} {p f e : ℕ} (o : EndsOf file ends) where
 
 -- operands that are not there are a condition that fails
 some-result : (m : Option Members) (l : Members) →
-    onSome m misfit (λ r. leaf (test (same l r))) ≡ leaf (test (onSome m false (λ r. same l r)))
+    onSome m misfit (λ r. childless (test (same l r))) ≡ childless (test (onSome m false (λ r. same l r)))
 unfolding onSome test
 some-result none l = refl
 some-result (some r) l = refl
@@ -213,7 +213,7 @@ module _ {file ends : List ℕ} {Γ : Context} {p q at : ℕ} (can : CanTry file
   apart-fails g = leaf-rule can set19 refl λ x y a b. not-one b misfit _ (λ e. g (n ∙ e))
 
   module _ (g : k ≡ 1) {e : ℕ} (i : e ≡ endAt ends (q + 1)) where
-    pub can-split : CanSplit file ends p (q + 1) e
+    pub can-split : CanOperands file ends p (q + 1) e
     can-split =
         let z = right-one can n g in
         record {
@@ -227,12 +227,12 @@ module _ {file ends : List ℕ} {Γ : Context} {p q at : ℕ} (can : CanTry file
           whole-at = at-place i (z .only-at .consequent-at);
         }
 
-    pub split-rule : {b : Bool} → SplitAt file ends p (q + 1) e b → {c : Condition} → c ≡ conditionOf b →
+    pub split-rule : {b : Bool} → OperandsAt file ends p (q + 1) e b → {c : Condition} → c ≡ conditionOf b →
         StepOf file ends Γ (Set p q) at c
     unfolding setRule onOne
     split-rule splits d = leaf-rule can set19 refl λ x y a b.
         let z = is-one b (can .can .ends-of) (sym n ∙ g) in
         ap (setRule Γ set19 x) (z .is)
         ∙ some-result (operands (z .only .antecedent) (z .only .consequent)) x
-        ∙ ap leaf (sym (tested d (splits .is Γ x _ (z .only .consequent) a (z .only-at .antecedent-at)
+        ∙ ap childless (sym (tested d (splits .is Γ x _ (z .only .consequent) a (z .only-at .antecedent-at)
         (at-place i (z .only-at .consequent-at)))))

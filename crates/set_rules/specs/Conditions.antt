@@ -4,7 +4,7 @@
 -- and `none-split` of proofs/Operands say that the code's answers are those of the rules on trees. Assumes nothing.
 --     CanInclude, WithinAt      rule 13: each of a written set stands in another
 --     CanTryEach, EachAt        rule 14: each antecedent implies false
---     hasTwo, CanSplit, SplitAt
+--     hasTwo, CanOperands, OperandsAt
 --                               rule 19: a written set is the same as φ ⇒ each operand of E
 use mathlib.Core.Path.{_≡_}
 use mathlib.Core.Bool.{Bool, false, _||_}
@@ -52,7 +52,7 @@ module _ (file ends : List ℕ) where
         Γ .limits .comparisons ≡ limit → resultOf r ≡ eachImpliesFalse Γ l
 
   -- φ at f, E at e
-  pub record CanSplit (p f e : ℕ) : Type 0 where
+  pub record CanOperands (p f e : ℕ) : Type 0 where
     pub ends-of : EndsOf file ends
     pub size : length file ≤ 8192
     pub set : HasSet file ends p
@@ -62,6 +62,6 @@ module _ (file ends : List ℕ) where
     pub whole : Expr sort
     pub whole-at : WrittenAt file ends whole e
 
-  pub record SplitAt (p f e : ℕ) (r : Bool) : Type 0 where
+  pub record OperandsAt (p f e : ℕ) (r : Bool) : Type 0 where
     pub is : (Γ : Context) (l : Members) (φ : Expr Boolean) {k : Sort} (d : Expr k) → SetAt file ends Γ l p →
         WrittenAt file ends φ f → WrittenAt file ends d e → r ≡ onSome (operands φ d) false (λ x. same l x)

@@ -17,7 +17,7 @@ ghost use mathlib.Core.Path.{_≡_};
 ghost use Rattle.context.specs.Contexts.{contextOf};
 ghost use Rattle.goals.specs.Goals.{CanTry, StepOf};
 ghost use Rattle.goals.specs.declared.Goal.the-variants.{Set};
-ghost use Rattle.set_rules.specs.Conditions.{hasTwo, CanSplit, SplitAt};
+ghost use Rattle.set_rules.specs.Conditions.{hasTwo, CanOperands, OperandsAt};
 
 // The kinds 3, 8, 10 and 11 have two operands that rule 19 may take.
 fn has_two(kind: u32) -> bool
@@ -34,9 +34,9 @@ fn has_two(kind: u32) -> bool
 
 // Whether the written set at p is the same as φ ⇒ each operand of E, φ at f and E at e, of kind 3, 8, 10, 11
 // or 12.
-fn is_split(w: &[u32], ends: &[u32], p: usize, f: usize, e: usize) -> bool
-    requires { ⌜ CanSplit (now w) (now ends) p f e ⌝ }
-    ensures { λ r. ⌜ SplitAt (now (w .entry)) (now (ends .entry)) p f e r ⌝ }
+fn are_operands(w: &[u32], ends: &[u32], p: usize, f: usize, e: usize) -> bool
+    requires { ⌜ CanOperands (now w) (now ends) p f e ⌝ }
+    ensures { λ r. ⌜ OperandsAt (now (w .entry)) (now (ends .entry)) p f e r ⌝ }
 {
     let kind = w[e] / KIND;
     let first = Pile::One(f, e + 1);
@@ -77,5 +77,5 @@ pub fn rule_19(
     }
     let f = q + 1;
     let e = end_or_zero(ends, f);
-    condition(is_split(w, ends, p, f, e))
+    condition(are_operands(w, ends, p, f, e))
 }

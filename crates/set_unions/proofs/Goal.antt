@@ -1,10 +1,10 @@
 -- A goal of two sets with its evidence, as trees at their places.
 -- Assumes nothing.
---     GoalAt, here                  the trees of a goal that can be tried
+--     SetGoalAt, here        the trees of a goal that can be tried
 --     left-in, right-in, low-left, low-right
---                                   its two sets are in the file
---     left-one, right-one           its sets, where each is one member
---     leaf-rule                     a rule with no children, by the result of its conditions
+--                            its two sets are in the file
+--     left-one, right-one    its sets, where each is one member
+--     leaf-rule              a rule with no children, by the result of its conditions
 use mathlib.Core.Path.{_≡_, refl, sym, subst, _∙_}
 use mathlib.Core.List.{List, []}
 use Prim.Native.Nat.{ℕ, _+_, _<_}
@@ -13,7 +13,7 @@ use lib.ListN.{length}
 use Rattle.rules.specs.Assertion.{Members}
 use Rattle.rules.specs.Context.{Context}
 use Rattle.rules.specs.Evidence.{Rule, implication, done}
-use Rattle.rules.specs.Judge.{accepted, leaf, setRule}
+use Rattle.rules.specs.Judge.{accepted, childless, setRule}
 use Rattle.implication.specs.Sides.{resultOf}
 use Rattle.implication.specs.declared.Condition.{Condition}
 use Rattle.goals.specs.Children.{childrenAt}
@@ -27,19 +27,19 @@ use Rattle.sets.specs.Piles.{countAt}
 use Rattle.set_laws.specs.Members.{OneWritten}
 use Rattle.set_laws.proofs.Sets.{is-one}
 
-pub record GoalAt (Γ : Context) (file ends : List ℕ) (p q : ℕ) : Type 0 where
+pub record SetGoalAt (Γ : Context) (file ends : List ℕ) (p q : ℕ) : Type 0 where
   pub left : Members
   pub right : Members
   pub left-at : SetAt file ends Γ left p
   pub right-at : SetAt file ends Γ right q
 
 trees : {Γ : Context} {file ends : List ℕ} {p q : ℕ} {g : TreeGoal} {d at end : ℕ} →
-    GoalStands Γ file ends (Set p q) g d at end → GoalAt Γ file ends p q
+    GoalStands Γ file ends (Set p q) g d at end → SetGoalAt Γ file ends p q
 trees (set-stands {p = x} {q = y} a b s) = record { left = x; right = y; left-at = a; right-at = b }
 
 module _ {file ends : List ℕ} {Γ : Context} {p q at : ℕ} where
   module _ {n : ℕ} (can : CanTry file ends Γ n (Set p q) at) where
-    pub here : GoalAt Γ file ends p q
+    pub here : SetGoalAt Γ file ends p q
     here = trees (can .can .goal-stands)
 
     pub left-in : p < length file
@@ -61,7 +61,7 @@ module _ {file ends : List ℕ} {Γ : Context} {p q at : ℕ} where
     right-one m h = is-one (here .right-at) (can .can .ends-of) (sym m ∙ h)
 
     pub leaf-rule : (r : Rule implication n []) → childrenAt ends (Set p q) n at ≡ [] → {c : Condition} →
-        ((x y : Members) → SetAt file ends Γ x p → SetAt file ends Γ y q → setRule Γ r x y ≡ leaf (resultOf c)) →
+        ((x y : Members) → SetAt file ends Γ x p → SetAt file ends Γ y q → setRule Γ r x y ≡ childless (resultOf c)) →
         StepOf file ends Γ (Set p q) at c
     leaf-rule r none {c} h = set-rule can r go
       where

@@ -38,7 +38,7 @@ use Rattle.sets.specs.declared.pile.Pile.the-variants.{Empty, Without}
 use Rattle.sets.specs.declared.pile.Pile.the-variants as pile
 use Rattle.sets.specs.declared.pile.Piles.{Piles}
 use Rattle.set_laws.proofs.Sets.{has-set}
-use Rattle.set_unions.specs.Unions.{CanRest, RestAt}
+use Rattle.set_unions.specs.Unions.{CanRestUnion, RestAt}
 use Rattle.set_unions.proofs.Goal.{here}
 
 has-to : {file ends : List ℕ} {i j : ℕ} → j ≡ i → HasSet file ends i → HasSet file ends j
@@ -125,7 +125,7 @@ module _ {file ends : List ℕ} {Γ : Context} {p q at b c : ℕ} where
     third-17 : c ≡ endAt ends (endAt ends (at + 1))
     third-17 = ec ∙ ap (endAt ends) eb
 
-    pub can-rest : CanRest file ends p c b (at + 1)
+    pub can-rest : CanRestUnion file ends p c b (at + 1)
     can-rest = record {
       ends-of = can .can .ends-of;
       set = has-set (here can .left-at);
@@ -153,7 +153,7 @@ abbrev restPiles : ℕ → ℕ → ℕ → Piles
 restPiles t leave s = record { first = Without t leave; second = pile.Set s Plain; third = Empty }
 
 module _ {file ends : List ℕ} {p t leave s : ℕ} where
-  pub can-rest-same : CanRest file ends p t leave s → CanSameSet file ends p (restPiles t leave s)
+  pub can-rest-same : CanRestUnion file ends p t leave s → CanSameSet file ends p (restPiles t leave s)
   can-rest-same can = record {
     ends-of = can .ends-of;
     set = can .set;

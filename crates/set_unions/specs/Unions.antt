@@ -1,6 +1,6 @@
 -- The condition of rule 17 of sets on written sets: what it asks for, and what it promises (document 01).
 -- Working: `rest-at` of proofs/Unions says that the code's answer is that of the rule on trees. Assumes nothing.
---     CanRest, RestAt    a written set is the same as (T without S') ∪ S
+--     CanRestUnion, RestAt    a written set is the same as (T without S') ∪ S
 use mathlib.Core.Path.{_≡_}
 use mathlib.Core.Bool.{Bool}
 use mathlib.Core.List.{List, _++_}
@@ -14,7 +14,7 @@ use Rattle.ends.specs.Places.{SetAt}
 use Rattle.sets.specs.Trees.{HasSet}
 
 -- T at t, S' at `leave`, S at s
-pub record CanRest (file ends : List ℕ) (p t leave s : ℕ) : Type 0 where
+pub record CanRestUnion (file ends : List ℕ) (p t leave s : ℕ) : Type 0 where
   pub ends-of : EndsOf file ends
   pub set : HasSet file ends p
   pub most : HasSet file ends t

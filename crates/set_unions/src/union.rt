@@ -14,7 +14,7 @@ ghost use Rattle.context.specs.Contexts.{contextOf};
 ghost use Rattle.goals.specs.Children.{childAt};
 ghost use Rattle.goals.specs.Goals.{CanTry, StepOf};
 ghost use Rattle.goals.specs.declared.Goal.the-variants.{Set};
-ghost use Rattle.set_unions.specs.Unions.{CanRest, RestAt};
+ghost use Rattle.set_unions.specs.Unions.{CanRestUnion, RestAt};
 
 // Rule 16. Carries S, S', T, T'; P same as S ∪ T, Q as S' ∪ T'.
 pub fn rule_16(
@@ -56,7 +56,7 @@ pub fn child_16(ends: &[u32], at: usize, p: usize, q: usize, k: usize) -> Goal
 // Whether the written set at p is the same as that at t without the members of that at `leave`, and that at s,
 // together.
 fn is_rest_union(w: &[u32], ends: &[u32], p: usize, t: usize, leave: usize, s: usize) -> bool
-    requires { ⌜ CanRest (now w) (now ends) p t leave s ⌝ }
+    requires { ⌜ CanRestUnion (now w) (now ends) p t leave s ⌝ }
     ensures { λ r. ⌜ RestAt (now (w .entry)) (now (ends .entry)) p t leave s r ⌝ }
 {
     let piles = Piles {

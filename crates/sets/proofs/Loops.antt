@@ -1,13 +1,13 @@
 -- Members passed one by one: a test of a list of members, from the first on.
 -- Assumes nothing.
---     members-first, members-rest                      of members that stand one after the other
---     seenAll-none, seenAll-first                      of the list of their numbers
---     Left, left-start, left-stop, left-on, left-end   a test of all is the test of those that are left
---     stands-found, stands-skip                        an element is looked for
---     within-stop, within-skip                         each is looked for in a list
---     rest-stop, rest-skip                             each that is not in another
+--     members-first, members-rest                              of members that stand one after the other
+--     seenAll-none, seenAll-first                              of the list of their numbers
+--     MembersLeft, left-start, left-stop, left-on, left-end    a test of all is the test of those that are left
+--     stands-found, stands-skip                                an element is looked for
+--     within-stop, within-skip                                 each is looked for in a list
+--     rest-stop, rest-skip                                     each that is not in another
 --     same-as, has-as, item-sym, either-first, either-second
---                                                      what the functions that compare items say
+--                                                              what the functions that compare items say
 use mathlib.Core.Path.{_≡_, refl, sym, ap, subst, _∙_}
 use mathlib.Core.Bool.{Bool, true, false, _&&_, _||_, cond}
 use mathlib.Core.List.{List, [], _∷_}
@@ -48,15 +48,15 @@ module _ (file ends : List ℕ) where
         rw (k, e)
 
   -- of the k members at `at` the n members at i are left, and the test of all is the test of those
-  pub record Left (view : View) (test : List Halves → Bool) (k at n i : ℕ) : Type 0 where
+  pub record MembersLeft (view : View) (test : List Halves → Bool) (k at n i : ℕ) : Type 0 where
     pub members : MembersAt file ends n i
     pub same : test (seenAll file ends view n i) ≡ test (seenAll file ends view k at)
 
 module _ {file ends : List ℕ} {view : View} {test : List Halves → Bool} {k at : ℕ} where
-  pub left-start : MembersAt file ends k at → Left file ends view test k at k at
+  pub left-start : MembersAt file ends k at → MembersLeft file ends view test k at k at
   left-start m = record { members = m; same = refl }
 
-  module _ {n i : ℕ} (l : Left file ends view test k at n i) where
+  module _ {n i : ℕ} (l : MembersLeft file ends view test k at n i) where
     pub left-first : 0 < n → MemberAt file ends i
     left-first h = members-first file ends n i (l .members) h
 
@@ -69,7 +69,7 @@ module _ {file ends : List ℕ} {view : View} {test : List Halves → Bool} {k a
 
     pub left-on : {j : ℕ} → 0 < n → j ≡ pastMember ends i →
         ((z : List Halves) → test (seenAs file ends view i ∷ z) ≡ test z) →
-        Left file ends view test k at (n - 1) j
+        MembersLeft file ends view test k at (n - 1) j
     left-on {j} h e f = record {
       members = members-rest file ends n i j (l .members) h e;
       same =

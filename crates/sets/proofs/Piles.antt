@@ -14,7 +14,7 @@ use Rattle.compare.specs.Places.{AnyAt}
 use Rattle.sets.specs.Items.{Halves, pairItem, itemHalves, writtenHalves, sameHalves}
 use Rattle.sets.specs.Lists.{seenAll, written, standsIn, withinAll, withoutAll}
 use Rattle.sets.specs.Standing.{MembersAt, ViewAt}
-use Rattle.sets.specs.Piles.{countAt, pileNumbers, pilesNumbers, SetAt, PileAt}
+use Rattle.sets.specs.Piles.{countAt, pileNumbers, pilesNumbers, AnySetAt, PileAt}
 use Rattle.sets.specs.declared.item.View.{View}
 use Rattle.sets.specs.declared.pile.Pile.{Pile}
 use Rattle.sets.specs.declared.pile.Pile.the-variants.{Empty, One, Set, Without}
@@ -94,17 +94,17 @@ module _ {file ends : List ℕ} where
   pile-one pile p e = rw e at p
 
   pub pile-set : (pile : Pile) {q : ℕ} {view : View} → PileAt file ends pile → pile ≡ Set q view →
-      SetAt file ends q × ViewAt file ends view
+      AnySetAt file ends q × ViewAt file ends view
   unfolding PileAt
   pile-set pile p e = rw e at p
 
   pub pile-without : (pile : Pile) {t s : ℕ} → PileAt file ends pile → pile ≡ Without t s →
-      SetAt file ends t × SetAt file ends s
+      AnySetAt file ends t × AnySetAt file ends s
   unfolding PileAt
   pile-without pile p e = rw e at p
 
   -- as many members as the code counts
-  pub set-members : {q k : ℕ} → SetAt file ends q → k ≡ countAt file q → MembersAt file ends k (q + 1)
+  pub set-members : {q k : ℕ} → AnySetAt file ends q → k ≡ countAt file q → MembersAt file ends k (q + 1)
   set-members {q} s e = subst (λ k. MembersAt file ends k (q + 1)) (sym e) (s .members)
 
 -- the test whether a list holds each of another

@@ -18,7 +18,7 @@ use Rattle.compare.proofs.Halves.{is-true, is-plain}
 use Rattle.sets.specs.Items.{certainItem, itemHalves}
 use Rattle.sets.specs.Lists.{written, standsIn, sameAll}
 use Rattle.sets.specs.Standing.{MembersAt, CanFind}
-use Rattle.sets.specs.Piles.{countAt, writtenSet, pilesNumbers, CanSame}
+use Rattle.sets.specs.Piles.{countAt, writtenSet, pilesNumbers, CanSamePiles}
 use Rattle.sets.specs.Trees.{HasSet, HasPile, CanSameSet, SameSet}
 use Rattle.sets.specs.Trees.{stands-empty, stands-one, stands-plain, stands-under, stands-unless, stands-replaced}
 use Rattle.sets.specs.Rules.{CanTwo, SameWritten, CanReplaced, SameReplaced, CanUnder, SameUnder}
@@ -37,7 +37,7 @@ abbrev pub three : Pile → Pile → Pile → Piles
 three a b c = record { first = a; second = b; third = c }
 
 module _ {file ends : List ℕ} where
-  pub can-same : {p : ℕ} {piles : Piles} → CanSameSet file ends p piles → CanSame file ends p piles
+  pub can-same : {p : ℕ} {piles : Piles} → CanSameSet file ends p piles → CanSamePiles file ends p piles
   can-same c = record {
     ends-of = c .ends-of;
     set = set-place (c .ends-of) (c .set .there);

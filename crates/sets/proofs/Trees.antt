@@ -31,7 +31,7 @@ use Rattle.compare.proofs.Halves.{AntecedentIs, is-written, is-and, is-and-not,
 use Rattle.sets.specs.Items.{pastMember, Halves, seenItem, pairItem, itemHalves, seenAs}
 use Rattle.sets.specs.Lists.{seenAll, sameAll, withoutAll}
 use Rattle.sets.specs.Standing.{MemberAt, MembersAt, ViewAt}
-use Rattle.sets.specs.Piles.{countAt, writtenSet, pileNumbers, pilesNumbers, SetAt, PileAt}
+use Rattle.sets.specs.Piles.{countAt, writtenSet, pileNumbers, pilesNumbers, AnySetAt, PileAt}
 use Rattle.sets.specs.Trees.{MemberWritten, MembersWritten, RightSide, PutStands, put-scalar, put-array, PileStands}
 use Rattle.sets.specs.Trees.{stands-empty, stands-one, stands-plain, stands-under, stands-unless, stands-replaced}
 use Rattle.sets.specs.Trees.{stands-without}
@@ -70,7 +70,7 @@ members-place file ends [] at m = tt
 members-place file ends (x ∷ p) at m = (member-place (m .0), members-place file ends p (pastMember ends at) (m .1))
 
 pub set-place : {file ends : List ℕ} {Γ : Context} {p : Members} {at : ℕ} → EndsOf file ends →
-    NodeAt file ends (setNode Γ p) at → SetAt file ends at
+    NodeAt file ends (setNode Γ p) at → AnySetAt file ends at
 set-place {file} {ends} {p = p} {at} o x =
     let i = node-inside x in
     let s = i .start in

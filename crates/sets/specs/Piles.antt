@@ -1,9 +1,9 @@
 -- Piles: the sets that the rules make of written ones, as lists of their members' halves.
 -- Working: `pile-is` and `same-trees` of proofs/Trees say that these are the sets that the rules name. Assumes nothing.
---     countAt, writtenSet            how many members a written set has; its members' halves
---     pileNumbers, pilesNumbers      by pile; of three piles together
---     SetAt, PileAt, PilesAt         what a pile names stands in the file
---     CanSearch .. CanSame           what the functions on piles ask for
+--     countAt, writtenSet          how many members a written set has; its members' halves
+--     pileNumbers, pilesNumbers    by pile; of three piles together
+--     AnySetAt, PileAt, PilesAt    what a pile names stands in the file
+--     CanSearch .. CanSamePiles    what the functions on piles ask for
 use mathlib.Core.List.{List, [], _∷_, _++_}
 use Prim.Native.Nat.{ℕ, _+_, _<_}
 use lib.ListN.{length}
@@ -34,15 +34,15 @@ module _ (file ends : List ℕ) where
   pilesNumbers piles = pileNumbers (piles .first) ++ (pileNumbers (piles .second) ++ pileNumbers (piles .third))
 
   -- a written set stands there
-  pub record SetAt (q : ℕ) : Type 0 where
+  pub record AnySetAt (q : ℕ) : Type 0 where
     pub inside : q < length file
     pub members : MembersAt file ends (countAt file q) (q + 1)
 
   unfoldable pub PileAt : Pile → Type 0
   PileAt Empty = Unit {0}
   PileAt (One f b) = AnyAt file ends f × AnyAt file ends b
-  PileAt (Set q view) = SetAt q × ViewAt file ends view
-  PileAt (Without t s) = SetAt t × SetAt s
+  PileAt (Set q view) = AnySetAt q × ViewAt file ends view
+  PileAt (Without t s) = AnySetAt t × AnySetAt s
 
   pub record PilesAt (piles : Piles) : Type 0 where
     pub first-at : PileAt (piles .first)
@@ -61,7 +61,7 @@ module _ (file ends : List ℕ) where
     pub piles-at : PilesAt piles
 
   -- a pile's members among the k members at `at`; three piles'
-  pub record CanKeep (pile : Pile) (k at : ℕ) : Type 0 where
+  pub record CanKeepPile (pile : Pile) (k at : ℕ) : Type 0 where
     pub ends-of : EndsOf file ends
     pub members : MembersAt file ends k at
     pub pile-at : PileAt pile
@@ -71,7 +71,7 @@ module _ (file ends : List ℕ) where
     pub members : MembersAt file ends k at
     pub piles-at : PilesAt piles
 
-  pub record CanSame (p : ℕ) (piles : Piles) : Type 0 where
+  pub record CanSamePiles (p : ℕ) (piles : Piles) : Type 0 where
     pub ends-of : EndsOf file ends
-    pub set : SetAt p
+    pub set : AnySetAt p
     pub piles-at : PilesAt piles

@@ -14,7 +14,7 @@ ghost use lib.ListN.{length};
 ghost use Rattle.sets.specs.Items.{writtenHalves};
 ghost use Rattle.sets.specs.Lists.{written, standsIn, withinAll};
 ghost use Rattle.sets.specs.Piles.{countAt, pileNumbers, pilesNumbers};
-ghost use Rattle.sets.specs.Piles.{CanSearch, CanSearchAll, CanKeep, CanKeepAll};
+ghost use Rattle.sets.specs.Piles.{CanSearch, CanSearchAll, CanKeepPile, CanKeepAll};
 
 // A set that a rule makes: none; one member by the places of its antecedent and its consequent; the written set at a place, seen
 // as a view says; the written set at a place without the members of another.
@@ -64,7 +64,7 @@ fn in_pile(w: &[u32], ends: &[u32], x: usize, pile: Pile) -> bool
 
 // Whether each member of the pile is one of the k written members at `at`.
 fn pile_in(w: &[u32], ends: &[u32], pile: Pile, k: usize, at: usize) -> bool
-    requires { ⌜ CanKeep (now w) (now ends) pile k «at» ⌝ }
+    requires { ⌜ CanKeepPile (now w) (now ends) pile k «at» ⌝ }
     ensures { λ r. ⌜ r ≡ withinAll (pileNumbers (now (w .entry)) (now (ends .entry)) pile)
         (written (now (w .entry)) (now (ends .entry)) k «at») ⌝ }
 {

@@ -1,15 +1,14 @@
 -- Words loaded from bytes.
 -- Assumes nothing.
---     words-length, words-at    how many words bytes make; the word at a place
---     front, front-more         the first words stand in front; one more
---     loaded-words              what a caller has who lends room enough
+--     words-length, words-at       how many words bytes make; the word at a place
+--     front, front-more            the first words stand in front; one more
+--     lesser-first                 the lesser of two is the first where that is not over the other
+--     loaded-words                 what a caller has who lends room enough
 use mathlib.Core.Path.{_≡_, refl, sym, _∙_, ap}
-use mathlib.Core.Bool.{Bool, true, false, cond}
 use mathlib.Core.List.{List, [], _∷_, _++_}
 use Prim.Native.Nat.{ℕ, zero, suc, _+_, _*_, _/_, _<_, _≤_}
 use native.Mathlib.Omega.{arith}
-use borrow.Author.Tests.{le-leb, leb-true, leb-false}
-use lib.Dec.{leb}
+use borrow.Author.Tests.{le-leb}
 use native.Mathlib.Numerals.{add-one}
 use lib.ListN.{length, getD, take, drop, set}
 use lib.Seq.{take-all, take-at, set-at, take-suc, drop-cons, append-snoc, length-take-le}
@@ -53,18 +52,15 @@ module _ (bytes before : List ℕ) where
       ∙ sym (append-snoc (take i s) (getD s i 0) (drop (suc i) before))
       ∙ ap (λ (r : List ℕ). r ++ drop (suc i) before) (sym (take-suc s i 0 l)))
 
-pub lesser-both : (a b n : ℕ) → n ≡ lesser a b → (n ≤ a) × (n ≤ b)
-lesser-both a b n e = go (leb a b) refl e
-  where
-    go : (t : Bool) → leb a b ≡ t → n ≡ cond t a b → (n ≤ a) × (n ≤ b)
-    go true t e = let h = leb-true a b t in (omega arith, omega arith)
-    go false t e = let h = leb-false a b t in (omega arith, omega arith)
+pub lesser-first : (a b n : ℕ) → n ≡ lesser a b → a ≤ b → n ≡ a
+unfolding lesser
+lesser-first a b n e h = e ∙ simp (le-leb a b h)
 
 pub loaded-words :
     {bytes before after : List ℕ} {n : ℕ} → Loaded bytes before after n → length bytes / 4 ≤ length before →
     (n ≡ length bytes / 4) × (take n after ≡ wordsOf bytes)
 loaded-words {bytes} {before} {after} {n} h k =
-    let e : n ≡ length bytes / 4 = h .count ∙ simp (le-leb _ _ k) in
+    let e : n ≡ length bytes / 4 = lesser-first _ _ _ (h .count) k in
     let l : length (wordsOf bytes) ≤ n = rw (words-length bytes) (omega arith) in
     let w : take n (wordsOf bytes) ≡ wordsOf bytes = take-all n (wordsOf bytes) l in
     (e, rw (h .content, w) (take-at (wordsOf bytes) (drop n before) n (words-length bytes ∙ sym e)))

@@ -13,7 +13,7 @@ use Rattle.rules.specs.Evidence.{Judgement, flow, implication, precondition, It
 use Rattle.rules.specs.Evidence.{membersItem, childItem, Rule, Row}
 use Rattle.layout.specs.ReadEvidence.{evidenceKind}
 use Rattle.layout.proofs.BackEvidence.{rule-row}
-use Rattle.words.specs.Rows.{digit, itemOf, packed, packedRow, rowOf, rowDue}
+use Rattle.words.specs.Rows.{digit, itemOf, packedItems, packedRow, rowOf, rowDue}
 
 digit-range : (x : Item) → (1 ≤ digit x) × (digit x ≤ 6)
 digit-range assertionItem = (omega arith, omega arith)
@@ -31,24 +31,24 @@ digit-item (childItem flow) = refl
 digit-item (childItem implication) = refl
 digit-item (childItem precondition) = refl
 
-pub item-first : (x : Item) (l : List Item) → itemOf (packed (x ∷ l) % 8) ≡ x
+pub item-first : (x : Item) (l : List Item) → itemOf (packedItems (x ∷ l) % 8) ≡ x
 item-first x l =
     let h = digit-range x in
-    let e : packed (x ∷ l) % 8 ≡ digit x = omega arith in
+    let e : packedItems (x ∷ l) % 8 ≡ digit x = omega arith in
     ap itemOf e ∙ digit-item x
 
-pub digit-rest : (x : Item) (l : List Item) → packed (x ∷ l) / 8 ≡ packed l
+pub digit-rest : (x : Item) (l : List Item) → packedItems (x ∷ l) / 8 ≡ packedItems l
 digit-rest x l = let h = digit-range x in omega arith
 
-pub row-rule : {j : Judgement} {n : ℕ} {l : List Item} (r : Rule j n l) → rowOf j n ≡ packed l
+pub row-rule : {j : Judgement} {n : ℕ} {l : List Item} (r : Rule j n l) → rowOf j n ≡ packedItems l
 row-rule r = ap packedRow (rule-row r .0)
 
-pub no-item : (l : List Item) → packed l ≡ 0 → l ≡ []
+pub no-item : (l : List Item) → packedItems l ≡ 0 → l ≡ []
 no-item [] h = refl
 no-item (x ∷ l) h = let r = digit-range x in absurd (omega arith)
 
 -- no row is the number for none
-packed-row : (l : List Item) → packed l ≡ 7 → ⊥
+packed-row : (l : List Item) → packedItems l ≡ 7 → ⊥
 packed-row [] h = omega arith
 packed-row (x ∷ l) h = let r = digit-range x in omega arith
 
@@ -57,7 +57,7 @@ row-none none h = refl
 row-none (some r) h = absurd (packed-row (r .after) h)
 
 pub row-some : {j : Judgement} (o : Option (Row j)) → (packedRow o ≡ 7 → ⊥) →
-    (r : Row j) × (o ≡ some r) × (packedRow o ≡ packed (r .after))
+    (r : Row j) × (o ≡ some r) × (packedRow o ≡ packedItems (r .after))
 row-some none h = absurd (h refl)
 row-some (some r) h = (r, refl, refl)
 

@@ -10,7 +10,7 @@ use Prim.Native.Nat.{ℕ}
 use lib.Dec.{eqb, leb}
 use Rattle.language.specs.Syntax as syntax
 use Rattle.language.specs.Syntax.{Sort, Expr, operation, compare, truth}
-use Rattle.layout.specs.Reading.{Reader, leaf, _⊛_, upTo, onOption}
+use Rattle.layout.specs.Reading.{Reader, pure, _⊛_, upTo, onOption}
 use Rattle.layout.specs.Read.{arithmeticWord, booleanWord, arrayWord, commandWord}
 use Rattle.words.specs.Decode.{within, arithmeticOf, booleanOf, arrayOf, commandOf}
 use Rattle.words.specs.Meaning.{arithmeticMeaning, booleanMeaning, arrayMeaning, commandMeaning}
@@ -37,7 +37,7 @@ module _ (part : (j : Sort) → Reader (Expr j)) (k p : ℕ) where
   arithmetic-of =
       let f = arithmeticMeaning part in
       let g : Option syntax.Operator → Option (Reader (Expr syntax.Arithmetic)) = λ o.
-      onOption o λ o. leaf (operation o) ⊛ part syntax.Arithmetic ⊛ part syntax.Arithmetic in
+      onOption o λ o. pure (operation o) ⊛ part syntax.Arithmetic ⊛ part syntax.Arithmetic in
       both id f (eqb k 1) refl (both id f (eqb k 2) (up f 31 p refl refl) (both id f (eqb k 3)
       (both g f (eqb p 0) refl (both g f (eqb p 1) refl (both g f (eqb p 2) refl refl)))
       (both id f (eqb k 4) (up f 0 p refl refl) refl)))
@@ -47,8 +47,8 @@ module _ (part : (j : Sort) → Reader (Expr j)) (k p : ℕ) where
   boolean-of =
       let f = booleanMeaning part in
       let g : Option syntax.Comparison → Option (Reader (Expr syntax.Boolean)) = λ o.
-      onOption o λ r. leaf (compare r) ⊛ part syntax.Arithmetic ⊛ part syntax.Arithmetic in
-      let t : Option Bool → Option (Reader (Expr syntax.Boolean)) = λ o. onOption o λ b. leaf (truth b) in
+      onOption o λ r. pure (compare r) ⊛ part syntax.Arithmetic ⊛ part syntax.Arithmetic in
+      let t : Option Bool → Option (Reader (Expr syntax.Boolean)) = λ o. onOption o λ b. pure (truth b) in
       both id f (eqb k 8)
       (both g f (eqb p 0) refl (both g f (eqb p 1) refl (both g f (eqb p 2) refl refl)))
       (both id f (eqb k 9) (both t f (eqb p 0) refl (both t f (eqb p 1) refl refl))

@@ -16,7 +16,7 @@ wordAt bytes place =
     getD bytes (4 * place) 0 + 256 * getD bytes (4 * place + 1) 0 + 65536 * getD bytes (4 * place + 2) 0
     + 16777216 * getD bytes (4 * place + 3) 0
 
-abbrev pub lesser : ℕ → ℕ → ℕ
+unfoldable pub lesser : ℕ → ℕ → ℕ
 lesser a b = cond (leb a b) a b
 
 pub record Loaded (bytes before after : List ℕ) (n : ℕ) : Type 0 where

@@ -10,7 +10,7 @@ use Rattle.language.specs.Syntax as syntax
 use Rattle.language.specs.Syntax.{Sort, Expr, constant, scalar, operation, select}
 use Rattle.language.specs.Syntax.{compare, truth, and, or, neg, array, zeros, update, toScalar, toArray}
 use Rattle.language.specs.Syntax.{skip, sequence, assert, assign, ifElse, while, for}
-use Rattle.layout.specs.Reading.{Reader, leaf, _⊛_}
+use Rattle.layout.specs.Reading.{Reader, pure, _⊛_}
 use Rattle.words.specs.declared.Operator.{Operator}
 use Rattle.words.specs.declared.Operator.the-variants.{Plus, Minus, Times}
 use Rattle.words.specs.declared.Comparison.{Comparison}
@@ -42,35 +42,35 @@ comparisonMeant AtMost = syntax.atMost
 -- `part j` reads an operand of sort j
 module _ (part : (j : Sort) → Reader (Expr j)) where
   abbrev pub arithmeticMeaning : ArithmeticWord → Option (Reader (Expr syntax.Arithmetic))
-  arithmeticMeaning (Constant z) = some (leaf (constant z))
-  arithmeticMeaning (Scalar x) = some (leaf (scalar x))
-  arithmeticMeaning (Operation o) = some (leaf (operation (operatorMeant o)) ⊛ part syntax.Arithmetic ⊛ part syntax.Arithmetic)
-  arithmeticMeaning Select = some (leaf select ⊛ part syntax.Array ⊛ part syntax.Arithmetic)
+  arithmeticMeaning (Constant z) = some (pure (constant z))
+  arithmeticMeaning (Scalar x) = some (pure (scalar x))
+  arithmeticMeaning (Operation o) = some (pure (operation (operatorMeant o)) ⊛ part syntax.Arithmetic ⊛ part syntax.Arithmetic)
+  arithmeticMeaning Select = some (pure select ⊛ part syntax.Array ⊛ part syntax.Arithmetic)
   arithmeticMeaning arithmetic.Other = none
 
   abbrev pub booleanMeaning : BooleanWord → Option (Reader (Expr syntax.Boolean))
-  booleanMeaning (Compare r) = some (leaf (compare (comparisonMeant r)) ⊛ part syntax.Arithmetic ⊛ part syntax.Arithmetic)
-  booleanMeaning (Truth t) = some (leaf (truth t))
-  booleanMeaning And = some (leaf and ⊛ part syntax.Boolean ⊛ part syntax.Boolean)
-  booleanMeaning Or = some (leaf or ⊛ part syntax.Boolean ⊛ part syntax.Boolean)
-  booleanMeaning Not = some (leaf neg ⊛ part syntax.Boolean)
+  booleanMeaning (Compare r) = some (pure (compare (comparisonMeant r)) ⊛ part syntax.Arithmetic ⊛ part syntax.Arithmetic)
+  booleanMeaning (Truth t) = some (pure (truth t))
+  booleanMeaning And = some (pure and ⊛ part syntax.Boolean ⊛ part syntax.Boolean)
+  booleanMeaning Or = some (pure or ⊛ part syntax.Boolean ⊛ part syntax.Boolean)
+  booleanMeaning Not = some (pure neg ⊛ part syntax.Boolean)
   booleanMeaning boolean.Other = none
 
   abbrev pub arrayMeaning : ArrayWord → Option (Reader (Expr syntax.Array))
-  arrayMeaning (Identifier a) = some (leaf (array a))
-  arrayMeaning Zeros = some (leaf zeros)
-  arrayMeaning Update = some (leaf update ⊛ part syntax.Array ⊛ part syntax.Arithmetic ⊛ part syntax.Arithmetic)
+  arrayMeaning (Identifier a) = some (pure (array a))
+  arrayMeaning Zeros = some (pure zeros)
+  arrayMeaning Update = some (pure update ⊛ part syntax.Array ⊛ part syntax.Arithmetic ⊛ part syntax.Arithmetic)
   arrayMeaning array.Other = none
 
 -- `part j` reads an operand, `body` a command
 module _ (part : (j : Sort) → Reader (Expr j)) (body : Reader syntax.Command) where
   abbrev pub commandMeaning : CommandWord → Option (Reader syntax.Command)
-  commandMeaning Skip = some (leaf skip)
-  commandMeaning Sequence = some (leaf sequence ⊛ body ⊛ body)
-  commandMeaning Assert = some (leaf assert ⊛ part syntax.Boolean)
-  commandMeaning (AssignScalar x) = some (leaf (λ e. assign (toScalar x e)) ⊛ part syntax.Arithmetic)
-  commandMeaning (AssignArray a) = some (leaf (λ e. assign (toArray a e)) ⊛ part syntax.Array)
-  commandMeaning If = some (leaf ifElse ⊛ part syntax.Boolean ⊛ body ⊛ body)
-  commandMeaning While = some (leaf while ⊛ part syntax.Boolean ⊛ body)
-  commandMeaning (For q m) = some (leaf (for q m) ⊛ body)
+  commandMeaning Skip = some (pure skip)
+  commandMeaning Sequence = some (pure sequence ⊛ body ⊛ body)
+  commandMeaning Assert = some (pure assert ⊛ part syntax.Boolean)
+  commandMeaning (AssignScalar x) = some (pure (λ e. assign (toScalar x e)) ⊛ part syntax.Arithmetic)
+  commandMeaning (AssignArray a) = some (pure (λ e. assign (toArray a e)) ⊛ part syntax.Array)
+  commandMeaning If = some (pure ifElse ⊛ part syntax.Boolean ⊛ body ⊛ body)
+  commandMeaning While = some (pure while ⊛ part syntax.Boolean ⊛ body)
+  commandMeaning (For q m) = some (pure (for q m) ⊛ body)
   commandMeaning command.Other = none

@@ -1,9 +1,10 @@
 // Words from bytes.
+use crate::numbers::least;
 ghost use mathlib.Core.Path.{_≡_};
 ghost use Prim.Native.Nat.{_+_, _*_, _<_};
 ghost use lib.ListN.{length};
 ghost use Rattle.layout.specs.File.{badLength};
-ghost use Rattle.words.specs.Load.{wordAt, lesser, Loaded};
+ghost use Rattle.words.specs.Load.{wordAt, Loaded};
 
 // Refusal 1 (document 01, "Judging order"): the byte count is 0, over 32,768 or no multiple of 4.
 pub fn bad_length(file: &[u8]) -> bool
@@ -19,7 +20,7 @@ pub fn bad_length(file: &[u8]) -> bool
     n % 4 != 0
 }
 
-fn wide(x: u8) -> u32
+fn byte_number(x: u8) -> u32
     ensures { λ r. ⌜ (r ≡ x) × (r < 256) ⌝ }
 {
     x as u32
@@ -31,10 +32,10 @@ fn word_at(file: &[u8], place: usize) -> u32
     ensures { λ r. ⌜ r ≡ wordAt (now (file .entry)) place ⌝ }
 {
     let i = 4 * place;
-    let a = wide(file[i]);
-    let b = wide(file[i + 1]);
-    let c = wide(file[i + 2]);
-    let d = wide(file[i + 3]);
+    let a = byte_number(file[i]);
+    let b = byte_number(file[i + 1]);
+    let c = byte_number(file[i + 2]);
+    let d = byte_number(file[i + 3]);
     a + 256 * b + 65536 * c + 16777216 * d
 }
 
@@ -51,10 +52,4 @@ pub fn load(file: &[u8], words: &mut [u32]) -> usize
         i += 1;
     }
     n
-}
-
-fn least(a: usize, b: usize) -> usize
-    ensures { λ r. ⌜ r ≡ lesser a b ⌝ }
-{
-    if a <= b { a } else { b }
 }

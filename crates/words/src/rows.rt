@@ -6,7 +6,7 @@ use super::kinds::IMPLICATION;
 use super::kinds::PRECONDITION;
 ghost use mathlib.Core.Path.{_≡_};
 ghost use Rattle.rules.specs.Evidence.{flow, implication, precondition};
-ghost use Rattle.words.specs.Rows.{rowOf, rowDue, judgementOf};
+ghost use Rattle.words.specs.Rows.{rowOf, rowDue, judgementMeant};
 
 // Items: a boolean, a command, a set; evidence of kinds 33, 34 and 35.
 pub const ASSERTION: u32 = 1;
@@ -127,7 +127,7 @@ pub fn pre_row(rule: u32) -> u32
 
 // The row of a word where evidence of the judgement is due. A word of another kind has none.
 pub fn evidence_row(judgement: Judgement, kind: u32, payload: u32) -> u32
-    ensures { λ r. ⌜ r ≡ rowDue (judgementOf judgement) kind payload ⌝ }
+    ensures { λ r. ⌜ r ≡ rowDue (judgementMeant judgement) kind payload ⌝ }
 {
     match judgement {
         Judgement::Flow => {

@@ -5,16 +5,16 @@ use Rattle.implication.proofs.Answers.{left-small, right-small}
 use Rattle.implication.proofs.implies.Statement.{statement}
 use Rattle.implication.proofs.implies.Tie as tie
 
-settle-requires : tie.Need-settle-requires
-settle-requires c κs =
+decide-sides-requires : tie.Need-decide-sides-requires
+decide-sides-requires c κs =
     let at-left = c .before .before .before in
     let first = at-left .room .ensures .0 in
     let second = c .before .before .room2 .ensures .0 in
     let few = c .before .if1 .taken in
     (at-left .before .before .pre, omega arith)
 
-settle-requires-2 : tie.Need-settle-requires-2
-settle-requires-2 c κs =
+decide-sides-requires-2 : tie.Need-decide-sides-requires-2
+decide-sides-requires-2 c κs =
     let at-left = c .before .before .before in
     let first = at-left .room .ensures in
     let second = c .before .before .room2 .ensures in
@@ -29,8 +29,8 @@ implies-spec =
     (λ c κs. right-small (c .before .before .pre))
     (λ c. omega (arith, c .room2 .ensures .1, c .before .room .ensures .1))
     (λ c. search needs)
-    settle-requires
-    (λ c. c .before .settle .ensures)
+    decide-sides-requires
+    (λ c. c .before .decide-sides .ensures)
     (λ c. search needs)
-    settle-requires-2
-    (λ c. c .before .settle2 .ensures))
+    decide-sides-requires-2
+    (λ c. c .before .decide-sides2 .ensures))

@@ -2,14 +2,14 @@
 use Prim.Native.Nat.{_-_}
 use native.Mathlib.Omega.{arith}
 use borrow.Author.Needs.{needs}
-use Rattle.implication.proofs.Walks.{Walk, walk-start, walk-end, walk-full, walk-space}
+use Rattle.implication.proofs.Walks.{Compilation, walk-start, walk-end, walk-full, walk-space}
 use Rattle.implication.proofs.Walks.{walk-mark, walk-old, walk-new}
 use Rattle.implication.proofs.compile.compile.Statement.{statement}
 use Rattle.implication.proofs.compile.compile.Tie as tie
 
 abbrev Inv-loop : tie.InvT-loop
 Inv-loop w a end limit known len starts₀ ends₀ prog₀ n₀ at₀ k₀ starts ends prog n at k =
-    Walk w a end limit known len starts₀ ends₀ prog₀ starts ends prog n at k
+    Compilation w a end limit known len starts₀ ends₀ prog₀ starts ends prog n at k
 
 abbrev μ-loop : tie.MeasureT-loop
 μ-loop w a end limit known len starts₀ ends₀ prog₀ n₀ at₀ k₀ starts ends prog n at k = end - k

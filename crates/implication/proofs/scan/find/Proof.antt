@@ -2,12 +2,12 @@
 use Prim.Native.Nat.{_-_, _≤_}
 use native.Mathlib.Omega.{arith}
 use borrow.Author.Needs.{needs}
-use Rattle.implication.proofs.Spans.{Missed, missed-none, missed-end, missed-here, missed-more}
+use Rattle.implication.proofs.Spans.{RangesMissed, missed-none, missed-end, missed-here, missed-more}
 use Rattle.implication.proofs.scan.find.Statement.{statement}
 use Rattle.implication.proofs.scan.find.Tie as tie
 
 abbrev Inv-loop : tie.InvT-loop
-Inv-loop w k next starts ends n i₀ i = Missed w k next starts ends i × (i ≤ n)
+Inv-loop w k next starts ends n i₀ i = RangesMissed w k next starts ends i × (i ≤ n)
 
 abbrev μ-loop : tie.MeasureT-loop
 μ-loop w k next starts ends n i₀ i = n - i

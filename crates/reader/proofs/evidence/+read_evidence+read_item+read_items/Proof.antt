@@ -5,7 +5,7 @@
 use borrow.Author.Needs.{needs}
 use borrow.Author.Tests.{ne-eqb}
 use native.Mathlib.Omega.{arith}
-use Rattle.words.specs.Rows.{judgementOf}
+use Rattle.words.specs.Rows.{judgementMeant}
 use Rattle.context.specs.Contexts.{contextOf}
 use Rattle.layout.specs.Bytes.{wordCount}
 use Rattle.reader.proofs.Walks.{room, evidence-goes, stop}
@@ -92,15 +92,15 @@ pub +read-evidence+read-item+read-items-spec : {M : Type 1} → statement M
     let h = room _ _ _ (m .before .before .word-due .ensures) (m .d2 .given .1) in omega arith)
     (λ c. let m = c .before in
     let a = m .before .before .before .before .args in
-    stop (evidence-goes (a .w .now) (contextOf (a .context)) (a .left) (judgementOf (a .judgement)) (a .at))
+    stop (evidence-goes (a .w .now) (contextOf (a .context)) (a .left) (judgementMeant (a .judgement)) (a .at))
     (m .before .before .word-due .ensures) (m .d .given .1))
     (λ c. let m = c .before .before .before in
     let a = m .before .before .before .before .args in
-    rule-none (contextOf (a .context)) (a .w .now) (a .left) (judgementOf (a .judgement)) (a .at)
+    rule-none (contextOf (a .context)) (a .w .now) (a .left) (judgementMeant (a .judgement)) (a .at)
     (m .before .before .word-due .ensures) (m .d2 .given .1) (c .before .evidence-row .ensures) (c .if1 .taken))
     (λ c. let m = c .before .before .before .before in
     let a = m .before .before .before .before .args in
-    rule-some (contextOf (a .context)) (a .w .now) (a .left) (judgementOf (a .judgement)) (a .at)
+    rule-some (contextOf (a .context)) (a .w .now) (a .left) (judgementMeant (a .judgement)) (a .at)
     (m .before .before .word-due .ensures) (m .d2 .given .1) (c .before .before .evidence-row .ensures)
     (c .before .if1 .left) (c .read-items .ensures)))
     (λ t. read-item-lts.spec (

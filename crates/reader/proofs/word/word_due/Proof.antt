@@ -3,7 +3,7 @@
 use borrow.Author.Needs.{needs}
 use mathlib.Core.Path.{sym, _∙_, ap₂}
 use Prim.Native.Nat.{ℕ, _+_, _-_}
-use Rattle.reader.specs.declared.Due.the-variants.{There}
+use Rattle.reader.specs.declared.FirstWord.the-variants.{There}
 use Rattle.reader.proofs.Walks.{due-ends, due-deep, due-there}
 use Rattle.reader.proofs.word.word_due.Statement.{statement}
 use Rattle.reader.proofs.word.word_due.Tie as tie

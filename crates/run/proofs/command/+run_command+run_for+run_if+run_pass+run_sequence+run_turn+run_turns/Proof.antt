@@ -11,7 +11,7 @@ use Rattle.heads.proofs.Parts.{command-early, command-allowed, command-parts}
 use Rattle.execution.specs.Lent.{lent}
 use Rattle.run.specs.Steps.{stepsLeft, Stepped}
 use Rattle.run.proofs.Steps.{running}
-use Rattle.run.proofs.Turns.{Going, going-none, falls as turn-falls, going-on, going-over}
+use Rattle.run.proofs.Turns.{LoopGoing, going-none, falls as turn-falls, going-on, going-over}
 use Rattle.run.proofs.Bodies.{at-head, again, sequence-first, sequence-second, if-can, if-then, if-else, for-small}
 use Rattle.run.proofs.Bodies.{loop-next, loop-body, loop-counts}
 use Rattle.run.proofs.Commands.{skip-runs, while-runs, for-ended, for-stopped, sequence-ended, sequence-stopped}
@@ -83,7 +83,7 @@ run-turns-below t = and 5 run-turns-kinds.ps (falls 5 run-turns-kinds.ps _<_ μ-
 
 abbrev run-turns-Inv-loop : run-turns-lts.InvT-loop
 run-turns-Inv-loop w ends at kind scalars₀ values₀ progress₀ scalars values progress =
-    Going w ends at (lent scalars₀ values₀) progress₀ (lent scalars values) progress
+    LoopGoing w ends at (lent scalars₀ values₀) progress₀ (lent scalars values) progress
 
 abbrev run-turns-μ-loop : run-turns-lts.MeasureT-loop
 run-turns-μ-loop w ends at kind scalars₀ values₀ progress₀ scalars values progress = stepsLeft progress

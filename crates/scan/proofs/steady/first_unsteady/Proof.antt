@@ -5,12 +5,12 @@ use Prim.Native.Nat.{_-_}
 use borrow.Author.Needs.{needs}
 use lib.ListN.{length}
 use Rattle.scan.specs.Steady.{Tested}
-use Rattle.scan.proofs.Tests.{tested-else, Passed, passed-none, passed-more, found-here, found-none}
+use Rattle.scan.proofs.Tests.{tested-else, SteadyBefore, passed-none, passed-more, found-here, found-none}
 use Rattle.scan.proofs.steady.first_unsteady.Statement.{statement}
 use Rattle.scan.proofs.steady.first_unsteady.Tie as tie
 
 abbrev Inv-loop : tie.InvT-loop
-Inv-loop w ends at₀ at = Passed w at
+Inv-loop w ends at₀ at = SteadyBefore w at
 
 abbrev μ-loop : tie.MeasureT-loop
 μ-loop w ends at₀ at = length w - at

@@ -20,5 +20,5 @@ rule-19-spec =
     (λ c κs. search needs)
     (λ c. let c₁ = c .before in let c₂ = c₁ .before in let c₃ = c₂ .before in let c₄ = c₃ .before in
     let c₇ = c₄ .before .before .before in
-    split-rule (c₇ .pre) (c₄ .count .ensures) (c₃ .if1 .left) (c₂ .end-or-zero .ensures) (c₁ .is-split .ensures)
+    split-rule (c₇ .pre) (c₄ .count .ensures) (c₃ .if1 .left) (c₂ .end-or-zero .ensures) (c₁ .are-operands .ensures)
     (c .condition .ensures)))

@@ -4,13 +4,13 @@ use borrow.Author.Needs.{needs}
 use Rattle.sets.specs.Items.{writtenHalves}
 use Rattle.sets.specs.Lists.{standsIn}
 use Rattle.sets.proofs.Members.{member-pass}
-use Rattle.sets.proofs.Loops.{Left, left-start, left-first, left-stop, left-on, left-end, stands-found}
+use Rattle.sets.proofs.Loops.{MembersLeft, left-start, left-first, left-stop, left-on, left-end, stands-found}
 use Rattle.sets.proofs.Loops.{stands-skip, end-stands}
 use Rattle.sets.proofs.member.in_seen.Statement.{statement}
 use Rattle.sets.proofs.member.in_seen.Tie as tie
 
 abbrev Inv-loop : tie.InvT-loop
-Inv-loop w ends x k at view n₀ i₀ n i = Left w ends view (standsIn (writtenHalves w ends x)) n₀ i₀ n i
+Inv-loop w ends x k at view n₀ i₀ n i = MembersLeft w ends view (standsIn (writtenHalves w ends x)) n₀ i₀ n i
 
 abbrev μ-loop : tie.MeasureT-loop
 μ-loop w ends x k at view n₀ i₀ n i = n

@@ -5,13 +5,13 @@ use Rattle.sets.specs.Lists.{written, withinAll}
 use Rattle.sets.proofs.Members.{member-pass}
 use borrow.Author.Tests.{not-true, not-false}
 use Rattle.sets.proofs.Items.{seen-at}
-use Rattle.sets.proofs.Loops.{Left, left-start, left-first, left-stop, left-on, left-end, within-stop}
+use Rattle.sets.proofs.Loops.{MembersLeft, left-start, left-first, left-stop, left-on, left-end, within-stop}
 use Rattle.sets.proofs.Loops.{within-skip, has-as, end-within}
 use Rattle.sets.proofs.member.seen_in.Statement.{statement}
 use Rattle.sets.proofs.member.seen_in.Tie as tie
 
 abbrev Inv-loop : tie.InvT-loop
-Inv-loop w ends j from view k at n₀ i₀ n i = Left w ends view (λ z. withinAll z (written w ends k at)) n₀ i₀ n i
+Inv-loop w ends j from view k at n₀ i₀ n i = MembersLeft w ends view (λ z. withinAll z (written w ends k at)) n₀ i₀ n i
 
 abbrev μ-loop : tie.MeasureT-loop
 μ-loop w ends j from view k at n₀ i₀ n i = n

@@ -5,7 +5,7 @@ use native.Mathlib.Omega.{arith}
 use mathlib.Core.Path.{_≡_, refl}
 use Prim.Native.Nat.{_+_, _*_, _/_, _-_, _≤_, _<_}
 use lib.ListN.{length, length-set}
-use Rattle.words.proofs.Loading.{front, front-more, lesser-both}
+use Rattle.words.proofs.Loading.{front, front-more}
 use Rattle.words.proofs.load.load.Statement.{statement}
 use Rattle.words.proofs.load.load.Tie as tie
 
@@ -18,7 +18,7 @@ abbrev μ-loop : tie.MeasureT-loop
 μ-loop file words₀ whole room n i₀ words i = n - i
 
 loop-holds : tie.Need-loop-holds Inv-loop μ-loop
-loop-holds c = let h = lesser-both _ _ _ (c .least .ensures) in (omega arith, h .0, h .1, refl, refl)
+loop-holds c = let h = c .least .ensures in (omega arith, h .0, h .1, refl, refl)
 
 loop-again : tie.Need-loop-again Inv-loop μ-loop
 loop-again c =
@@ -50,4 +50,4 @@ load-spec =
     (λ c. c .before .loop .inv .3)
     (λ c. let l = c .before .loop in
     let e : c .before .before .least .result ≡ l .i = omega arith in
-    record { count = c .before .before .least .ensures; content = rw e (l .inv .4) }))
+    record { count = c .before .before .least .ensures .2; content = rw e (l .inv .4) }))
