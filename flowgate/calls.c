@@ -20,6 +20,17 @@ static const uint8_t store[] = {
     0, 0, 0, 0x80, 0, 0, 0, 0x80, 10, 0, 0, 0x84,
 };
 
+/* 63:19 62:1 27:0 2:1 32:1 9:1 2:1 32:1 9:1 2:0 33:3 38:0 32:1 9:1 2:1 32:1 9:1 2:0 33:31, whose procedure copies scalar 1 into scalar 0 */
+static const uint8_t called[] = {
+    19, 0, 0, 0xfc, 1, 0, 0, 0xf8, 0, 0, 0, 0x6c, 1, 0, 0, 8, 1, 0, 0, 0x80, 1, 0, 0, 0x24, 1, 0, 0, 8, 1, 0, 0, 0x80, 1, 0, 0, 0x24, 0, 0, 0, 8,
+    3, 0, 0, 0x84, 0, 0, 0, 0x98, 1, 0, 0, 0x80, 1, 0, 0, 0x24, 1, 0, 0, 8, 1, 0, 0, 0x80, 1, 0, 0, 0x24, 0, 0, 0, 8, 31, 0, 0, 0x84,
+};
+
+/* 63:5 38:0 32:0 32:0 33:10, which calls a procedure that is not there */
+static const uint8_t nowhere[] = {
+    5, 0, 0, 0xfc, 0, 0, 0, 0x98, 0, 0, 0, 0x80, 0, 0, 0, 0x80, 10, 0, 0, 0x84,
+};
+
 static int64_t scalars[SCALARS];
 static int64_t values[VALUES];
 static int wrong;
@@ -80,6 +91,29 @@ static void part_calls(void)
     expect("no postcondition", flow_postcondition(store, sizeof store - 4), 0);
 }
 
+static uint64_t run_called(size_t budget)
+{
+    memset(scalars, 0, sizeof scalars);
+    scalars[1] = 7;
+    return flow_run(called, sizeof called, scalars, SCALARS, values, VALUES, budget);
+}
+
+/* The parts are the main program's; a call is one step, before its body's. */
+static void procedure_calls(void)
+{
+    expect("called", flow_check(called, sizeof called), 2);
+    expect("its program", flow_program(called, sizeof called), 11 * 65536 + 12);
+    expect("its precondition", flow_precondition(called, sizeof called), 12 * 65536 + 15);
+    expect("its postcondition", flow_postcondition(called, sizeof called), 15 * 65536 + 18);
+    expect("a call and its body", run_called(2), steps_and(2, 0, 0));
+    expect("what the body did", (uint64_t)scalars[0], 7);
+    expect("no step for the body", run_called(1), steps_and(1, 13, 2));
+    expect("no step for the call", run_called(0), steps_and(0, 13, 11));
+    expect("a call of nothing", flow_check(nowhere, sizeof nowhere), 16 * 65536 + 1);
+    expect("no program", flow_program(nowhere, sizeof nowhere), 0);
+    expect("a run of it", flow_run(nowhere, sizeof nowhere, scalars, SCALARS, values, VALUES, FLOW_MOST_BUDGET + 1), steps_and(0, 16, 1));
+}
+
 static void run_calls(void)
 {
     expect("up to 3", run_loop(3, SCALARS, VALUES, 11), steps_and(11, 0, 0));
@@ -123,16 +157,16 @@ static void calls_with_null(void)
     expect("run of bytes", flow_run_bytes(loop, sizeof loop, scalars, SCALARS, values, VALUES, 2), steps_and(2, 0, 0));
 }
 
-/* Fifteen meanings, no two alike, and one text for every other number. */
+/* Sixteen meanings, no two alike, and one text for every other number. */
 static void meanings(void)
 {
     uint32_t i, j;
-    for (i = 0; i <= 16; i++) {
+    for (i = 0; i <= 17; i++) {
         for (j = 1; j < i; j++) {
             expect("meanings that differ", strcmp(flow_meaning(i), flow_meaning(j)) != 0, 1);
         }
     }
-    expect("no meaning", strcmp(flow_meaning(0), flow_meaning(16)) == 0, 1);
+    expect("no meaning", strcmp(flow_meaning(0), flow_meaning(17)) == 0, 1);
     expect("meaning of 8", strcmp(flow_meaning(8), "a rule's condition fails") == 0, 1);
 }
 
@@ -141,6 +175,7 @@ int main(void)
     char version[32];
     check_calls();
     part_calls();
+    procedure_calls();
     run_calls();
     calls_with_null();
     meanings();

@@ -1,6 +1,7 @@
 /* flowgate [OPTION]... FILE...: checks flow certificates as a step of a build, by the proved calls, and compares their parts with what
  * was ordered. flowgate.1 has the options and the lines. Exit status: 0 if every certificate is accepted and as ordered; 1 if one is
  * refused or differs; 2 if one can't be read, what is to be written can't, or for bad use. */
+#include <errno.h>
 #include <stdio.h>
 #include <string.h>
 
@@ -36,7 +37,8 @@ static const struct program program = {
     "usage: flowgate [OPTION]... FILE...\n",
     "Checks flow certificates; - is standard input.\n"
     "\n"
-    "  --program FILE        accept only a certificate whose program is just the bytes of FILE,\n"
+    "  --program FILE        accept only a certificate whose program is just the bytes of FILE\n"
+    "                        (with procedures: 62:k, their bodies, the main command),\n"
     "  --precondition FILE   whose precondition,\n"
     "  --postcondition FILE  whose postcondition\n"
     "  --contract DIR        all three, by DIR/program, DIR/precondition and DIR/postcondition\n"
@@ -117,9 +119,11 @@ static int read_orders(void)
     return PASSED;
 }
 
-/* Reads a certificate, checks it, and compares its parts with what was ordered. */
+/* Reads a certificate, checks it, and compares its parts with what was ordered. One whose procedures are not found does not pass: the
+ * check and this program then know different layouts. */
 static struct result judge(const char *name, struct file *file)
 {
+    struct table table;
     struct result result = {ACCEPTED, 0, {PROGRAM, 0}, 0};
     result.error = read_file(name, file);
     if (result.error != 0) {
@@ -129,6 +133,11 @@ static struct result judge(const char *name, struct file *file)
     result.answer = flow_check(file->bytes, file->count);
     if (!flow_accepted(result.answer)) {
         result.verdict = REFUSED;
+        return result;
+    }
+    if (!find_procedures(file, &table)) {
+        result.verdict = UNREADABLE;
+        result.error = ENOTSUP;
         return result;
     }
     for (int i = 0; i < PARTS && result.verdict == ACCEPTED; i++) {

@@ -20,20 +20,66 @@ const char *name_of(enum part part)
     return parts[part].name;
 }
 
-struct span find_part(const struct file *file, enum part part)
+static void add_piece(struct pieces *pieces, size_t first, size_t past)
+{
+    pieces->spans[pieces->count].first = first;
+    pieces->spans[pieces->count].past = past;
+    pieces->count++;
+}
+
+/* What stands before the main command: 62:k and the bodies. */
+static void add_bodies(struct pieces *pieces, const struct file *file)
+{
+    struct table table;
+    find_procedures(file, &table);
+    if (table.count > 0) {
+        add_piece(pieces, 1, 2);
+    }
+    for (size_t i = 0; i < table.count; i++) {
+        add_piece(pieces, table.procedures[i].body.first, table.procedures[i].body.past);
+    }
+}
+
+struct pieces find_part(const struct file *file, enum part part)
 {
     uint32_t places = parts[part].find(file->bytes, file->count);
-    struct span span = {flow_first(places), flow_past(places)};
-    return span;
+    struct pieces pieces = {0};
+    if (part == PROGRAM && places != 0) {
+        add_bodies(&pieces, file);
+    }
+    add_piece(&pieces, flow_first(places), flow_past(places));
+    return pieces;
+}
+
+size_t count_part(const struct pieces *pieces)
+{
+    size_t words = 0;
+    for (size_t i = 0; i < pieces->count; i++) {
+        words += pieces->spans[i].past - pieces->spans[i].first;
+    }
+    return words;
+}
+
+size_t place_in(const struct pieces *pieces, size_t word)
+{
+    size_t past = 0;
+    for (size_t i = 0; i < pieces->count; i++) {
+        struct span span = pieces->spans[i];
+        if (word < span.past - span.first) {
+            return span.first + word;
+        }
+        word -= span.past - span.first;
+        past = span.past;
+    }
+    return past;
 }
 
 int is_ordered(const struct file *file, const struct file *ordered, enum part part, struct difference *difference)
 {
-    struct span span = find_part(file, part);
-    const uint8_t *bytes = file->bytes + 4 * span.first;
-    size_t count = 4 * (span.past - span.first);
+    struct pieces pieces = find_part(file, part);
+    size_t count = 4 * count_part(&pieces);
     size_t i = 0;
-    while (i < count && i < ordered->count && bytes[i] == ordered->bytes[i]) {
+    while (i < count && i < ordered->count && file->bytes[4 * place_in(&pieces, i / 4) + i % 4] == ordered->bytes[i]) {
         i++;
     }
     difference->part = part;
@@ -60,14 +106,17 @@ int find_new(const char *path)
 
 int write_part(const struct file *file, enum part part, const char *path)
 {
-    struct span span = find_part(file, part);
-    size_t count = 4 * (span.past - span.first);
+    struct pieces pieces = find_part(file, part);
     errno = 0;
     FILE *stream = fopen(path, "wb");
     if (stream == NULL) {
         return errno != 0 ? errno : EIO;
     }
-    int whole = fwrite(file->bytes + 4 * span.first, 1, count, stream) == count;
+    int whole = 1;
+    for (size_t i = 0; i < pieces.count; i++) {
+        size_t count = 4 * (pieces.spans[i].past - pieces.spans[i].first);
+        whole &= fwrite(file->bytes + 4 * pieces.spans[i].first, 1, count, stream) == count;
+    }
     int closed = fclose(stream) == 0;
     return whole && closed ? 0 : errno != 0 ? errno : EIO;
 }

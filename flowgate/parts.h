@@ -1,18 +1,20 @@
-/* The three parts of an accepted certificate, by the proved calls: compared with what was ordered, and written as files. */
+/* The three parts of an accepted certificate, by the proved calls: compared with what was ordered, and written as files. The program of
+ * a certificate with procedures is 62:k, their bodies in table order, then the main command: a call says what is done by the body alone. */
 #ifndef PARTS_H
 #define PARTS_H
 
 #include <stddef.h>
 
 #include "file.h"
+#include "procedures.h"
 
 enum part { PROGRAM, PRECONDITION, POSTCONDITION };
 enum { PARTS = 3, MOST_PATH = 4096 };
 
-/* Places of words: the first, and the one past the last. */
-struct span {
-    size_t first;
-    size_t past;
+/* The words of a part, in pieces of the certificate; the last of a program is its main command. */
+struct pieces {
+    size_t count;
+    struct span spans[MOST_PROCEDURES + 2];
 };
 
 /* Where a part and what was ordered first differ: the word of the part, from 0. */
@@ -25,7 +27,13 @@ struct difference {
 const char *name_of(enum part part);
 
 /* The words of a part; none if the file is refused. */
-struct span find_part(const struct file *file, enum part part);
+struct pieces find_part(const struct file *file, enum part part);
+
+/* How many words a part has. */
+size_t count_part(const struct pieces *pieces);
+
+/* The place in the certificate of a part's word, from 0; past the part's end, the place past its last word. */
+size_t place_in(const struct pieces *pieces, size_t word);
 
 /* Whether the part has just these bytes; if not, where they first differ. */
 int is_ordered(const struct file *file, const struct file *ordered, enum part part, struct difference *difference);

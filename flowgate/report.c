@@ -43,11 +43,11 @@ static void print_refusal(const struct file *file, uint32_t number, uint32_t pla
 /* The word of the part and the ordered one, each as kind:payload, or that there is none. */
 static void print_difference(const struct file *file, const struct file *ordered, struct difference difference)
 {
-    struct span span = find_part(file, difference.part);
+    struct pieces pieces = find_part(file, difference.part);
     size_t word = difference.word;
     printf("differs: word %zu of the %s is ", word, name_of(difference.part));
-    if (span.first + word < span.past) {
-        print_word(word_at(file, span.first + word));
+    if (word < count_part(&pieces)) {
+        print_word(word_at(file, place_in(&pieces, word)));
     } else {
         fputs("no word", stdout);
     }
@@ -66,7 +66,8 @@ static size_t place_of(const struct file *file, const struct result *result)
     if (result->verdict == REFUSED) {
         return flow_place(result->answer);
     }
-    return find_part(file, result->difference.part).first + result->difference.word;
+    struct pieces pieces = find_part(file, result->difference.part);
+    return place_in(&pieces, result->difference.word);
 }
 
 void print_text(const char *name, const struct file *file, const struct file *ordered, const struct result *result)
@@ -89,9 +90,9 @@ void print_text(const char *name, const struct file *file, const struct file *or
 }
 
 /* A word as a JSON string, or null where there is none. */
-static void print_json_word(const struct file *file, size_t place, size_t past)
+static void print_json_word(const struct file *file, size_t place, int there)
 {
-    if (place < past) {
+    if (there) {
         putchar('"');
         print_word(word_at(file, place));
         putchar('"');
@@ -102,14 +103,15 @@ static void print_json_word(const struct file *file, size_t place, size_t past)
 
 static void print_json_difference(const struct file *file, const struct file *ordered, const struct result *result)
 {
-    struct span span = find_part(file, result->difference.part);
+    struct pieces pieces = find_part(file, result->difference.part);
     size_t word = result->difference.word;
-    printf("\"differs\",\"number\":null,\"place\":%zu,\"count\":%u,\"meaning\":\"the %s is not as ordered\"", span.first + word,
+    size_t place = place_in(&pieces, word);
+    printf("\"differs\",\"number\":null,\"place\":%zu,\"count\":%u,\"meaning\":\"the %s is not as ordered\"", place,
         flow_count(result->answer), name_of(result->difference.part));
     printf(",\"part\":\"%s\",\"word\":%zu,\"is\":", name_of(result->difference.part), word);
-    print_json_word(file, span.first + word, span.past);
+    print_json_word(file, place, word < count_part(&pieces));
     fputs(",\"ordered\":", stdout);
-    print_json_word(ordered, word, count_words(ordered));
+    print_json_word(ordered, word, word < count_words(ordered));
 }
 
 void print_json(const char *name, const struct file *file, const struct file *ordered, const struct result *result)

@@ -7,7 +7,7 @@
 #include "show.h"
 
 enum { CONSTANT = 1, SCALAR, OPERATION, SELECT, COMPARISON = 8, TRUTH, AND, OR, NOT, ARRAY = 16, ZERO, UPDATE };
-enum { SKIP = 24, SEQUENCE, ASSERT, ASSIGN_SCALAR, ASSIGN_ARRAY, IF, WHILE, FOR };
+enum { SKIP = 24, SEQUENCE, ASSERT, ASSIGN_SCALAR, ASSIGN_ARRAY, IF, WHILE, FOR, CALL = 38 };
 
 /* The places of a part that are still to be shown, and how deep its lines are. */
 struct walk {
@@ -127,6 +127,7 @@ static void show_command(struct walk *walk)
     case IF: show_if(walk); break;
     case WHILE: show_form(walk, "while # do\n$"); break;
     case FOR: printf("for x%u ← 1 to x%u do\n", payload % 32, payload / 32); show_form(walk, "$"); break;
+    case CALL: printf("call procedure %u\n", payload); break;
     default: show_form(walk, "?\n"); break;
     }
 }
@@ -145,16 +146,36 @@ static void show_set(struct walk *walk)
     }
 }
 
+static void show_span(const struct file *file, struct span span, enum part part)
+{
+    struct walk walk = {file, span.first, span.past, 0};
+    if (part == PROGRAM) {
+        show_form(&walk, "$");
+    } else {
+        show_set(&walk);
+    }
+}
+
+static void show_procedure(const struct file *file, const struct procedure *procedure, size_t number)
+{
+    printf("procedure %zu\n", number);
+    show_span(file, procedure->body, PROGRAM);
+    printf("precondition of procedure %zu\n", number);
+    show_span(file, procedure->precondition, PRECONDITION);
+    printf("postcondition of procedure %zu\n", number);
+    show_span(file, procedure->postcondition, POSTCONDITION);
+}
+
 void show_parts(const struct file *file)
 {
+    struct table table;
+    find_procedures(file, &table);
+    for (size_t i = 0; i < table.count; i++) {
+        show_procedure(file, &table.procedures[i], i);
+    }
     for (int i = 0; i < PARTS; i++) {
-        struct span span = find_part(file, (enum part)i);
-        struct walk walk = {file, span.first, span.past, 0};
+        struct pieces pieces = find_part(file, (enum part)i);
         puts(name_of((enum part)i));
-        if (i == PROGRAM) {
-            show_form(&walk, "$");
-        } else {
-            show_set(&walk);
-        }
+        show_span(file, pieces.spans[pieces.count - 1], (enum part)i);
     }
 }

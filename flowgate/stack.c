@@ -1,5 +1,6 @@
 /* How much stack the library's calls take: `stack ROWS RUNS FOLDER/...`, with the rows and runs that have known answers, and folders of
- * files with theirs in `expected`. To these it adds files in which evidence, expressions or commands nest as deep as may be.
+ * files with theirs in `expected`. To these it adds files in which evidence, expressions or commands nest as deep as may be, also through
+ * procedures.
  *
  * Each call is made in a thread whose stack lies above a page that can't be touched. First the stack is more than enough and filled
  * with a pattern, and the lowest byte that was written says how much the call took. Then it is just what flowcheck.h states. Writes the
@@ -19,6 +20,9 @@
 enum { SCALARS = 32, VALUES = 2048, MOST_BYTES = 32768, MOST_STACK = 256 * 1024 };
 enum { PAGE = 4096, ROOM = 2 * MOST_STACK, PATTERN = 0xa5, BUDGET = 10000 };
 
+/* A run may be in sixteen procedures at once. */
+enum { MOST_RUN_STACK = (FLOW_MOST_PROCEDURES + 1) * MOST_STACK, MOST_ROOM = 2 * MOST_RUN_STACK };
+
 /* What is to be called, and the answer. */
 enum call { CHECK, PROGRAM, PRECONDITION, POSTCONDITION, RUN, CALLS };
 static const char *const names[CALLS] = {"flow_check", "flow_program", "flow_precondition", "flow_postcondition", "flow_run"};
@@ -32,8 +36,10 @@ static int64_t scalars[SCALARS];
 static int64_t values[VALUES];
 static uint64_t answer;
 
-/* Where the thread's stack is, and where in it the call was made; `above` is what the thread takes above that. */
+/* Where the thread's stack is, how much of it is filled with the pattern, and where in it the call was made; `above` is what the thread
+ * takes above that. */
 static uint8_t *stack;
+static size_t room = ROOM;
 static uint8_t *frame;
 static size_t above;
 
@@ -83,15 +89,15 @@ static void measure(const char *name)
 {
     size_t lowest = 0;
 
-    memset(stack, PATTERN, ROOM);
-    call_in_thread(ROOM);
-    above = (size_t)(stack + ROOM - frame);
+    memset(stack, PATTERN, room);
+    call_in_thread(room);
+    above = (size_t)(stack + room - frame);
     while (stack[lowest] == PATTERN) {
         lowest++;
     }
     most[call].calls++;
-    if (most[call].stack < ROOM - above - lowest) {
-        most[call].stack = ROOM - above - lowest;
+    if (most[call].stack < room - above - lowest) {
+        most[call].stack = room - above - lowest;
         snprintf(most[call].name, sizeof most[call].name, "%s", name);
     }
 }
@@ -261,7 +267,7 @@ static void try_file(char *at)
 /* ---- files as deep as may be, word by word */
 
 enum { CONSTANT = 1, SCALAR = 2, OPERATOR = 3, SELECT = 4, LESS = 8, TRUTH = 9, AND = 10, OR = 11, NOT = 12, ARRAY = 16, UPDATE = 18 };
-enum { SKIP = 24, SEQUENCE = 25, ASSERT = 26, TO_SCALAR = 27, TO_ARRAY = 28, IF = 29, WHILE = 30, FOR = 31 };
+enum { SKIP = 24, SEQUENCE = 25, ASSERT = 26, TO_SCALAR = 27, TO_ARRAY = 28, IF = 29, WHILE = 30, FOR = 31, CALL = 38, TABLE = 62 };
 enum { SET = 32, FLOW = 33, IMPLICATION = 34, BEFORE = 35, FIRST_WORD = 63, DEEPEST = 128 };
 
 static void put(uint32_t kind, uint32_t payload)
@@ -438,15 +444,21 @@ static void try_replaced(const struct deep *which, uint32_t assignment, uint32_t
     try_check(name, &due);
 }
 
-/* The start of a file: loops, so many of them `for` loops over scalars of their own. */
-static void begin_loops(int fors, int whiles)
+/* So many `for` loops, over scalars of their own. */
+static void put_fors(int fors)
 {
     int i;
 
-    begin();
     for (i = 0; i < fors; i++) {
         put(FOR, (uint32_t)(2 + i + 32 * (SCALARS - 1)));
     }
+}
+
+/* The start of a file: loops, so many of them `for` loops. */
+static void begin_loops(int fors, int whiles)
+{
+    begin();
+    put_fors(fors);
     nest(whiles, WHILE, 0, TRUTH);
 }
 
@@ -493,6 +505,78 @@ static void try_branches(void)
     try_command("skip under 127 sequences", 0, 0);
 }
 
+/* The body of procedure 0: skip under 127 levels, or a command with an expression that has all the levels left. */
+static void put_last(uint32_t kind, const struct deep *last)
+{
+    if (last) {
+        put(last->command, last->command != ASSERT);
+        put_deep(last, DEEPEST - 1);
+        return;
+    }
+    nest(DEEPEST - 1, kind, 0, kind == SEQUENCE ? 0 : TRUTH);
+    nest(kind == WHILE ? 1 : DEEPEST, SKIP, 0, 0);
+}
+
+/* A body of 127 levels around a call of the procedure below. */
+static void put_caller(uint32_t kind, uint32_t below)
+{
+    nest(DEEPEST - 1, kind, 0, kind == SEQUENCE ? 0 : TRUTH);
+    put(CALL, below);
+    nest(kind == WHILE ? 0 : DEEPEST - 1, SKIP, 0, 0);
+}
+
+/* The main program's, with as many `for` loops as there may be: none of their scalars is modified by what they call. */
+static void put_main(uint32_t kind)
+{
+    if (kind == WHILE) {
+        put_fors(28);
+        nest(DEEPEST - 1 - 28, WHILE, 0, TRUTH);
+        put(CALL, FLOW_MOST_PROCEDURES - 1);
+    } else {
+        put_caller(kind, FLOW_MOST_PROCEDURES - 1);
+    }
+}
+
+/* A run that is in sixteen procedures at once, each at the deepest level of its body. The contracts ask nothing. */
+static void try_procedures(uint32_t kind, const char *name, const struct deep *last)
+{
+    char whole[80];
+    uint64_t due = FLOW_MOST_PROCEDURES + 1;
+    uint32_t i;
+
+    begin();
+    put(TABLE, FLOW_MOST_PROCEDURES);
+    for (i = 0; i <= FLOW_MOST_PROCEDURES; i++) {
+        if (i == 0) {
+            put_last(kind, last);
+        } else if (i < FLOW_MOST_PROCEDURES) {
+            put_caller(kind, i - 1);
+        } else {
+            put_main(kind);
+        }
+        nest(2, SET, 0, 0);
+        put(FLOW, 10);
+    }
+    end();
+    snprintf(whole, sizeof whole, "16 procedures of 127 %s, the last of %s", name, last ? last->name : name);
+    try_check(whole, &due);
+    room = MOST_ROOM;
+    try_run(whole);
+    room = ROOM;
+}
+
+static void try_all_procedures(void)
+{
+    size_t i;
+
+    try_procedures(WHILE, "whiles", NULL);
+    try_procedures(IF, "ifs", NULL);
+    try_procedures(SEQUENCE, "sequences", NULL);
+    for (i = 0; i < DEEP; i++) {
+        try_procedures(WHILE, "whiles", &deep[i]);
+    }
+}
+
 static void try_deepest(void)
 {
     static const int fors[] = {0, 28};
@@ -513,6 +597,7 @@ static void try_deepest(void)
         }
     }
     try_branches();
+    try_all_procedures();
 }
 
 static void try_all(int count, char **paths)
@@ -557,7 +642,7 @@ static void try_with_stated(int count, char **paths)
 int main(int count, char **arguments)
 {
     int i;
-    uint8_t *mapped = mmap(NULL, PAGE + ROOM, PROT_READ | PROT_WRITE, MAP_PRIVATE | MAP_ANONYMOUS, -1, 0);
+    uint8_t *mapped = mmap(NULL, PAGE + MOST_ROOM, PROT_READ | PROT_WRITE, MAP_PRIVATE | MAP_ANONYMOUS, -1, 0);
 
     trying = mmap(NULL, PAGE, PROT_READ | PROT_WRITE, MAP_SHARED | MAP_ANONYMOUS, -1, 0);
     if (mapped == MAP_FAILED || trying == MAP_FAILED || mprotect(mapped, PAGE, PROT_NONE)) {
@@ -572,7 +657,7 @@ int main(int count, char **arguments)
     for (i = 0; i < CALLS; i++) {
         printf("%s: at most %zu bytes of stack in %zu calls (%s); %zu are stated\n", names[i], most[i].stack, most[i].calls,
             most[i].name, stated[i]);
-        wrong |= most[i].stack > stated[i] || stated[i] > MOST_STACK;
+        wrong |= most[i].stack > stated[i] || stated[i] > (i == RUN ? MOST_RUN_STACK : MOST_STACK);
     }
     try_with_stated(count - 1, arguments + 1);
     return wrong;

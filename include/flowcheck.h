@@ -12,14 +12,15 @@
 
 /* The version of these calls and of what their numbers mean. It is written here alone. */
 #define FLOWCHECK_VERSION_MAJOR 1
-#define FLOWCHECK_VERSION_MINOR 0
+#define FLOWCHECK_VERSION_MINOR 1
 #define FLOWCHECK_VERSION_PATCH 0
 #define FLOWCHECK_QUOTE(a, b, c) #a "." #b "." #c
 #define FLOWCHECK_QUOTED(a, b, c) FLOWCHECK_QUOTE(a, b, c)
 #define FLOWCHECK_VERSION FLOWCHECK_QUOTED(FLOWCHECK_VERSION_MAJOR, FLOWCHECK_VERSION_MINOR, FLOWCHECK_VERSION_PATCH)
 
-/* The most bytes of a file; the size of the runner's store; its largest budget. */
+/* The most bytes of a file; the most procedures in it; the size of the runner's store; its largest budget. */
 #define FLOW_MOST_BYTES 32768
+#define FLOW_MOST_PROCEDURES 16
 #define FLOW_SCALARS 32
 #define FLOW_ARRAYS 32
 #define FLOW_INDEXES 64
@@ -30,35 +31,36 @@
  * for the parts of a file take what flow_check takes. Measured on files that nest as deep as the layout allows, and rounded up
  * (flowgate/stack.c); not proved. */
 #define FLOW_CHECK_STACK 212992
-#define FLOW_RUN_STACK 204800
+#define FLOW_RUN_STACK 1425408
 
 #ifdef __cplusplus
 extern "C" {
 #endif
 
 /* Checks the file of `count` bytes. Accepted: the count of its evidence words, below 65,536. Refused: number * 65,536 + place, the
- * number one of 1 to 9 (flow_meaning). */
+ * number one of 1 to 9 and 16 (flow_meaning). */
 uint32_t flow_check(const uint8_t *file, size_t count);
 
 /* Where the program, the precondition and the postcondition of an accepted file stand: the place of the part's first word * 65,536 + the
- * place past its last. 0 if the file is refused. */
+ * place past its last. 0 if the file is refused. They are those of the main program: what it calls stands before it, from word 1 on (62:k
+ * and the procedures), so who compares the program has to compare the procedures' bodies as well, as flowgate does. */
 uint32_t flow_program(const uint8_t *file, size_t count);
 uint32_t flow_precondition(const uint8_t *file, size_t count);
 uint32_t flow_postcondition(const uint8_t *file, size_t count);
 
 /* Runs the file's program in the lent store, without judging its evidence, for at most `budget` steps. `n` must be FLOW_SCALARS and `k`
  * FLOW_VALUES: array a's index i is value FLOW_INDEXES * a + i. The upper 32 bits of the answer are the steps finished. The lower 32
- * are 0 if the run ended, and the store is then the ending store; else number * 65,536 + place, the number one of 1 to 7 and 10 to 15.
- * For 1 to 11 no step is finished and the store is untouched. For 12 to 15 the place is that of the command, and the store is as
- * before the step that was due. */
+ * are 0 if the run ended, and the store is then the ending store; else number * 65,536 + place, the number one of 1 to 7 and 10 to 16.
+ * For 1 to 11 and 16 no step is finished and the store is untouched. For 12 to 15 the place is that of the command, in a procedure's
+ * body if it stands there, and the store is as before the step that was due. */
 uint64_t flow_run(const uint8_t *file, size_t count, int64_t *scalars, size_t n, int64_t *values, size_t k, size_t budget);
 
 #ifdef __cplusplus
 }
 #endif
 
-/* What the number of a refusal means. They are tried in this order, but 3 to 5 at each word in file order, and 8 and 9 at each
- * evidence word. docs/FORMAT.md has the usual causes. */
+/* What the number of a refusal means. They are tried in this order, but 3 to 5 at each word in file order, 16 after 6, and 8 and 9 at
+ * each evidence word. docs/FORMAT.md has the usual causes. */
 static inline const char *flow_meaning(uint32_t number)
 {
     switch (number) {
@@ -77,6 +79,7 @@ static inline const char *flow_meaning(uint32_t number)
     case 13: return "the budget is used up and a step is due";
     case 14: return "a value leaves the signed 64-bit range";
     case 15: return "an index is outside 0 to 63";
+    case 16: return "a call's number is not below its own procedure's, or not in the table"; /* place of the first such call */
     default: return "no refusal has this number";
     }
 }

@@ -123,6 +123,9 @@ make_files() {
     words 63:6 31:33 24:0 32:0 32:0 33:10 > loop
     words 63:10 27:0 2:1 32:1 9:1 2:2 32:1 9:1 2:0 33:3 > rule
     row limits/l3830-s14 > large
+    words 63:19 62:1 27:0 2:1 32:1 9:1 2:1 32:1 9:1 2:0 33:3 38:0 32:1 9:1 2:1 32:1 9:1 2:0 33:31 > called
+    words 63:10 62:1 38:0 32:0 32:0 33:10 24:0 32:0 32:0 33:10 > itself
+    words 63:5 38:3 32:0 32:0 33:10 > nowhere
     mkdir folder
     ln -s circle circle
     cp good "$(printf 'two\nlines')"

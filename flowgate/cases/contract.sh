@@ -111,6 +111,51 @@ every_byte() {
     done
 }
 
+# the program of a certificate with procedures is 62:k, their bodies, the main command: another body is another program, and evidence and
+# the procedures' own contracts are none of it
+with_procedures() {
+    words 62:1 27:0 2:1 38:0 > bodies
+    echo 'called: accepted 2' | lines 0 --program bodies called
+    words 38:0 > other
+    lines 1 --program other called << 'END'
+called:1: differs: word 0 of the program is 62:1, ordered is 38:0
+END
+    words 62:1 27:0 2:2 38:0 > other
+    lines 1 --program other called << 'END'
+called:3: differs: word 2 of the program is 2:1, ordered is 2:2
+END
+    words 62:1 27:0 2:1 24:0 > other
+    lines 1 --program other called << 'END'
+called:11: differs: word 3 of the program is 38:0, ordered is 24:0
+END
+    words 62:1 27:0 2:1 > other
+    lines 1 --program other called << 'END'
+called:11: differs: word 3 of the program is 38:0, ordered is no word
+END
+    words 62:1 27:0 2:1 38:0 24:0 > other
+    lines 1 --program other called << 'END'
+called:12: differs: word 4 of the program is no word, ordered is 24:0
+END
+    lines 1 --json --program other called << 'END'
+{"file":"called","verdict":"differs","number":null,"place":12,"count":2,"meaning":"the program is not as ordered","part":"program","word":4,"is":null,"ordered":"24:0"}
+END
+    lines 1 --program bodies copy << 'END'
+copy:1: differs: word 0 of the program is 27:0, ordered is 62:1
+END
+    lines 1 --contract ordered called << 'END'
+called:1: differs: word 0 of the program is 62:1, ordered is 27:0
+END
+    words 63:11 62:1 27:0 2:1 32:0 32:0 33:10 38:0 32:0 32:0 33:31 > again
+    echo 'again: accepted 2' | lines 0 --program bodies again
+    rm -rf kept
+    mkdir kept
+    echo 'called: accepted 2' | lines 0 --parts kept called
+    tried 1
+    cmp bodies kept/program || wrong "flowgate --parts: the program of a certificate with procedures"
+    echo 'called: accepted 2' | lines 0 --contract kept called
+    rm -r kept
+}
+
 no_orders() {
     errors 2 --program missing copy << 'END'
 flowgate: missing: No such file or directory
@@ -174,6 +219,7 @@ contract_cases() {
     as_ordered
     not_as_ordered
     other_lengths
+    with_procedures
     [ $run != plain ] || every_byte
     no_orders
     parts_written

@@ -66,6 +66,37 @@ postcondition
 END
 }
 
+# the procedures come first, each with its contract: a call means nothing without the body
+show_procedures() {
+    certificate 62:2 27:0 2:1 32:1 9:1 2:1 32:1 9:1 2:0 33:3 25:0 38:0 24:0 32:0 32:0 33:10 \
+        29:0 9:1 38:1 24:0 32:1 9:1 2:1 32:1 9:1 2:1 33:11 35:29 > procedures
+    lines 0 --show procedures << 'END'
+procedures: accepted 4
+procedure 0
+  x0 := x1
+precondition of procedure 0
+  true ⇒ x1
+postcondition of procedure 0
+  true ⇒ x0
+procedure 1
+  call procedure 0
+  skip
+precondition of procedure 1
+  (empty)
+postcondition of procedure 1
+  (empty)
+program
+  if true then
+    call procedure 1
+  else
+    skip
+precondition
+  true ⇒ x1
+postcondition
+  true ⇒ x1
+END
+}
+
 # with other files and options: nothing is shown of a certificate that is refused or differs
 show_others() {
     words 24:0 > skip
@@ -87,6 +118,7 @@ show_cases() {
     program=flowgate
     show_commands
     show_members
+    show_procedures
     show_others
 }
 

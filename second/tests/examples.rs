@@ -2,8 +2,7 @@
 //! each faulty one is broken by two runs.
 
 use second::compare::pairs::{try_pair, Found};
-use second::examples::guard::*;
-use second::examples::loops;
+use second::examples::{self, guard::*};
 use second::generate::{accepted, file_prng};
 use second::layout::syntax::{Expression, File};
 use second::naive::big::Big;
@@ -69,7 +68,7 @@ fn every_example_is_expected() {
 
 #[test]
 fn texts_and_files_are_as_their_trees_say() {
-    for example in examples().into_iter().chain(loops::examples()) {
+    for example in examples::all() {
         assert_eq!(text(example.name), example.text());
         assert_eq!(bytes(example.name), example.bytes());
     }
@@ -177,7 +176,9 @@ fn the_guard_does_what_the_figure_says() {
 }
 
 /// The example, the store that its program is run from, and what comes of it.
-const RUNS: [(&str, &str, &str, &str); 11] = [
+const RUNS: [(&str, &str, &str, &str); 13] = [
+    ("guard-procedure", "0=1,1=5,4=1,5=6,2=1", "ended", "0=0,6=1,7=5,8=1,9=6,10=1,12=5"),
+    ("guard-procedure", "4=1,5=6", "ended", "2=1,3=6,4=0,9=6,10=1,11=6,12=6"),
     ("lookup", "0=63,95=9", "ended", "1=9"),
     ("lookup", "0=64,95=9", "refused 12 2", ""),
     ("message", "0=1,32=5,33=6,98=7", "ended", "96=5,97=6"),
@@ -236,13 +237,15 @@ fn judged_by_runs(file: &File, one: &str, two: &str) -> (bool, bool) {
     let starts = [store(one), store(two)];
     let mut ends = starts.clone();
     for end in &mut ends {
-        unbounded::run(&file.command, end, &mut 100).expect("the program ends");
+        unbounded::run(&file.command, &file.procedures, end, &mut 100).expect("the program ends");
     }
     (agree(&file.pre, &starts[0], &starts[1]), agree(&file.post, &ends[0], &ends[1]))
 }
 
 /// A faulty example, the good one, and two stores that break the contract of the first.
-const LEAKS: [[&str; 4]; 7] = [
+const LEAKS: [[&str; 4]; 9] = [
+    ["guard-procedure-late", "guard-procedure", "0=1,12=3", "0=1,12=4"],
+    ["guard-procedure-ready", "guard-procedure", "0=1", "0=1,6=1"],
     ["guard-without-test", "guard-output-0", "5=5,3=7,4=1", "5=5,3=7,4=0"],
     ["guard-rule-18", "guard-output-0", "5=5,3=7", "5=5,3=8"],
     ["guard-crossed", "guard-output-0", "5=5,3=7,0=1,4=1,1=3", "5=5,3=7,0=1,4=1,1=4"],

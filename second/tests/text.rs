@@ -89,7 +89,7 @@ fn rows_with_known_answers() {
 
 #[test]
 fn generated_and_mutated_files() {
-    let mut seen = [0; 10];
+    let mut seen = [0; 17];
     for bytes in generated() {
         all(&bytes);
         seen[match check(&bytes) {
@@ -97,7 +97,7 @@ fn generated_and_mutated_files() {
             Answer::Refused(refusal) => refusal.number as usize,
         }] += 1;
     }
-    assert!(seen.iter().all(|n| *n > 0), "{seen:?}");
+    assert!([0, 1, 2, 3, 4, 5, 6, 7, 8, 9, 16].iter().all(|number| seen[*number] > 0), "{seen:?}");
 }
 
 #[test]
@@ -150,7 +150,60 @@ expression (test)
     assert_eq!(view(&bytes), text);
 }
 
-/// Every form of command, and both kinds of array assignment.
+#[test]
+fn the_text_of_a_file_with_procedures() {
+    let bytes = file(&[(63, 10), (62, 1), (24, 0), (32, 0), (32, 0), (33, 1), (38, 1), (32, 0), (32, 0), (33, 31)]);
+    let text = "\
+# 10 words: refused 16 6
+     0 | 63:10                      # a file of 10 words
+     1 | 62:1                       # a table of 1 procedure
+     2 | 24:0                       # procedure 0, body C: skip
+     3 | 32:0                       # procedure 0, precondition P: set of 0 members
+     4 | 32:0                       # procedure 0, postcondition Q: set of 0 members
+     5 | 33:1                       # procedure 0, evidence: flow rule 1, skip: P same as Q
+>    6 | 38:1                       # REFUSED 16: this call's number is not below its own procedure's, or not in the table; program C: call \
+procedure 1
+     7 | 32:0                       # precondition P: set of 0 members
+     8 | 32:0                       # postcondition Q: set of 0 members
+     9 | 33:31                      # evidence: flow rule 31, call: P same as the procedure's precondition, Q same as its \
+postcondition
+";
+    assert_eq!(view(&bytes), text);
+}
+
+#[test]
+fn the_parts_of_a_file_with_procedures() {
+    let text = "63:* 62:2 27:0 2:1 32:1 9:1 2:1 32:1 9:1 2:0 33:3 25:0 38:0 24:0 32:0 32:0 33:10
+        29:0 9:1 38:1 24:0 32:1 9:1 2:1 32:1 9:1 2:1 33:11 35:29";
+    let parts = "\
+# 116 bytes: accepted 4
+procedure 0
+  x0 := x1
+precondition of procedure 0
+  true ⇒ x1
+postcondition of procedure 0
+  true ⇒ x0
+procedure 1
+  call procedure 0
+  skip
+precondition of procedure 1
+  (empty)
+postcondition of procedure 1
+  (empty)
+program
+  if true then
+    call procedure 1
+  else
+    skip
+precondition
+  true ⇒ x1
+postcondition
+  true ⇒ x1
+";
+    assert_eq!(view_parts(&assemble(text).expect("a text"), &NUMBERED), parts);
+}
+
+/// Every form of command but a call, and both kinds of array assignment.
 #[test]
 fn the_parts_of_a_file() {
     let text = "63:* 25:0 25:0 26:0 11:0 8:1 2:0 1:-3 9:0 28:1 18:0 16:1 2:0 4:0 16:2 3:0 2:0 1:1 29:0 12:0 8:0 2:1 1:0

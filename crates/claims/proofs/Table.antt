@@ -10,21 +10,21 @@ use Rattle.rules.specs.Replace.{replace}
 use Rattle.rules.specs.Sets.{setIdentifiers}
 use Rattle.rules.specs.Condition.{test, byForm}
 use Rattle.rules.specs.Judge.{oneMore, judgeWord, flowRule, judge}
-use Rattle.layout.specs.Reading.{_⊛_, several, wordDue}
+use Rattle.layout.specs.Reading.{_⊛_, several, wordDue, firstPlace}
 use Rattle.layout.specs.Read.{expression, command, set}
 use Rattle.layout.specs.ReadEvidence.{evidence}
-use Rattle.layout.specs.For.{unsteadyAt, firstUnsteady}
+use Rattle.layout.specs.For.{unsteadyAt}
 use Rattle.layout.specs.Bytes.{wordsOf}
-use Rattle.layout.specs.File.{parts, steadyFile, finish, wordsRead, fileOf}
-use Rattle.layout.specs.Verdict.{verdictOf}
+use Rattle.layout.specs.File.{programs, parts, steadyFile, callsTested, finish, wordsRead, fileOf}
+use Rattle.layout.specs.Verdict.{judgePrograms, verdictOf}
 use Rattle.execution.specs.Evaluate.{evaluate}
 use Rattle.execution.specs.Run.{turns, run}
 use Rattle.execution.specs.Ran.{runFile, runOf}
 use Rattle.claims.specs.Table.{AllRight, starredRows}
 
 pub table-right : AllRight starredRows
-unfolding starredRows verdictOf fileOf wordsOf wordsRead parts finish steadyFile unsteadyAt firstUnsteady standard words commandWords
-    replace test byForm oneMore judgeWord flowRule judge _⊛_ several wordDue expression command set evidence value
+unfolding starredRows verdictOf fileOf wordsOf wordsRead programs parts finish callsTested steadyFile unsteadyAt firstPlace standard judgePrograms
+    words commandWords replace test byForm oneMore judgeWord flowRule judge _⊛_ several wordDue expression command set evidence value
     identifiers setIdentifiers evaluate turns run runFile runOf
 table-right =
     (refl, (refl, (refl, (refl, (refl, (refl, (refl, (refl, (refl, (refl, ((refl, refl, refl), ((refl, refl, refl), ((refl, refl, refl), tt)))))))))))))

@@ -9,16 +9,16 @@ use mathlib.Core.Bool.{true, false}
 use mathlib.Core.List.{List}
 use Prim.Native.Nat.{ℕ, _<_, _≤_}
 use Rattle.language.specs.Store.{Store}
-use Rattle.rules.specs.Context.{Context}
+use Rattle.rules.specs.Context.{Limits}
 use Rattle.layout.specs.Reading.{read, fault}
 use Rattle.layout.specs.File.{File, fileOf}
 use Rattle.execution.specs.Lent.{Lent, HeldBy}
 use Rattle.execution.specs.Ran.{Answer, done, refused, wellSized, notRun, runOf}
 use Rattle.execution.specs.Executes.{Executes, Reports}
 
-pub record Starts (Γ : Context) (bytes : List ℕ) (budget : ℕ) (m : Lent) (f : File) : Type 0 where
+pub record Starts (limits : Limits) (bytes : List ℕ) (budget : ℕ) (m : Lent) (f : File) : Type 0 where
   pub end : ℕ
-  pub reads : fileOf Γ bytes ≡ read f end
+  pub reads : fileOf limits bytes ≡ read f end
   pub affordable : budget ≤ 1000000
   pub sized : wellSized m ≡ true
 
@@ -26,21 +26,21 @@ abbrev pub OfRun : Answer → Type 0
 OfRun done = Unit {0}
 OfRun (refused k p) = (12 ≤ k) × (k ≤ 15)
 
-pub record Runner (Γ : Context) (bytes : List ℕ) (budget : ℕ) (m : Lent) : Type 0 where
-  -- 1 to 7, then 10, then 11: no step, and the store as it was lent
-  pub not-read : (k p : ℕ) → fileOf Γ bytes ≡ fault k p → runOf Γ bytes budget m ≡ notRun k p m
-  pub over-budget : (f : File) (p : ℕ) → fileOf Γ bytes ≡ read f p → 1000000 < budget →
-      runOf Γ bytes budget m ≡ notRun 10 0 m
-  pub ill-sized : (f : File) (p : ℕ) → fileOf Γ bytes ≡ read f p → budget ≤ 1000000 → wellSized m ≡ false →
-      runOf Γ bytes budget m ≡ notRun 11 0 m
+pub record Runner (limits : Limits) (bytes : List ℕ) (budget : ℕ) (m : Lent) : Type 0 where
+  -- 1 to 7 and 16, then 10, then 11: no step, and the store as it was lent
+  pub not-read : (k p : ℕ) → fileOf limits bytes ≡ fault k p → runOf limits bytes budget m ≡ notRun k p m
+  pub over-budget : (f : File) (p : ℕ) → fileOf limits bytes ≡ read f p → 1000000 < budget →
+      runOf limits bytes budget m ≡ notRun 10 0 m
+  pub ill-sized : (f : File) (p : ℕ) → fileOf limits bytes ≡ read f p → budget ≤ 1000000 → wellSized m ≡ false →
+      runOf limits bytes budget m ≡ notRun 11 0 m
   -- otherwise its program is run: it ends or is refused by 12 to 15, after at most the budget's steps; and only then
-  pub started : (f : File) → Starts Γ bytes budget m f → OfRun (runOf Γ bytes budget m .answer)
-  pub within : (f : File) → Starts Γ bytes budget m f → runOf Γ bytes budget m .steps ≤ budget
-  pub only-started : OfRun (runOf Γ bytes budget m .answer) → (f : File) × Starts Γ bytes budget m f
+  pub started : (f : File) → Starts limits bytes budget m f → OfRun (runOf limits bytes budget m .answer)
+  pub within : (f : File) → Starts limits bytes budget m f → runOf limits bytes budget m .steps ≤ budget
+  pub only-started : OfRun (runOf limits bytes budget m .answer) → (f : File) × Starts limits bytes budget m f
   -- the definition, from every store that holds the lent values, comes to what the runner reports ..
-  pub sound : (f : File) → Starts Γ bytes budget m f → (s : Store) → HeldBy m s →
+  pub sound : (f : File) → Starts limits bytes budget m f → (s : Store) → HeldBy m s →
       (a : Answer) × (n : ℕ) × (t : Store)
-      × Executes (f .program) s budget a n t × Reports (runOf Γ bytes budget m) a n t
+      × Executes f s budget a n t × Reports (runOf limits bytes budget m) a n t
   -- .. and to nothing else
-  pub complete : (f : File) → Starts Γ bytes budget m f → (s : Store) → HeldBy m s → (a : Answer) (n : ℕ)
-      (t : Store) → Executes (f .program) s budget a n t → Reports (runOf Γ bytes budget m) a n t
+  pub complete : (f : File) → Starts limits bytes budget m f → (s : Store) → HeldBy m s → (a : Answer) (n : ℕ)
+      (t : Store) → Executes f s budget a n t → Reports (runOf limits bytes budget m) a n t

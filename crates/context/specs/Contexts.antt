@@ -1,17 +1,26 @@
 -- The context in code is that of the definitions.
--- Working: every contract says by `contextOf` under which context its definition is; `standard-context` of
--- file/proofs/Found says that document 01's is meant where none is given. Assumes nothing.
---     contextOf    the context of the definitions
---     refusal      a refusal of its number and place
+-- Working: every contract says by `limitsOf`, `contextOf` or `contextIn` under which limits or context its definition is; `standard-context`
+-- of file/proofs/Found says that document 01's limits are meant where none are given. Assumes nothing.
+--     limitsOf, contextOf    the limits of the definitions; the context that has no procedures
+--     contextIn              the context with the first procedures of a file, as many as may be called
+--     refusal                a refusal of its number and place
+use mathlib.Core.List.{List}
 use Prim.Native.Nat.{ℕ}
 use Rattle.rules.specs.Context as rules
+use Rattle.rules.specs.Context.{Limits, alone}
+use Rattle.layout.specs.Before.{contextBefore}
 use Rattle.context.specs.declared.Context.{Context}
 use Rattle.context.specs.declared.Refusal.{Refusal}
 
+abbrev pub limitsOf : Context → Limits
+limitsOf x = record { comparisons = x .comparisons; depth = x .depth; members = x .members }
+
 abbrev pub contextOf : Context → rules.Context
-contextOf x = record {
-  limits = record { comparisons = x .comparisons; depth = x .depth; members = x .members };
-}
+contextOf x = alone (limitsOf x)
+
+-- procedures stand from place 2 on
+abbrev pub contextIn : Context → List ℕ → rules.Context
+contextIn x file = contextBefore (alone (limitsOf x)) file (x .procedures) 2
 
 abbrev pub refusal : ℕ → ℕ → Refusal
 refusal n p = record { number = n; place = p }

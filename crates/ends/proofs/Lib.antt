@@ -5,6 +5,7 @@
 --     Places        what stands at a place: its first word, and its parts at their places
 --     Bits          bits of numbers
 --     Marks         masks of what words assign
+--     Put           a mask put in a list
 --     BlockMasks    masks of blocks
 --     Table         ends and masks together
 pub mod Sizes
@@ -13,5 +14,6 @@ pub mod Fill
 pub mod Places
 pub mod Bits
 pub mod Marks
+pub mod Put
 pub mod BlockMasks
 pub mod Table

@@ -1,71 +1,80 @@
 -- The mask of what words assign has the bit of an identifier exactly if one of the words assigns it.
 -- Assumes nothing.
---     written-as, unwritten, unwritten-below, unwritten-above
---                                           what a word assigns, by its kind
+--     unwritten, unwritten-below, unwritten-above
+--                                           kinds that assign nothing
+--     mark-none, mark-scalar, mark-array, mark-for, mark-call
+--                                           a mask with what a word assigns, by its kind
 --     marks-none, marks-next                the end of the scan that collects a mask; a turn
+--     bit-slot                              the mask of one identifier
 --     marks-any                             the law
 --     marks-range, marks-empty, marks-join  masks of a range; of no words; of some words and those after them
-use mathlib.Core.Path.{_≡_, refl, sym, ap, ap₂, _∙_}
+--     called-same                           the masks of procedures, in two lists
+use mathlib.Core.Path.{_≡_, refl, sym, ap, ap₂, fun-ext, _∙_}
 use mathlib.Core.Bool.{Bool, true, false, _||_, cond, or-assoc, or-false}
 use mathlib.Core.List.{List}
 use mathlib.Core.Option.{Option, none, some}
-use Prim.Native.Nat.{ℕ, zero, suc, _+_, _-_, _%_, _^_, _<_, _≤_}
+use Prim.Native.Nat.{ℕ, zero, suc, _+_, _*_, _-_, _%_, _^_, _<_, _≤_}
 use native.Mathlib.Omega.{arith}
 use native.Mathlib.Numerals.{add-one}
 use native.Mathlib.Nat.{div-eq-of-lt}
 use borrow.Author.Tests.{eq-eqb, ne-eqb, eqb-true, eqb-false}
 use lib.Bits.{bitOr}
-use lib.Dec.{eqb}
+use lib.Dec.{eqb, ltb}
+use lib.ListN.{getD}
 use lib.Pow.{pow-pos}
 use Rattle.language.specs.Modifies.{Identifier, scalarOf, arrayOf, sameIdentifier}
 use Rattle.layout.specs.Bytes.{kindAt, payloadAt}
 use Rattle.ends.specs.Mask.{bit, Low, slot}
-use Rattle.ends.specs.Blocks.{written, ifAny, anyIn, assigns, withMark, marksIn, Marks}
+use Rattle.ends.specs.Blocks.{tableAt, procedureMask, calledMask, written, ifAny, anyIn, assigns, withMark, marksIn, Marks}
 use Rattle.ends.proofs.Bits.{bit-or, bit-power}
 
-pub written-as : {k n : ℕ} (p : ℕ) → k ≡ n → written k p ≡ written n p
-written-as p e = ap (λ i. written i p) e
-
-pub unwritten : (k p : ℕ) → (k ≡ 27 → ⊥) → (k ≡ 28 → ⊥) → (k ≡ 31 → ⊥) → written k p ≡ none
+-- none of the kinds
+pub unwritten : (called : ℕ → ℕ) (k p : ℕ) → (k ≡ 27 → ⊥) → (k ≡ 28 → ⊥) → (k ≡ 31 → ⊥) → (k ≡ 38 → ⊥) →
+    written called k p ≡ none
 unfolding written
-unwritten k p f g h = rw (ne-eqb k 27 f, ne-eqb k 28 g, ne-eqb k 31 h)
+unwritten called k p f g h i = rw (ne-eqb k 27 f, ne-eqb k 28 g, ne-eqb k 31 h, ne-eqb k 38 i)
 
-pub unwritten-below : (k p : ℕ) → k < 27 → written k p ≡ none
-unwritten-below k p h = unwritten k p (λ e. omega arith) (λ e. omega arith) (λ e. omega arith)
+pub unwritten-below : (called : ℕ → ℕ) (k p : ℕ) → k < 27 → written called k p ≡ none
+unwritten-below called k p h =
+    unwritten called k p (λ e. omega arith) (λ e. omega arith) (λ e. omega arith) (λ e. omega arith)
 
-pub unwritten-above : (k p : ℕ) → 31 < k → written k p ≡ none
-unwritten-above k p h = unwritten k p (λ e. omega arith) (λ e. omega arith) (λ e. omega arith)
+pub unwritten-above : (called : ℕ → ℕ) (k p : ℕ) → 31 < k → (k ≡ 38 → ⊥) → written called k p ≡ none
+unwritten-above called k p h i = unwritten called k p (λ e. omega arith) (λ e. omega arith) (λ e. omega arith) i
+
+-- a mask with what a word assigns, by its kind
+module _ (called : ℕ → ℕ) (k p m : ℕ) where
+  pub mark-none : written called k p ≡ none → m ≡ withMark m (written called k p)
+  mark-none e = sym (ap (withMark m) e)
+
+  pub mark-scalar : {r : ℕ} → k ≡ 27 → r ≡ bitOr m (2 ^ (p % 32)) → r ≡ withMark m (written called k p)
+  unfolding written
+  mark-scalar e h = h ∙ ap (λ i. withMark m (written called i p)) (sym e)
+
+  pub mark-array : {r : ℕ} → k ≡ 28 → r ≡ bitOr m (2 ^ (32 + p % 32)) → r ≡ withMark m (written called k p)
+  unfolding written
+  mark-array e h = h ∙ ap (λ i. withMark m (written called i p)) (sym e)
+
+  pub mark-for : {r : ℕ} → k ≡ 31 → r ≡ bitOr m (2 ^ (p % 32)) → r ≡ withMark m (written called k p)
+  unfolding written
+  mark-for e h = h ∙ ap (λ i. withMark m (written called i p)) (sym e)
+
+  pub mark-call : {v : ℕ} → k ≡ 38 → v ≡ called p → bitOr m v ≡ withMark m (written called k p)
+  unfolding written
+  mark-call e h = ap (bitOr m) h ∙ ap (λ i. withMark m (written called i p)) (sym e)
 
 one-less : (at to : ℕ) → at < to → to - at ≡ suc (to - (at + 1))
 one-less at to h = omega arith
 
-module _ (file : List ℕ) (at to m : ℕ) where
-  pub marks-none : to ≤ at → marksIn file (to - at) at m ≡ m
+module _ (called : ℕ → ℕ) (file : List ℕ) (at to m : ℕ) where
+  pub marks-none : to ≤ at → marksIn called file (to - at) at m ≡ m
   unfolding marksIn
   marks-none h = let e : to - at ≡ 0 = omega arith in rw e
 
   pub marks-next : at < to →
-      marksIn file (to - at) at m
-      ≡ marksIn file (to - (at + 1)) (at + 1) (withMark m (written (kindAt file at) (payloadAt file at)))
+      marksIn called file (to - at) at m
+      ≡ marksIn called file (to - (at + 1)) (at + 1) (withMark m (written called (kindAt file at) (payloadAt file at)))
   unfolding marksIn
   marks-next h = rw (one-less at to h, add-one at)
-
-abbrev LowIf : Option Identifier → Type 0
-LowIf none = Unit {0}
-LowIf (some x) = Low x
-
-low-cond : (b : Bool) (o u : Option Identifier) → LowIf o → LowIf u → LowIf (cond b o u)
-low-cond true o u h k = h
-low-cond false o u h k = k
-
-remainder : (p : ℕ) → p % 32 ≤ 31
-remainder p = omega arith
-
-written-low : (k p : ℕ) → LowIf (written k p)
-unfolding written
-written-low k p =
-    low-cond (eqb k 27) _ _ (remainder p)
-    (low-cond (eqb k 28) _ _ (remainder p) (low-cond (eqb k 31) _ none (remainder p) tt))
 
 past-scalars : (a b : ℕ) → eqb (32 + a) (32 + b) ≡ eqb a b
 past-scalars a b = go (eqb a b) refl
@@ -80,23 +89,24 @@ slot-same (scalarOf y) (arrayOf x) h k = ne-eqb y (32 + x) (λ e. omega arith)
 slot-same (arrayOf y) (scalarOf x) h k = ne-eqb (32 + y) x (λ e. omega arith)
 slot-same (arrayOf y) (arrayOf x) h k = past-scalars y x
 
-mark-bit : (o : Option Identifier) (m : ℕ) (x : Identifier) → LowIf o → Low x →
-    bit (withMark m o) (slot x) ≡ (bit m (slot x) || ifAny (λ y. sameIdentifier y x) o)
-mark-bit none m x h k = sym (or-false (bit m (slot x)))
-mark-bit (some y) m x h k =
-    bit-or m (2 ^ slot y) (slot x)
-    ∙ ap (λ b. bit m (slot x) || b) (bit-power (slot y) (slot x) ∙ slot-same y x h k)
+-- the mask of one identifier
+pub bit-slot : (y x : Identifier) → Low y → Low x → bit (2 ^ slot y) (slot x) ≡ sameIdentifier y x
+bit-slot y x h k = bit-power (slot y) (slot x) ∙ slot-same y x h k
 
-pub marks-any : (file : List ℕ) (x : Identifier) → Low x → (n at m : ℕ) →
-    bit (marksIn file n at m) (slot x) ≡ (bit m (slot x) || anyIn (assigns x) file n at)
+mark-bit : (o : Option ℕ) (m i : ℕ) → bit (withMark m o) i ≡ (bit m i || ifAny (λ n. bit n i) o)
+mark-bit none m i = sym (or-false (bit m i))
+mark-bit (some n) m i = bit-or m n i
+
+pub marks-any : (called : ℕ → ℕ) (file : List ℕ) (x : Identifier) (n at m : ℕ) →
+    bit (marksIn called file n at m) (slot x) ≡ (bit m (slot x) || anyIn (assigns called x) file n at)
 unfolding marksIn anyIn
-marks-any file x h zero at m = sym (or-false (bit m (slot x)))
-marks-any file x h (suc n) at m =
-    let o = written (kindAt file at) (payloadAt file at) in
-    marks-any file x h n (suc at) (withMark m o)
-    ∙ ap (λ b. b || anyIn (assigns x) file n (suc at))
-    (mark-bit o m x (written-low (kindAt file at) (payloadAt file at)) h)
-    ∙ or-assoc (bit m (slot x)) (assigns x (kindAt file at) (payloadAt file at)) (anyIn (assigns x) file n (suc at))
+marks-any called file x zero at m = sym (or-false (bit m (slot x)))
+marks-any called file x (suc n) at m =
+    let o = written called (kindAt file at) (payloadAt file at) in
+    marks-any called file x n (suc at) (withMark m o)
+    ∙ ap (λ b. b || anyIn (assigns called x) file n (suc at)) (mark-bit o m (slot x))
+    ∙ or-assoc (bit m (slot x)) (assigns called x (kindAt file at) (payloadAt file at))
+    (anyIn (assigns called x) file n (suc at))
 
 no-bit : (i : ℕ) → bit 0 i ≡ false
 unfolding bit
@@ -117,21 +127,30 @@ any-append t file (suc p) q at =
     (any-append t file p q (suc at) ∙ ap (λ i. anyIn t file p (suc at) || anyIn t file q i) f)
     ∙ sym (or-assoc (t (kindAt file at) (payloadAt file at)) (anyIn t file p (suc at)) (anyIn t file q (at + suc p)))
 
-module _ (file : List ℕ) where
-  pub marks-range : {n at mask : ℕ} → mask ≡ marksIn file n at 0 → Marks file n at mask
+module _ {called : ℕ → ℕ} (file : List ℕ) where
+  pub marks-range : {n at mask : ℕ} → mask ≡ marksIn called file n at 0 → Marks called file n at mask
   marks-range {n} {at} e = record {
-    marks = λ x l.
-        ap (λ m. bit m (slot x)) e ∙ marks-any file x l n at 0
-        ∙ ap (λ b. b || anyIn (assigns x) file n at) (no-bit (slot x));
+    marks = λ x.
+        ap (λ m. bit m (slot x)) e ∙ marks-any called file x n at 0
+        ∙ ap (λ b. b || anyIn (assigns called x) file n at) (no-bit (slot x));
   }
 
-  pub marks-empty : (at : ℕ) → Marks file 0 at 0
+  pub marks-empty : (at : ℕ) → Marks called file 0 at 0
   unfolding anyIn
-  marks-empty at = record { marks = λ x l. no-bit (slot x) }
+  marks-empty at = record { marks = λ x. no-bit (slot x) }
 
-  pub marks-join : {p q at a b : ℕ} → Marks file p at a → Marks file q (at + p) b → Marks file (p + q) at (bitOr a b)
+  pub marks-join : {p q at a b : ℕ} → Marks called file p at a → Marks called file q (at + p) b →
+      Marks called file (p + q) at (bitOr a b)
   marks-join {p} {q} {at} {a} {b} m n = record {
-    marks = λ x l.
-        bit-or a b (slot x) ∙ ap₂ (λ s t. s || t) (m .marks x l) (n .marks x l)
-        ∙ sym (any-append (assigns x) file p q at);
+    marks = λ x.
+        bit-or a b (slot x) ∙ ap₂ (λ s t. s || t) (m .marks x) (n .marks x)
+        ∙ sym (any-append (assigns called x) file p q at);
   }
+
+-- the masks of procedures, in two lists that agree behind the masks of blocks
+pub called-same : (file l m : List ℕ) → ((at : ℕ) → tableAt file ≤ at → getD l at 0 ≡ getD m at 0) →
+    calledMask file l ≡ calledMask file m
+unfolding procedureMask
+called-same file l m h = fun-ext λ p.
+    ap₂ (λ a b. cond (ltb p 16) (a + 4294967296 * b) 0) (h (tableAt file + 17 + 2 * p) (omega arith))
+    (h (tableAt file + 17 + 2 * p + 1) (omega arith))

@@ -21,7 +21,7 @@ use Rattle.ends.specs.Places.{endAt, PartKnown, NodeAt, NodesAt}
 module _ {file ends : List ℕ} (o : EndsOf file ends) where
   pub node-end : (x : Node) (d at p : ℕ) → PartStands file (nodePart x) d at p → p ≡ endAt ends at
   node-end (expressionNode e) d at p s = sym (o .expression-end e d at p s)
-  node-end (commandNode c) d at p s = sym (o .command-end c d at p s)
+  node-end (commandNode Γ c) d at p s = sym (o .command-end Γ c d at p s)
   node-end (setNode Γ m) d at p s = sym (o .set-end Γ m d at p s)
 
   pub node-at : (x : Node) (d at p : ℕ) → d ≤ 256 → PartStands file (nodePart x) d at p → NodeAt file ends x at

@@ -1,26 +1,44 @@
 -- A list of the ends that the sizes make, with the masks of blocks behind them, is `EndsOf` the file.
 -- Assumes nothing.
---     table-ends    the law
-use mathlib.Core.Path.{_≡_, _∙_}
-use mathlib.Core.List.{List}
-use Prim.Native.Nat.{ℕ}
+--     filled-kept    what stands behind the ends
+--     table-ends     the law
+use mathlib.Core.Path.{_≡_, sym, ap, _∙_}
+use mathlib.Core.List.{List, _++_}
+use Prim.Native.Nat.{ℕ, _+_, _-_, _<_, _≤_}
 use native.Mathlib.Omega.{arith}
-use lib.ListN.{getD}
+use lib.ListN.{length, getD, drop}
+use lib.Seq.{getD-append-add, getD-drop}
 use Rattle.layout.specs.Nodes.{expressionNode, commandNode, setNode}
 use Rattle.ends.specs.Ends.{EndsOf}
-use Rattle.ends.specs.Sizes.{Filled}
+use Rattle.ends.specs.Sizes.{sizes, endPlaces, Filled}
 use Rattle.ends.specs.Blocks.{Blocked}
+use Rattle.ends.proofs.Sizes.{sizes-length, placed-length}
 use Rattle.ends.proofs.Ends.{EndsBySize, node-sized}
 
-module _ {file before filled after : List ℕ} (f : Filled file before filled) (m : Blocked file filled after) where
-  by-size : {at p : ℕ} → EndsBySize file at p → getD after at 0 ≡ p
-  by-size {at} s = m .kept at (s .inside) ∙ f .ended at (s .inside) ∙ s .size
+-- what stands behind the words is as it was
+pub filled-kept : {file before after : List ℕ} → Filled file before after → (at : ℕ) → length file ≤ at →
+    getD after at 0 ≡ getD before at 0
+filled-kept {file} {before} f at h =
+    let e : length file + (at - length file) ≡ at = omega arith in
+    let n : length (endPlaces file) ≡ length file = placed-length 0 (sizes file) ∙ sizes-length file in
+    ap (λ l. getD l at 0) (f .content)
+    ∙ ap (λ j. getD (endPlaces file ++ drop (length file) before) j 0) (sym (ap (λ j. j + (at - length file)) n ∙ e))
+    ∙ getD-append-add (endPlaces file) (drop (length file) before) (at - length file) 0
+    ∙ getD-drop (length file) before (at - length file) 0 ∙ ap (λ j. getD before j 0) e
 
-  pub table-ends : EndsOf file after
-  table-ends = record {
-    long = omega (arith, m .blocks .room);
-    expression-end = λ e d at p s. by-size (node-sized file d (expressionNode e) at p s);
-    command-end = λ c d at p s. by-size (node-sized file d (commandNode c) at p s);
-    set-end = λ Γ q d at p s. by-size (node-sized file d (setNode Γ q) at p s);
-    blocks = m .blocks;
-  }
+-- between the ends and the masks of blocks, more may be written behind them
+module _
+    {file ends after : List ℕ} (f : (at : ℕ) → at < length file → getD ends at 0 ≡ at + getD (sizes file) at 0)
+    (m : Blocked file ends after)
+  where
+    by-size : {at p : ℕ} → EndsBySize file at p → getD after at 0 ≡ p
+    by-size {at} s = m .kept at (s .inside) ∙ f at (s .inside) ∙ s .size
+
+    pub table-ends : EndsOf file after
+    table-ends = record {
+      long = omega (arith, m .blocks .room);
+      expression-end = λ e d at p s. by-size (node-sized file d (expressionNode e) at p s);
+      command-end = λ Γ c d at p s. by-size (node-sized file d (commandNode Γ c) at p s);
+      set-end = λ Γ q d at p s. by-size (node-sized file d (setNode Γ q) at p s);
+      blocks = m .blocks;
+    }

@@ -17,7 +17,8 @@ pub record EndsOf (file ends : List ℕ) : Type 0 where
   pub long : length file ≤ length ends
   pub expression-end : {k : Sort} (e : Expr k) (d at p : ℕ) →
       PartStands file (expressionPart e) d at p → getD ends at 0 ≡ p
-  pub command-end : (c : Command) (d at p : ℕ) → PartStands file (commandPart c) d at p → getD ends at 0 ≡ p
+  pub command-end : (Γ : Context) (c : Command) (d at p : ℕ) →
+      PartStands file (commandPart Γ c) d at p → getD ends at 0 ≡ p
   pub set-end : (Γ : Context) (m : Members) (d at p : ℕ) →
       PartStands file (setPart Γ m) d at p → getD ends at 0 ≡ p
   pub blocks : Blocks file ends

@@ -33,8 +33,8 @@ module _ (file ends : List ℕ) where
   abbrev pub WrittenAt : {k : Sort} → Expr k → ℕ → Type 0
   WrittenAt e at = NodeAt (expressionNode e) at
 
-  abbrev pub CommandAt : Command → ℕ → Type 0
-  CommandAt c at = NodeAt (commandNode c) at
+  abbrev pub CommandAt : Context → Command → ℕ → Type 0
+  CommandAt Γ c at = NodeAt (commandNode Γ c) at
 
   abbrev pub SetAt : Context → Members → ℕ → Type 0
   SetAt Γ p at = NodeAt (setNode Γ p) at

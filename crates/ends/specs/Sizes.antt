@@ -6,11 +6,10 @@
 --     follow         from a place on, past so many parts, by a list of ends
 --     CanFill        a list of ends has room for the words of a file
 --     Filled         what is left of a list of ends when they are written to it
---     CanTable       a list has room for the ends and for masks behind them
 use mathlib.Core.Path.{_≡_}
 use mathlib.Core.Bool.{true, false}
 use mathlib.Core.List.{List, [], _∷_, _++_}
-use Prim.Native.Nat.{ℕ, zero, suc, _+_, _*_, _/_, _%_, _<_, _≤_}
+use Prim.Native.Nat.{ℕ, zero, suc, _+_, _/_, _%_, _<_, _≤_}
 use lib.Dec.{ltb}
 use lib.ListN.{length, getD, drop}
 use Rattle.layout.specs.Bytes.{payloads}
@@ -47,8 +46,3 @@ pub record CanFill (file ends : List ℕ) : Type 0 where
 pub record Filled (file before after : List ℕ) : Type 0 where
   pub content : after ≡ endPlaces file ++ drop (length file) before
   pub ended : (at : ℕ) → at < length file → getD after at 0 ≡ at + getD (sizes file) at 0
-
--- a list has room for the ends and the masks behind them
-pub record CanTable (file table : List ℕ) : Type 0 where
-  pub room : length file + 2 * (length file / 32) ≤ length table
-  pub small : length file < 4294967296

@@ -3,7 +3,6 @@
 pub mod mask; // mask.rt: identifiers as the bits of a number
 pub mod blocks; // blocks.rt: what words assign, by blocks
 
-use blocks::fill_blocks;
 use words::kinds::AND;
 use words::kinds::ASSERT;
 use words::kinds::COMPARISON;
@@ -24,9 +23,8 @@ ghost use mathlib.Core.Path.{_≡_};
 ghost use Prim.Native.Nat.{_/_, _%_, _<_, _≤_};
 ghost use lib.ListN.{length, getD};
 ghost use Rattle.layout.specs.Bytes.{payloads};
-ghost use Rattle.ends.specs.Ends.{EndsOf};
 ghost use Rattle.layout.specs.Nodes.{countOf};
-ghost use Rattle.ends.specs.Sizes.{follow, CanFill, Filled, CanTable};
+ghost use Rattle.ends.specs.Sizes.{follow, CanFill, Filled};
 
 // The place past the part that starts at `at`, by a list of ends.
 pub fn end_at(ends: &[u32], at: usize) -> usize
@@ -91,8 +89,8 @@ fn past(ends: &[u32], words: usize, from: usize, count: usize) -> usize
     at
 }
 
-// The ends of all that starts in the words.
-fn fill_ends(w: &[u32], ends: &mut [u32])
+// The ends of all that starts in the words. What stands behind them is kept.
+pub fn fill_ends(w: &[u32], ends: &mut [u32])
     requires { ⌜ CanFill (now w) (now ends) ⌝ }
     ensures { λ r. ⌜ Filled (now (w .entry)) (now (ends .entry)) (now (ends .exit)) ⌝ }
 {
@@ -102,13 +100,4 @@ fn fill_ends(w: &[u32], ends: &mut [u32])
         let end = past(ends, w.len(), i + 1, parts(w[i]));
         ends[i] = end as u32;
     }
-}
-
-// The table of a file: the ends of all that starts in its words, then the masks of its blocks.
-pub fn fill_table(w: &[u32], table: &mut [u32])
-    requires { ⌜ CanTable (now w) (now table) ⌝ }
-    ensures { λ r. ⌜ EndsOf (now (w .entry)) (now (table .exit)) ⌝ }
-{
-    fill_ends(w, table);
-    fill_blocks(w, table);
 }

@@ -10,7 +10,7 @@ ghost use Rattle.evaluate.specs.Evaluated.{Evaluates};
 
 pub fn eval_boolean(
     w: &[u32; 8192],
-    ends: &[u32; 8704],
+    ends: &[u32; 8753],
     at: usize,
     scalars: &[i64; 32],
     values: &[i64; 2048],

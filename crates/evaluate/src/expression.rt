@@ -18,7 +18,7 @@ ghost use Rattle.evaluate.specs.Evaluated.{CanSelect, Evaluates, Fills};
 // An operand: a constant or a scalar makes no further call.
 pub fn eval_operand(
     w: &[u32; 8192],
-    ends: &[u32; 8704],
+    ends: &[u32; 8753],
     at: usize,
     scalars: &[i64; 32],
     values: &[i64; 2048],
@@ -38,7 +38,7 @@ pub fn eval_operand(
 
 pub fn eval_arithmetic(
     w: &[u32; 8192],
-    ends: &[u32; 8704],
+    ends: &[u32; 8753],
     at: usize,
     scalars: &[i64; 32],
     values: &[i64; 2048],
@@ -66,7 +66,7 @@ pub fn eval_arithmetic(
 // A select stands at the place: array, then index.
 fn eval_select(
     w: &[u32; 8192],
-    ends: &[u32; 8704],
+    ends: &[u32; 8753],
     at: usize,
     scalars: &[i64; 32],
     values: &[i64; 2048],
@@ -87,7 +87,7 @@ fn eval_select(
 // The array's values at 0 to 63 go to the scratch.
 pub fn eval_array(
     w: &[u32; 8192],
-    ends: &[u32; 8704],
+    ends: &[u32; 8753],
     at: usize,
     scalars: &[i64; 32],
     values: &[i64; 2048],

@@ -17,18 +17,17 @@ use lib.Dec.{eqb, ltb}
 use lib.IntN.{pos}
 use lib.ListN.{length, getD}
 use lib.Seq.{ext-getD}
-use Rattle.language.specs.Syntax.{Command}
 use Rattle.language.specs.Store.{Store}
-use Rattle.rules.specs.Context.{Context}
+use Rattle.rules.specs.Context.{Limits}
 use Rattle.layout.specs.Reading.{read}
 use Rattle.layout.specs.File.{File, fileOf}
 use Rattle.laws.proofs.Bools.{and-left, and-right, and-both}
 use Rattle.execution.specs.Lent.{Lent, storeOf, HeldBy}
 use Rattle.execution.specs.Run.{End, ended, stopped, run}
-use Rattle.execution.specs.Due.{Step, Due}
-use Rattle.execution.specs.Ran.{Answer, done, refused, Ran, ranOf, wellSized, runOf}
+use Rattle.execution.specs.Due.{Step}
+use Rattle.execution.specs.Ran.{Answer, done, refused, Ran, ranOf, wellSized, bodyPlace, runOf}
 use Rattle.execution.specs.Refusal.{refusal}
-use Rattle.execution.specs.Executes.{Unrefused, Executes, ends, stops, Reports}
+use Rattle.execution.specs.Executes.{DueIn, Unrefused, Executes, ends, stops, Reports}
 use Rattle.execution.proofs.Assigned.{Sized}
 use Rattle.language.proofs.Once.{one-end, one-count}
 use Rattle.execution.proofs.Before.{due-before}
@@ -88,8 +87,8 @@ by-count {A} j n earlier later same = go (ltb j n) refl (ltb n j) refl
         same (omega arith)
 
 -- a step that is refused is not among those before a count that are unrefused
-not-before : {A : Type 0} {c : Command} {s : Store} {budget n i k p : ℕ} {d : Step} {t : Store} →
-    Unrefused c s budget n → Due c 1 s i d p t → refusal budget i d t ≡ some k → i < n → A
+not-before : {A : Type 0} {f : File} {s : Store} {budget n i k p : ℕ} {d : Step} {t : Store} →
+    Unrefused f s budget n → DueIn f s i d p t → refusal budget i d t ≡ some k → i < n → A
 not-before {k = k} u due said l = absurd (Option·none-ne-some k (sym (u .unrefused due l) ∙ said))
 
 pub record SameEnd (a : Answer) (n : ℕ) (t : Store) (a′ : Answer) (n′ : ℕ) (t′ : Store) : Type 0 where
@@ -97,9 +96,9 @@ pub record SameEnd (a : Answer) (n : ℕ) (t : Store) (a′ : Answer) (n′ : �
   pub same-count : n ≡ n′
   pub same-store : t ≡ t′
 
-pub executes-once : {c : Command} {s : Store} {budget : ℕ} {a : Answer} {n : ℕ} {t : Store}
+pub executes-once : {f : File} {s : Store} {budget : ℕ} {a : Answer} {n : ℕ} {t : Store}
     {a′ : Answer} {n′ : ℕ} {t′ : Store} →
-    Executes c s budget a n t → Executes c s budget a′ n′ t′ → SameEnd a n t a′ n′ t′
+    Executes f s budget a n t → Executes f s budget a′ n′ t′ → SameEnd a n t a′ n′ t′
 executes-once (ends u r) (ends u′ r′) =
     record { same-answer = refl; same-count = one-count r r′; same-store = one-end r r′ }
 executes-once (ends u r) (stops u′ due said) = not-before u due said (due-before due r)
@@ -117,26 +116,30 @@ executes-once {budget = budget} (stops {n = n} {k = k} {d = d} {t = t} u due sai
     }
 
 -- a refusal that it comes to is 12 to 15
-pub executes-number : {c : Command} {s : Store} {budget k p n : ℕ} {t : Store} →
-    Executes c s budget (refused k p) n t → (12 ≤ k) × (k ≤ 15)
+pub executes-number : {f : File} {s : Store} {budget k p n : ℕ} {t : Store} →
+    Executes f s budget (refused k p) n t → (12 ≤ k) × (k ≤ 15)
 executes-number {budget = budget} {n = n} {t} (stops {d = d} u due said) = subst Number said (number budget n d t)
 
 -- ---- The definition comes to what a run on a budget reports.
 
-passed : {c : Command} {s : Store} {budget n : ℕ} → PassesBefore (Due c 1 s) n → n ≤ budget → Unrefused c s budget n
-passed {budget = budget} f b = record {
-  unrefused = λ {k} {d} {p} {t} x l. refusal-within k budget d t (omega arith) ∙ f .passes-before x l;
+passed : {f : File} {s : Store} {budget n : ℕ} → PassesBefore (DueIn f s) n → n ≤ budget → Unrefused f s budget n
+passed {budget = budget} g b = record {
+  unrefused = λ {k} {d} {p} {t} x l. refusal-within k budget d t (omega arith) ∙ g .passes-before x l;
 }
 
-pub record Executed (c : Command) (s : Store) (budget : ℕ) (r : Ran) : Type 0 where
+pub record Executed (f : File) (s : Store) (budget : ℕ) (r : Ran) : Type 0 where
   pub answer : Answer
   pub count : ℕ
   pub last : Store
-  pub executes : Executes c s budget answer count last
+  pub executes : Executes f s budget answer count last
   pub reports : Reports r answer count last
 
-run-executed : {c : Command} {s : Store} {budget : ℕ} {x : End} → CommandAgrees c 1 s budget x →
-    Executed c s budget (ranOf budget x)
+-- the run of a file's main program agrees with the definition
+abbrev FileAgrees : File → Store → ℕ → End → Type 0
+FileAgrees f s n x = CommandAgrees (bodyPlace f) (f .main .command) (f .main .start) s n x
+
+run-executed : {f : File} {s : Store} {budget : ℕ} {x : End} → FileAgrees f s budget x →
+    Executed f s budget (ranOf budget x)
 run-executed (agrees-ended k l {m = m} {t = t} r f h e) = record {
   answer = done;
   count = k;
@@ -153,17 +156,17 @@ run-executed {budget = budget} (agrees-stopped k l {number = i} {p = p} {d = d} 
 }
 
 -- ---- The answer on bytes, of a file whose program is run.
-module _ (Γ : Context) (bytes : List ℕ) (budget : ℕ) (m : Lent) (f : File) (p : ℕ)
-    (e : fileOf Γ bytes ≡ read f p) (l : budget ≤ 1000000) (h : wellSized m ≡ true) (s : Store) (held : HeldBy m s)
+module _ (limits : Limits) (bytes : List ℕ) (budget : ℕ) (m : Lent) (f : File) (p : ℕ)
+    (e : fileOf limits bytes ≡ read f p) (l : budget ≤ 1000000) (h : wellSized m ≡ true) (s : Store) (held : HeldBy m s)
   where
-    pub executed : Executed (f .program) s budget (runOf Γ bytes budget m)
+    pub executed : Executed f s budget (runOf limits bytes budget m)
     executed =
-        rw (run-is Γ bytes budget m f p e l h)
-        (run-executed (run-agrees (f .program) (file-small Γ bytes f p e) 1 budget m s
+        rw (run-is limits bytes budget m f p e l h)
+        (run-executed (run-agrees (f .main .command) (file-small limits bytes f p e) (f .main .start) budget m s
         (record { sized = sized-of m h; held = held })))
 
-    pub reported : (a : Answer) (n : ℕ) (t : Store) → Executes (f .program) s budget a n t →
-        Reports (runOf Γ bytes budget m) a n t
+    pub reported : (a : Answer) (n : ℕ) (t : Store) → Executes f s budget a n t →
+        Reports (runOf limits bytes budget m) a n t
     reported a n t x =
         let y = executed in
         let r = y .reports in
@@ -171,21 +174,21 @@ module _ (Γ : Context) (bytes : List ℕ) (budget : ℕ) (m : Lent) (f : File) 
         record {
           answer = r .answer ∙ z .same-answer;
           steps = r .steps ∙ z .same-count;
-          held = subst (HeldBy (runOf Γ bytes budget m .store)) (z .same-store) (r .held);
+          held = subst (HeldBy (runOf limits bytes budget m .store)) (z .same-store) (r .held);
           sized = r .sized;
         }
 
 -- ---- The steps reported are within the budget.
-pub steps-within : (Γ : Context) (bytes : List ℕ) (budget : ℕ) (m : Lent) →
-    runOf Γ bytes budget m .steps ≤ budget
-steps-within Γ bytes budget m = by-order (judged Γ bytes budget m)
+pub steps-within : (limits : Limits) (bytes : List ℕ) (budget : ℕ) (m : Lent) →
+    runOf limits bytes budget m .steps ≤ budget
+steps-within limits bytes budget m = by-order (judged limits bytes budget m)
   where
     of-run : (x : End) → ranOf budget x .steps ≤ budget
     of-run (ended n m) = omega arith
     of-run (stopped k p n m) = omega arith
 
-    by-order : {r : Ran} → StepJudged Γ bytes budget m r → r .steps ≤ budget
+    by-order : {r : Ran} → StepJudged limits bytes budget m r → r .steps ≤ budget
     by-order (not-read e) = omega arith
     by-order (over-budget e l) = omega arith
     by-order (ill-sized e l h) = omega arith
-    by-order (is-run {f = f} e l h) = of-run (run (f .program) 1 budget m)
+    by-order (is-run {f = f} e l h) = of-run (run (bodyPlace f) (f .main .command) (f .main .start) budget m)

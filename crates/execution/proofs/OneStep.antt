@@ -10,15 +10,15 @@ use Prim.Native.Nat.{ℕ, _+_}
 use native.Mathlib.Omega.{arith}
 use lib.ListN.{length}
 use Rattle.language.specs.Syntax.{Boolean, Expr, Assignment}
-use Rattle.language.specs.Syntax.{Command, skip, sequence, assert, assign, ifElse, while, for}
+use Rattle.language.specs.Syntax.{Command, skip, sequence, assert, assign, ifElse, while, for, call}
 use Rattle.language.specs.Store.{Store, value}
 use Rattle.language.specs.Runs.{start, increment}
 use Rattle.rules.specs.Words.{words, commandWords}
-use Rattle.execution.specs.Due.{Step, tests, Due, due-skip, due-assert, due-assign}
+use Rattle.execution.specs.Due.{Step, calls, tests, Due, due-skip, due-assert, due-assign}
 use Rattle.language.proofs.Once.{one-end, one-count}
 use Rattle.execution.proofs.Steps.{Steps, SameSteps, DueAfter, at-step, after-step, AllBefore, command-before}
 use Rattle.execution.proofs.Steps.{DueSequence, in-first, in-second, DueLoop, loop-test, loop-body, loop-again}
-use Rattle.execution.proofs.Steps.{then-steps, else-steps, sequence-steps, while-steps, for-steps}
+use Rattle.execution.proofs.Steps.{then-steps, else-steps, sequence-steps, while-steps, for-steps, call-steps}
 use Rattle.execution.proofs.Steps.{turn-before}
 
 pub record SameStep (d : Step) (p : ℕ) (t : Store) (d′ : Step) (p′ : ℕ) (t′ : Store) : Type 0 where
@@ -91,55 +91,58 @@ module _ {b : Expr Boolean} {c : Command} {at : ℕ} {D : Store → Steps}
     linear-loop : (s : Store) → Linear (DueLoop b c at D s)
     linear-loop s = record { one = loop-one }
 
--- single steps
-skip-linear : (at : ℕ) (s : Store) → Linear (Due skip at s)
-skip-linear at s = record { one = same }
-  where
-    same : {k : ℕ} {d : Step} {p : ℕ} {t : Store} {k′ : ℕ} {d′ : Step} {p′ : ℕ} {t′ : Store} →
-        Due skip at s k d p t → Due skip at s k′ d′ p′ t′ → k ≡ k′ → SameStep d p t d′ p′ t′
-    same due-skip due-skip e = is-same
+-- the body of procedure p stands at `bodyAt p`
+module _ {bodyAt : ℕ → ℕ} where
+  -- single steps
+  skip-linear : (at : ℕ) (s : Store) → Linear (Due bodyAt skip at s)
+  skip-linear at s = record { one = same }
+    where
+      same : {k : ℕ} {d : Step} {p : ℕ} {t : Store} {k′ : ℕ} {d′ : Step} {p′ : ℕ} {t′ : Store} →
+          Due bodyAt skip at s k d p t → Due bodyAt skip at s k′ d′ p′ t′ → k ≡ k′ → SameStep d p t d′ p′ t′
+      same due-skip due-skip e = is-same
 
-assert-linear : (b : Expr Boolean) (at : ℕ) (s : Store) → Linear (Due (assert b) at s)
-assert-linear b at s = record { one = same }
-  where
-    same : {k : ℕ} {d : Step} {p : ℕ} {t : Store} {k′ : ℕ} {d′ : Step} {p′ : ℕ} {t′ : Store} →
-        Due (assert b) at s k d p t → Due (assert b) at s k′ d′ p′ t′ → k ≡ k′ → SameStep d p t d′ p′ t′
-    same due-assert due-assert e = is-same
+  assert-linear : (b : Expr Boolean) (at : ℕ) (s : Store) → Linear (Due bodyAt (assert b) at s)
+  assert-linear b at s = record { one = same }
+    where
+      same : {k : ℕ} {d : Step} {p : ℕ} {t : Store} {k′ : ℕ} {d′ : Step} {p′ : ℕ} {t′ : Store} →
+          Due bodyAt (assert b) at s k d p t → Due bodyAt (assert b) at s k′ d′ p′ t′ → k ≡ k′ → SameStep d p t d′ p′ t′
+      same due-assert due-assert e = is-same
 
-assign-linear : (a : Assignment) (at : ℕ) (s : Store) → Linear (Due (assign a) at s)
-assign-linear a at s = record { one = same }
-  where
-    same : {k : ℕ} {d : Step} {p : ℕ} {t : Store} {k′ : ℕ} {d′ : Step} {p′ : ℕ} {t′ : Store} →
-        Due (assign a) at s k d p t → Due (assign a) at s k′ d′ p′ t′ → k ≡ k′ → SameStep d p t d′ p′ t′
-    same due-assign due-assign e = is-same
+  assign-linear : (a : Assignment) (at : ℕ) (s : Store) → Linear (Due bodyAt (assign a) at s)
+  assign-linear a at s = record { one = same }
+    where
+      same : {k : ℕ} {d : Step} {p : ℕ} {t : Store} {k′ : ℕ} {d′ : Step} {p′ : ℕ} {t′ : Store} →
+          Due bodyAt (assign a) at s k d p t → Due bodyAt (assign a) at s k′ d′ p′ t′ → k ≡ k′ → SameStep d p t d′ p′ t′
+      same due-assign due-assign e = is-same
 
-command-linear : (c : Command) (at : ℕ) (s : Store) → Linear (Due c at s)
-command-linear skip at s = skip-linear at s
-command-linear (sequence c c′) at s =
-    linear-map sequence-steps
-    (linear-sequence (command-before c (at + 1) s) (command-linear c (at + 1) s)
-    (λ u. command-linear c′ (at + 1 + length (commandWords c)) u))
-command-linear (assert b) at s = assert-linear b at s
-command-linear (assign a) at s = assign-linear a at s
-command-linear (ifElse b c c′) at s =
-    branch (command-linear c (at + 1 + length (words b)) s)
-    (command-linear c′ (at + 1 + length (words b) + length (commandWords c)) s) (value b s) refl
-  where
-    branch : Linear (Due c (at + 1 + length (words b)) s) →
-        Linear (Due c′ (at + 1 + length (words b) + length (commandWords c)) s) → (v : Bool) → value b s ≡ v →
-        Linear (Due (ifElse b c c′) at s)
-    branch L M true e = linear-map (then-steps e) (linear-after {d = tests b} L)
-    branch L M false e = linear-map (else-steps e) (linear-after {d = tests b} M)
-command-linear (while b c) at s =
-    let i = at + 1 + length (words b) in
-    linear-map while-steps (linear-loop (command-before c i) (λ u. command-linear c i u) s)
-command-linear (for q r c) at s =
-    linear-map for-steps (linear-sequence (command-before (assign (start q)) at s) (assign-linear (start q) at s)
-    (linear-loop (turn-before q c at) λ u. linear-sequence (command-before c (at + 1) u) (command-linear c (at + 1) u)
-    (assign-linear (increment q) at)))
+  command-linear : (c : Command) (at : ℕ) (s : Store) → Linear (Due bodyAt c at s)
+  command-linear skip at s = skip-linear at s
+  command-linear (sequence c c′) at s =
+      linear-map sequence-steps
+      (linear-sequence (command-before c (at + 1) s) (command-linear c (at + 1) s)
+      (λ u. command-linear c′ (at + 1 + length (commandWords c)) u))
+  command-linear (assert b) at s = assert-linear b at s
+  command-linear (assign a) at s = assign-linear a at s
+  command-linear (ifElse b c c′) at s =
+      branch (command-linear c (at + 1 + length (words b)) s)
+      (command-linear c′ (at + 1 + length (words b) + length (commandWords c)) s) (value b s) refl
+    where
+      branch : Linear (Due bodyAt c (at + 1 + length (words b)) s) →
+          Linear (Due bodyAt c′ (at + 1 + length (words b) + length (commandWords c)) s) → (v : Bool) → value b s ≡ v →
+          Linear (Due bodyAt (ifElse b c c′) at s)
+      branch L M true e = linear-map (then-steps e) (linear-after {d = tests b} L)
+      branch L M false e = linear-map (else-steps e) (linear-after {d = tests b} M)
+  command-linear (while b c) at s =
+      let i = at + 1 + length (words b) in
+      linear-map while-steps (linear-loop (command-before c i) (λ u. command-linear c i u) s)
+  command-linear (for q r c) at s =
+      linear-map for-steps (linear-sequence (command-before (assign (start q)) at s) (assign-linear (start q) at s)
+      (linear-loop (turn-before q c at) λ u. linear-sequence (command-before c (at + 1) u) (command-linear c (at + 1) u)
+      (assign-linear (increment q) at)))
+  command-linear (call n c) at s = linear-map call-steps (linear-after {d = calls} (command-linear c (bodyAt n) s))
 
--- THE LAW
-pub due-once : {c : Command} {i : ℕ} {s : Store} {k : ℕ} {d : Step} {p : ℕ} {t : Store}
-    {k′ : ℕ} {d′ : Step} {p′ : ℕ} {t′ : Store} →
-    Due c i s k d p t → Due c i s k′ d′ p′ t′ → k ≡ k′ → SameStep d p t d′ p′ t′
-due-once {c} {i} {s} x y e = command-linear c i s .one x y e
+  -- THE LAW
+  pub due-once : {c : Command} {i : ℕ} {s : Store} {k : ℕ} {d : Step} {p : ℕ} {t : Store}
+      {k′ : ℕ} {d′ : Step} {p′ : ℕ} {t′ : Store} →
+      Due bodyAt c i s k d p t → Due bodyAt c i s k′ d′ p′ t′ → k ≡ k′ → SameStep d p t d′ p′ t′
+  due-once {c} {i} {s} x y e = command-linear c i s .one x y e

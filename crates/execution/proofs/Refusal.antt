@@ -16,7 +16,7 @@ use Rattle.language.specs.Syntax.{Sort, Expr, constant, scalar, operation, sele
 use Rattle.language.specs.Syntax.{array, zeros, update, toScalar, toArray}
 use Rattle.language.specs.Store.{Store, value}
 use Rattle.execution.specs.Evaluate.{inRange, isIndex}
-use Rattle.execution.specs.Due.{Step, skips, asserts, tests, gives}
+use Rattle.execution.specs.Due.{Step, skips, calls, asserts, tests, gives}
 use Rattle.execution.specs.Refusal.{unless, first, refusalOf, stepRefusal, refusal}
 
 abbrev pub Number : Option ℕ → Type 0
@@ -70,6 +70,7 @@ expression-number (update h i a) s =
 step-number : (d : Step) (s : Store) → Number (stepRefusal d s)
 unfolding stepRefusal
 step-number skips s = tt
+step-number calls s = tt
 step-number (asserts b) s =
     both-number _ _ (expression-number b s) (unless-number (value b s) 12 (omega arith) (omega arith))
 step-number (tests b) s = expression-number b s

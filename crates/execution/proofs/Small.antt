@@ -4,7 +4,7 @@
 use Prim.Native.Nat.{_<_}
 use Rattle.language.specs.Syntax.{Sort, Expr, constant, scalar, operation, select, compare, truth, and, or, neg}
 use Rattle.language.specs.Syntax.{array, zeros, update, Assignment, toScalar, toArray}
-use Rattle.language.specs.Syntax.{Command, skip, sequence, assert, assign, ifElse, while, for}
+use Rattle.language.specs.Syntax.{Command, skip, sequence, assert, assign, ifElse, while, for, call}
 
 -- every scalar and array of the expression is below 32
 unfoldable pub SmallExpression : {k : Sort} → Expr k → Type 0
@@ -35,3 +35,4 @@ SmallCommand (assign a) = SmallAssignment a
 SmallCommand (ifElse b c d) = SmallExpression b × SmallCommand c × SmallCommand d
 SmallCommand (while b c) = SmallExpression b × SmallCommand c
 SmallCommand (for q m c) = (q < 32) × (m < 32) × SmallCommand c
+SmallCommand (call n c) = SmallCommand c

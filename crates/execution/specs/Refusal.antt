@@ -14,7 +14,7 @@ use Rattle.language.specs.Syntax.{Sort, Expr, constant, scalar, operation, sele
 use Rattle.language.specs.Syntax.{array, zeros, update, toScalar, toArray}
 use Rattle.language.specs.Store.{Store, value}
 use Rattle.execution.specs.Evaluate.{inRange, isIndex}
-use Rattle.execution.specs.Due.{Step, skips, asserts, tests, gives}
+use Rattle.execution.specs.Due.{Step, skips, calls, asserts, tests, gives}
 
 abbrev pub unless : Bool → ℕ → Option ℕ
 unless true k = none
@@ -45,6 +45,7 @@ refusalOf (update h i a) s =
 -- 12 is tried last
 unfoldable pub stepRefusal : Step → Store → Option ℕ
 stepRefusal skips s = none
+stepRefusal calls s = none
 stepRefusal (asserts b) s = first (refusalOf b s ∷ unless (value b s) 12 ∷ [])
 stepRefusal (tests b) s = refusalOf b s
 stepRefusal (gives (toScalar x e)) s = refusalOf e s

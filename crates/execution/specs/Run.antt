@@ -1,4 +1,4 @@
--- Commands run on a budget of steps (document 01, "Runner" and "Judging order" 12 to 15).
+-- Commands run on a budget of steps (document 01, "Runner" and "Judging order" 12 to 15; document 02, request [3]).
 -- Trusted. Assumes nothing.
 --     End               a run ends, or stops by a refusal at a place, with the steps left and the store then
 --     onEnded           going on where a run ended
@@ -12,7 +12,7 @@ use lib.ListN.{length, set}
 use lib.Seq.{paste}
 use Rattle.language.specs.Syntax.{atMost, Boolean, Expr, scalar, compare}
 use Rattle.language.specs.Syntax.{Assignment, toScalar, toArray}
-use Rattle.language.specs.Syntax.{Command, skip, sequence, assert, assign, ifElse, while, for}
+use Rattle.language.specs.Syntax.{Command, skip, sequence, assert, assign, ifElse, while, for, call}
 use Rattle.language.specs.Runs.{start, increment}
 use Rattle.rules.specs.Words.{words, commandWords}
 use Rattle.execution.specs.Lent.{Lent, storeOf, elements}
@@ -48,17 +48,18 @@ turns zero b body at n m = stopped 13 at 0 m
 turns (suc k) b body at n m = step at n m (evaluate b (storeOf m)) λ v l.
     elim v [ true ↦ onEnded (body l m) (turns k b body at) | false ↦ ended l m ]
 
--- a `for`'s start, test and increment stand at its word
-unfoldable pub run : Command → ℕ → ℕ → Lent → End
-run skip at n m = step at n m (worked m) λ m′ l. ended l m′
-run (sequence c d) at n m = onEnded (run c (at + 1) n m) (run d (at + 1 + length (commandWords c)))
-run (assert b) at n m = step at n m (evaluate b (storeOf m)) λ v l. cond v (ended l m) (stopped 12 at n m)
-run (assign a) at n m = assigns a at n m
-run (ifElse b c d) at n m = step at n m (evaluate b (storeOf m)) λ v l. elim v [
-  | true ↦ run c (at + 1 + length (words b)) l m
-  | false ↦ run d (at + 1 + length (words b) + length (commandWords c)) l m
+-- a `for`'s start, test and increment stand at its word; the body of procedure p stands at `bodyAt p`
+unfoldable pub run : (ℕ → ℕ) → Command → ℕ → ℕ → Lent → End
+run bodyAt skip at n m = step at n m (worked m) λ m′ l. ended l m′
+run bodyAt (sequence c d) at n m = onEnded (run bodyAt c (at + 1) n m) (run bodyAt d (at + 1 + length (commandWords c)))
+run bodyAt (assert b) at n m = step at n m (evaluate b (storeOf m)) λ v l. cond v (ended l m) (stopped 12 at n m)
+run bodyAt (assign a) at n m = assigns a at n m
+run bodyAt (ifElse b c d) at n m = step at n m (evaluate b (storeOf m)) λ v l. elim v [
+  | true ↦ run bodyAt c (at + 1 + length (words b)) l m
+  | false ↦ run bodyAt d (at + 1 + length (words b) + length (commandWords c)) l m
 ]
-run (while b c) at n m = turns n b (run c (at + 1 + length (words b))) at n m
-run (for q r c) at n m = onEnded (assigns (start q) at n m) λ l m′.
+run bodyAt (while b c) at n m = turns n b (run bodyAt c (at + 1 + length (words b))) at n m
+run bodyAt (for q r c) at n m = onEnded (assigns (start q) at n m) λ l m′.
     turns l (compare atMost (scalar q) (scalar r))
-    (λ k m″. onEnded (run c (at + 1) k m″) (assigns (increment q) at)) at l m′
+    (λ k m″. onEnded (run bodyAt c (at + 1) k m″) (assigns (increment q) at)) at l m′
+run bodyAt (call p c) at n m = step at n m (worked m) λ m′ l. run bodyAt c (bodyAt p) l m′

@@ -1,34 +1,50 @@
-// A file from its bytes (document 01, "Judging order" 1 to 7): its words and their table in lent room, and the places of its parts,
-// or the refusal. Every call that takes a file begins here.
+// A file from its bytes (document 01, "Judging order" 1 to 7; document 02, request [3]): its words and their table in lent room, and
+// the places of its parts, or the refusal. Every call that takes a file begins here.
 use context::Context;
 use context::Refusal;
-use ends::fill_table;
+use ends::blocks::fill_blocks;
+use ends::fill_ends;
 use reader::Layout;
 use reader::Places;
 use reader::file::read_words;
+use scan::calls::Rightness;
+use scan::calls::first_wrong_call;
+use scan::programs::fill_masks;
 use scan::steady::Steadiness;
 use scan::steady::first_unsteady;
 use words::load::bad_length;
 use words::load::load;
 ghost use mathlib.Core.Path.{_≡_};
 ghost use Rattle.rules.specs.Context.{standard};
-ghost use Rattle.context.specs.Contexts.{contextOf};
-ghost use Rattle.file.specs.Found.{Found, TableRoom, Tabled, CanLoad, FileRead};
+ghost use Rattle.context.specs.Contexts.{limitsOf};
+ghost use Rattle.file.specs.Found.{Found, CallsRight, TableRoom, TableMade, Tabled, CanLoad, FileRead};
 
-// Document 01's context.
+// Document 01's limits.
 pub fn standard_context() -> Context
-    ensures { λ r. ⌜ contextOf r ≡ standard ⌝ }
+    ensures { λ r. ⌜ limitsOf r ≡ standard ⌝ }
 {
     Context {
         comparisons: 10,
         depth: 128,
         members: 64,
+        procedures: 0,
     }
 }
 
-// Refusal 7, of words that refusals 2 to 6 let pass; their table is filled.
+// The table of a file: the ends of all that starts in its words, the masks of its procedures, and then those of its blocks, in which
+// a call counts what its procedure modifies.
+fn fill_table(w: &[u32], table: &mut [u32])
+    requires { ⌜ TableRoom (now w) (now table) ⌝ }
+    ensures { λ r. ⌜ TableMade (now (w .entry)) (now (table .entry)) (now (table .exit)) ⌝ }
+{
+    fill_ends(w, table);
+    fill_masks(w, table);
+    fill_blocks(w, table);
+}
+
+// Refusal 7, of words that refusals 2 to 6 and 16 let pass; their table is filled.
 fn read_steady(w: &[u32], table: &mut [u32], context: Context, places: Places) -> Layout
-    requires { ⌜ Found (now w) context places × TableRoom (now w) (now table) ⌝ }
+    requires { ⌜ CallsRight (now w) context places (now table) × TableRoom (now w) (now table) ⌝ }
     ensures { λ r. ⌜ Tabled (now (w .entry)) context r (now (table .exit)) ⌝ }
 {
     fill_table(w, table);
@@ -39,19 +55,33 @@ fn read_steady(w: &[u32], table: &mut [u32], context: Context, places: Places) -
     }
 }
 
-// Refusals 2 to 7.
+// Refusals 16 and 7, of words that refusals 2 to 6 let pass.
+fn read_called(w: &[u32], table: &mut [u32], context: Context, places: Places) -> Layout
+    requires { ⌜ Found (now w) context places (now table) × TableRoom (now w) (now table) ⌝ }
+    ensures { λ r. ⌜ Tabled (now (w .entry)) context r (now (table .exit)) ⌝ }
+{
+    let calls = first_wrong_call(w, table);
+    match calls {
+        Rightness::Right => read_steady(w, table, context, places),
+        Rightness::Wrong(place) => Layout::Refused(Refusal { number: 16, place }),
+    }
+}
+
+// Refusals 2 to 7 and 16. The starts of the programs stand behind the room for ends and masks of blocks.
 fn read_table(w: &[u32], table: &mut [u32], context: Context) -> Layout
     requires { ⌜ TableRoom (now w) (now table) ⌝ }
     ensures { λ r. ⌜ Tabled (now (w .entry)) context r (now (table .exit)) ⌝ }
 {
-    let found = read_words(w, context);
+    let n = w.len();
+    let starts = n + 2 * (n / 32);
+    let found = read_words(w, &mut table[starts..], context);
     match found {
-        Layout::Found(places) => read_steady(w, table, context, places),
+        Layout::Found(places) => read_called(w, table, context, places),
         Layout::Refused(refusal) => Layout::Refused(refusal),
     }
 }
 
-// Refusals 1 to 7. Of a file that they let pass, the words stand in front of `words`, and `table` is filled for them.
+// Refusals 1 to 7 and 16. Of a file that they let pass, the words stand in front of `words`, and `table` is filled for them.
 pub fn read_file(file: &[u8], words: &mut [u32], table: &mut [u32], context: Context) -> Layout
     requires { ⌜ CanLoad (now file) (now words) (now table) ⌝ }
     ensures { λ r. ⌜ FileRead (now (file .entry)) context r (now (words .exit)) (now (table .exit)) ⌝ }

@@ -7,15 +7,15 @@ use mathlib.Core.Path.{_≡_, refl, sym, _∙_, ap, subst}
 use mathlib.Core.List.{List}
 use Prim.Native.Nat.{ℕ, _≤_}
 use native.Mathlib.Omega.{arith}
-use Rattle.rules.specs.Context as rules
+use Rattle.rules.specs.Context.{Limits, standard}
 use Rattle.rules.specs.Judge as judge
 use Rattle.layout.specs.Reading.{Reading, read, fault}
 use Rattle.layout.specs.File.{File, fileOf}
 use Rattle.layout.specs.Verdict.{judged, verdictOf}
 use Rattle.claims.proofs.Check.{demand-2, demand-3}
-use Rattle.context.specs.Contexts.{contextOf}
+use Rattle.context.specs.Contexts.{limitsOf}
 use Rattle.context.specs.declared.Context.{Context}
-use Rattle.reader.specs.File.{places}
+use Rattle.reader.specs.Program.{places}
 use Rattle.reader.specs.declared.Places.{Places}
 use Rattle.outcomes.specs.Outcome.{withPlaces, outcomeOf, WithinLimits}
 use Rattle.outcomes.specs.declared.Outcome.{Outcome}
@@ -25,11 +25,11 @@ use Rattle.flow.specs.declared.Verdict.{Verdict}
 use Rattle.flow.specs.declared.Verdict.the-variants as Verdict
 
 -- document 01's limits are small enough
-pub standard-within : (context : Context) → contextOf context ≡ rules.standard → WithinLimits context
-unfolding rules.standard
+pub standard-within : (context : Context) → limitsOf context ≡ standard → WithinLimits context
+unfolding standard
 standard-within context e = record {
-  few = subst (λ (Γ : rules.Context). Γ .limits .comparisons ≤ 16) (sym e) (omega arith);
-  low = subst (λ (Γ : rules.Context). Γ .limits .depth ≤ 256) (sym e) (omega arith);
+  few = subst (λ (l : Limits). l .comparisons ≤ 16) (sym e) (omega arith);
+  low = subst (λ (l : Limits). l .depth ≤ 256) (sym e) (omega arith);
 }
 
 abbrev pub answerFrom : Outcome → Verdict
@@ -40,23 +40,22 @@ answer-places : (v : judge.Verdict) (s : Places) → answerFrom (withPlaces v s)
 answer-places (judge.accepted n) s = refl
 answer-places (judge.refused k i) s = refl
 
-answer-read : (Γ : rules.Context) (x : Reading File) →
-    answerFrom (outcomeOf Γ x) ≡ answerOf (judged Γ x)
-answer-read Γ (read f p) =
-    answer-places (judged Γ (read f p))
-    (places (f .preAt) (f .postAt) (f .evidenceAt) p)
-answer-read Γ (fault n p) = refl
+answer-read : (limits : Limits) (x : Reading File) → answerFrom (outcomeOf limits x) ≡ answerOf (judged limits x)
+answer-read limits (read f p) =
+    answer-places (judged limits (read f p))
+    (places (f .main .start) (f .main .preAt) (f .main .postAt) (f .main .evidenceAt) p)
+answer-read limits (fault n p) = refl
 
-pub outcome-answer : (Γ : rules.Context) (bytes : List ℕ) (r q : Outcome) →
-    r ≡ outcomeOf Γ (fileOf Γ bytes) → r ≡ q → answerFrom q ≡ answerOf (verdictOf Γ bytes)
+pub outcome-answer : (limits : Limits) (bytes : List ℕ) (r q : Outcome) →
+    r ≡ outcomeOf limits (fileOf limits bytes) → r ≡ q → answerFrom q ≡ answerOf (verdictOf limits bytes)
 unfolding verdictOf
-outcome-answer Γ bytes r q e h =
-    ap (λ (z : Outcome). answerFrom z) (sym h ∙ e) ∙ answer-read Γ (fileOf Γ bytes)
+outcome-answer limits bytes r q e h =
+    ap (λ (z : Outcome). answerFrom z) (sym h ∙ e) ∙ answer-read limits (fileOf limits bytes)
 
-pub checked : (bytes : List ℕ) (r q : Outcome) → r ≡ outcomeOf rules.standard (fileOf rules.standard bytes) → r ≡ q →
+pub checked : (bytes : List ℕ) (r q : Outcome) → r ≡ outcomeOf standard (fileOf standard bytes) → r ≡ q →
     Checked bytes (answerFrom q)
 checked bytes r q e h = record {
-  answer = outcome-answer rules.standard bytes r q e h;
-  exact = demand-2 rules.standard bytes;
-  secure = demand-3 rules.standard bytes;
+  answer = outcome-answer standard bytes r q e h;
+  exact = demand-2 standard bytes;
+  secure = demand-3 standard bytes;
 }

@@ -1,19 +1,20 @@
 -- Where the judge refuses (document 01, "Judging order" 8 and 9): at the place of a word of the file, with 8 or 9.
 -- Assumes nothing.
---     PlaceInside    a refused verdict has a number up to 9 and the place of one of n words
---     flow-inside    evidence that stands in a file, judged
+--     PlaceInside        a refused verdict has a number up to 9 and the place of one of n words
+--     programs-inside    the programs of a file that stands, judged
 use mathlib.Core.Path.{_≡_}
-use mathlib.Core.List.{List}
+use mathlib.Core.List.{List, [], _∷_}
 use Prim.Native.Nat.{ℕ, zero, suc, _+_, _<_, _≤_}
 use native.Mathlib.Omega.{arith}
-use Rattle.language.specs.Syntax.{Command}
-use Rattle.rules.specs.Assertion.{Members}
 use Rattle.rules.specs.Context.{Context}
-use Rattle.rules.specs.Evidence.{Standing, Tree, by, assertion, command, members, child, done, _&_, FlowEvidence}
-use Rattle.rules.specs.Judge.{Verdict, accepted, refused, oneMore, _also_, judge}
+use Rattle.rules.specs.Evidence.{Standing, Tree, by, assertion, command, members, child, done, _&_}
+use Rattle.rules.specs.Judge.{Verdict, accepted, refused, oneMore, _also_}
 use Rattle.rules.proofs.Holds.{Everywhere, Holding, flow-holds}
 use Rattle.layout.specs.Bytes.{wordCount}
 use Rattle.layout.specs.EvidenceWords.{spelledTree, FitsTree}
+use Rattle.layout.specs.Program.{Program, after}
+use Rattle.layout.specs.FileWords.{ProgramStands, ProgramsStand}
+use Rattle.layout.specs.Verdict.{judgeProgram, judgePrograms}
 use Rattle.layout.proofs.SpelledEvidence.{TreeAt, parted-trees}
 
 pub record PlaceInside (n : ℕ) (v : Verdict) : Type 0 where
@@ -64,6 +65,14 @@ standing Γ file (x & t) d at p s =
     let y = parted-trees Γ file x t d at p s in
     (standing Γ file x d at (y .0) (y .1), standing Γ file t d (y .0) p (y .2))
 
-pub flow-inside : (Γ : Context) (file : List ℕ) (k : FlowEvidence) (m : Members) (c : Command) (n : Members)
-    (d at p : ℕ) → TreeAt Γ file d at k p → PlaceInside (wordCount file) (judge Γ k m c n)
-flow-inside Γ file k m c n d at p s = flow-holds (inside (wordCount file)) Γ k m c n (standing Γ file k d at p s)
+flow-inside : (Γ : Context) (file : List ℕ) (f : Program) → ProgramStands Γ file f → PlaceInside (wordCount file) (judgeProgram Γ f)
+flow-inside Γ file f h =
+    flow-holds (inside (wordCount file)) Γ (f .evidence) (f .pre) (f .command) (f .post)
+    (standing Γ file (f .evidence) (Γ .limits .depth) (f .evidenceAt) (f .past) (h .evidence))
+
+pub programs-inside : (Γ : Context) (file : List ℕ) (l : List Program) (f : Program) (at p : ℕ) → ProgramsStand Γ file l f at p →
+    PlaceInside (wordCount file) (judgePrograms Γ l f)
+unfolding judgePrograms
+programs-inside Γ file [] f at p h = flow-inside Γ file f (h .1)
+programs-inside Γ file (g ∷ l) f at p h =
+    inside (wordCount file) .both _ _ 0 0 (flow-inside Γ file g (h .1)) (programs-inside (after Γ g) file l f (g .past) p (h .2))

@@ -1,4 +1,4 @@
--- What the check on bytes promises (document 01, "Judging order" 1 to 9).
+-- What the check on bytes promises (document 01, "Judging order" 1 to 9; document 02, request [3]).
 -- Trusted. Assumes nothing.
 --     answerOf    the answer for a verdict: the count; or the number and the place
 --     Checked     the answer is that of the definition, and demands 2 and 3 hold of the bytes
@@ -18,7 +18,7 @@ answerOf (judge.refused k i) = Refused (record { number = k; place = i })
 
 pub record Checked (bytes : List ℕ) (r : Verdict) : Type 0 where
   pub answer : r ≡ answerOf (verdictOf standard bytes)
-  -- accepted exactly when the file reads and its evidence is a derivation, with the count of its evidence words
+  -- accepted exactly when the file reads and the evidence of each of its programs is a derivation, with the count of its evidence words
   pub exact : Demand2 standard bytes
-  -- accepted only if the program is secure
+  -- accepted only if the main program and each procedure are secure
   pub secure : Demand3 standard bytes

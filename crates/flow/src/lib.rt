@@ -1,4 +1,4 @@
-// The check on bytes (document 01, "Judging order" 1 to 9): the public calls.
+// The check on bytes (document 01, "Judging order" 1 to 9; document 02, request [3]): the public calls.
 use context::Refusal;
 use file::standard_context;
 use outcomes::Outcome;
@@ -20,7 +20,7 @@ pub enum Verdict {
     Refused(Refusal),
 }
 
-// Refusals 1 to 9 under document 01's context.
+// Refusals 1 to 9 and 16 under document 01's limits.
 fn standard_outcome(file: &[u8]) -> Outcome
     ensures { λ r. ⌜ r ≡ outcomeOf standard (fileOf standard (now (file .entry))) ⌝ }
 {
@@ -99,7 +99,7 @@ pub extern "C" fn flow_program(file: &[u8]) -> u32
 {
     let done = standard_outcome(file);
     match done {
-        Outcome::Accepted(_, places) => packed_places(1, places.pre),
+        Outcome::Accepted(_, places) => packed_places(places.start, places.pre),
         Outcome::Refused(_) => 0,
     }
 }

@@ -27,7 +27,7 @@ use Rattle.flow_compound.proofs.Goal.{second, third, by-test, trees}
 module _ {Γ : Context} {file ends : List ℕ} {p c q at : ℕ} (can : CanTry file ends Γ 6 (Flow p c q) at) where
   pub not-if : (kindAt file c ≡ 29 → ⊥) → StepOf file ends Γ (Flow p c q) at Fails
   unfolding flowRule
-  not-if h = flow-rule can flow6 λ x y e t d end a k z s. misfit-comes (other-than-if misfit e _ (other-kind k h))
+  not-if h = flow-rule can flow6 λ x y e t d end a k z s. misfit-comes (other-than-if Γ misfit e _ (other-kind k h))
 
   module _ (h : kindAt file c ≡ 29) where
     pub not-one-after : (countAt file q ≡ 1 → ⊥) → StepOf file ends Γ (Flow p c q) at Fails

@@ -18,11 +18,12 @@ use Rattle.rules.specs.Context.{Context}
 use Rattle.rules.specs.Evidence.{done, Parts}
 use Rattle.rules.specs.Condition.{Result, test, _then_}
 use Rattle.rules.specs.Judge.{Verdict, RuleStep, step}
-use Rattle.ends.specs.Places.{endAt, CommandAt, SetAt}
+use Rattle.ends.specs.Places.{endAt, SetAt}
 use Rattle.implication.specs.declared.Condition.the-variants.{Fails}
 use Rattle.goals.specs.declared.Goal.{Goal}
 use Rattle.goals.specs.declared.Goal.the-variants.{Flow}
 use Rattle.goals.specs.Conditions.{conditionOf}
+use Rattle.goals.specs.Resolved.{ResolvedAt}
 use Rattle.goals.specs.Goals.{TreeGoal, GoalStands, flow-stands, ChildrenOf, ComesTo, CanStep}
 use Rattle.ends.proofs.Places.{node-inside}
 use Rattle.goals.proofs.Evidence.{Placed}
@@ -47,7 +48,7 @@ pub record Trees (Γ : Context) (file ends : List ℕ) (p c q : ℕ) : Type 0 wh
   pub command : Command
   pub after : Members
   pub before-at : SetAt file ends Γ before p
-  pub command-at : CommandAt file ends command c
+  pub command-at : ResolvedAt file ends Γ command c
   pub after-at : SetAt file ends Γ after q
 
 -- the code's test a is the rule's b
@@ -83,7 +84,7 @@ module _ {Γ : Context} {file ends : List ℕ} {p c q at : ℕ} where
     before-head = first-word (node-inside (trees .before-at))
 
     pub command-head : c < length file
-    command-head = first-word (node-inside (trees .command-at))
+    command-head = first-word (node-inside (trees .command-at .there))
 
     pub after-head : q < length file
     after-head = first-word (node-inside (trees .after-at))

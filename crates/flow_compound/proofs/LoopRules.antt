@@ -30,7 +30,7 @@ use Rattle.flow_compound.proofs.Goal.{command-head}
 module _ {Γ : Context} {file ends : List ℕ} {p c q at : ℕ} (can : CanTry file ends Γ 13 (Flow p c q) at) where
   pub not-while : (kindAt file c ≡ 30 → ⊥) → StepOf file ends Γ (Flow p c q) at Fails
   unfolding flowRule
-  not-while h = flow-rule can flow13 λ x y e t d end f g z s. misfit-comes (other-than-while misfit e _ (other-kind g h))
+  not-while h = flow-rule can flow13 λ x y e t d end f g z s. misfit-comes (other-than-while Γ misfit e _ (other-kind g h))
 
   module _ (h : kindAt file c ≡ 30) where
     pub can-test : CanTest file ends p (c + 1)
@@ -61,14 +61,14 @@ module _ {Γ : Context} {file ends : List ℕ} {p c q at : ℕ} (can : CanTry fi
 module _ {Γ : Context} {file ends : List ℕ} {p c q at : ℕ} (can : CanTry file ends Γ 14 (Flow p c q) at) where
   pub not-for : (kindAt file c ≡ 31 → ⊥) → StepOf file ends Γ (Flow p c q) at Fails
   unfolding flowRule
-  not-for h = flow-rule can flow14 λ x y e t d end f g z s. misfit-comes (other-than-for misfit e _ (other-kind g h))
+  not-for h = flow-rule can flow14 λ x y e t d end f g z s. misfit-comes (other-than-for Γ misfit e _ (other-kind g h))
 
   module _ (h : kindAt file c ≡ 31) where
     asked : (t : Parts (row flow14 .after)) (d end : ℕ) → Placed Γ file ends d t (at + 1) end →
         CanMean file ends (at + 1) c
     asked (command m & l) d end (m-at, _) = record {
       ends-of = can .can .ends-of;
-      command = node-known (can .can .ends-of) m-at;
+      command = node-known (can .can .ends-of) (m-at .there);
       head = command-head (can .can);
       body =
           node-known (can .can .ends-of)
@@ -82,8 +82,8 @@ module _ {Γ : Context} {file ends : List ℕ} {p c q at : ℕ} (can : CanTry fi
     unfolding flowRule judge byForm
     means w x y e (command m & child k & done) d end f g z (m-at, (i, k-at, last)) =
         let l = is-for (can .can .ends-of) g h in
-        let written = subst (λ v. CommandAt file ends v c) (l .is) g in
-        rw (l .is) (by-test refl (w .is m (l .counter) (l .bound) (l .body) m-at written)
+        let written = subst (λ v. CommandAt file ends Γ v c) (l .is) (g .there) in
+        rw (l .is) (by-test refl (w .is Γ m (l .counter) (l .bound) (l .body) (m-at .there) written)
         (one-child (up-to (flow-stands f m-at z k-at) last)))
 
     pub for-comes : {b : Bool} → MeaningAt file ends (at + 1) c b → StepOf file ends Γ (Flow p c q) at (conditionOf b)

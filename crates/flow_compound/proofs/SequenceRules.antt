@@ -20,7 +20,7 @@ module _ {Γ : Context} {file ends : List ℕ} {p c q at : ℕ} (can : CanTry fi
   pub not-sequence : (kindAt file c ≡ 25 → ⊥) → StepOf file ends Γ (Flow p c q) at Fails
   unfolding flowRule
   not-sequence h = flow-rule can flow2 λ x y e t d end a k z s.
-      misfit-comes (other-than-sequence misfit e _ (other-kind k h))
+      misfit-comes (other-than-sequence Γ misfit e _ (other-kind k h))
 
   passes : kindAt file c ≡ 25 → FlowComes Γ file ends p c q at flow2 Passes
   unfolding flowRule judge byForm

@@ -9,8 +9,8 @@ use sets::rule::same_branches;
 use words::kinds::IF;
 use words::kinds::KIND;
 ghost use mathlib.Core.Path.{_≡_};
-ghost use Rattle.context.specs.Contexts.{contextOf};
-ghost use Rattle.goals.specs.Children.{childAt};
+ghost use Rattle.context.specs.Contexts.{contextIn};
+ghost use Rattle.goals.specs.Children.{flowChild};
 ghost use Rattle.goals.specs.Goals.{CanTry, StepOf};
 ghost use Rattle.goals.specs.declared.Goal.the-variants.{Flow};
 ghost use Rattle.flow_compound.specs.Children.{CanFlowChild};
@@ -26,8 +26,8 @@ pub fn rule_6(
     c: usize,
     q: usize,
 ) -> Condition
-    requires { ⌜ CanTry (now w) (now ends) (contextOf context) 6 (Flow p c q) «at» ⌝ }
-    ensures { λ r. ⌜ StepOf (now (w .entry)) (now (ends .entry)) (contextOf context) (Flow p c q) «at» r ⌝ }
+    requires { ⌜ CanTry (now w) (now ends) (contextIn context (now w)) 6 (Flow p c q) «at» ⌝ }
+    ensures { λ r. ⌜ StepOf (now (w .entry)) (now (ends .entry)) (contextIn context (now (w .entry))) (Flow p c q) «at» r ⌝ }
 {
     if w[c] / KIND != IF {
         return Condition::Fails;
@@ -44,7 +44,7 @@ pub fn rule_6(
 // Its children: (S, C1, Q), (T, C2, Q), precondition (φ0, C, φ).
 pub fn child_6(ends: &[u32], at: usize, p: usize, c: usize, q: usize, k: usize) -> Goal
     requires { ⌜ CanFlowChild (now ends) 6 p c q «at» k ⌝ }
-    ensures { λ r. ⌜ r ≡ childAt (now (ends .entry)) (Flow p c q) 6 «at» k ⌝ }
+    ensures { λ r. ⌜ r ≡ flowChild (now (ends .entry)) p c q 6 «at» k ⌝ }
 {
     let s = at + 1;
     let first = end_or_zero(ends, c + 1);

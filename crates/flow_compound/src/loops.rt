@@ -11,8 +11,8 @@ use words::kinds::FOR;
 use words::kinds::KIND;
 use words::kinds::WHILE;
 ghost use mathlib.Core.Path.{_≡_};
-ghost use Rattle.context.specs.Contexts.{contextOf};
-ghost use Rattle.goals.specs.Children.{childAt};
+ghost use Rattle.context.specs.Contexts.{contextIn};
+ghost use Rattle.goals.specs.Children.{flowChild};
 ghost use Rattle.goals.specs.Goals.{CanTry, StepOf};
 ghost use Rattle.goals.specs.declared.Goal.the-variants.{Flow};
 ghost use Rattle.flow_compound.specs.Children.{CanFlowChild};
@@ -27,8 +27,8 @@ pub fn rule_13(
     c: usize,
     q: usize,
 ) -> Condition
-    requires { ⌜ CanTry (now w) (now ends) (contextOf context) 13 (Flow p c q) «at» ⌝ }
-    ensures { λ r. ⌜ StepOf (now (w .entry)) (now (ends .entry)) (contextOf context) (Flow p c q) «at» r ⌝ }
+    requires { ⌜ CanTry (now w) (now ends) (contextIn context (now w)) 13 (Flow p c q) «at» ⌝ }
+    ensures { λ r. ⌜ StepOf (now (w .entry)) (now (ends .entry)) (contextIn context (now (w .entry))) (Flow p c q) «at» r ⌝ }
 {
     if w[c] / KIND != WHILE {
         return Condition::Fails;
@@ -42,7 +42,7 @@ pub fn rule_13(
 // Its child: (P, C1, Q).
 pub fn child_13(ends: &[u32], at: usize, p: usize, c: usize, q: usize, k: usize) -> Goal
     requires { ⌜ CanFlowChild (now ends) 13 p c q «at» k ⌝ }
-    ensures { λ r. ⌜ r ≡ childAt (now (ends .entry)) (Flow p c q) 13 «at» k ⌝ }
+    ensures { λ r. ⌜ r ≡ flowChild (now (ends .entry)) p c q 13 «at» k ⌝ }
 {
     let body = end_or_zero(ends, c + 1);
     Goal::Flow(p, body, q)
@@ -58,8 +58,8 @@ pub fn rule_14(
     c: usize,
     q: usize,
 ) -> Condition
-    requires { ⌜ CanTry (now w) (now ends) (contextOf context) 14 (Flow p c q) «at» ⌝ }
-    ensures { λ r. ⌜ StepOf (now (w .entry)) (now (ends .entry)) (contextOf context) (Flow p c q) «at» r ⌝ }
+    requires { ⌜ CanTry (now w) (now ends) (contextIn context (now w)) 14 (Flow p c q) «at» ⌝ }
+    ensures { λ r. ⌜ StepOf (now (w .entry)) (now (ends .entry)) (contextIn context (now (w .entry))) (Flow p c q) «at» r ⌝ }
 {
     if w[c] / KIND != FOR {
         return Condition::Fails;
@@ -70,7 +70,7 @@ pub fn rule_14(
 // Its child: (P, D, Q).
 pub fn child_14(ends: &[u32], at: usize, p: usize, c: usize, q: usize, k: usize) -> Goal
     requires { ⌜ CanFlowChild (now ends) 14 p c q «at» k ⌝ }
-    ensures { λ r. ⌜ r ≡ childAt (now (ends .entry)) (Flow p c q) 14 «at» k ⌝ }
+    ensures { λ r. ⌜ r ≡ flowChild (now (ends .entry)) p c q 14 «at» k ⌝ }
 {
     Goal::Flow(p, at + 1, q)
 }

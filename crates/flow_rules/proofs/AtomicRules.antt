@@ -33,8 +33,8 @@ use Rattle.flow_compound.proofs.Goal.{by-test, no-parts, trees}
 abbrev pub putting : List ℕ → List ℕ → ℕ → ℕ → Put
 putting file ends c n = record { word = n * payloads + payloadAt file c; from = c + 1; to = endAt ends (c + 1) }
 
-right-side : {file ends : List ℕ} {c : ℕ} {e : Command} {k : Sort} {make : ℕ → Expr k → Assignment} (n : ℕ)
-    (x : AssignAt file ends c e k make) → RightSide file ends (putting file ends c n) n (x .name) (x .right)
+right-side : {file ends : List ℕ} {Γ : Context} {c : ℕ} {e : Command} {k : Sort} {make : ℕ → Expr k → Assignment} (n : ℕ)
+    (x : AssignAt file ends Γ c e k make) → RightSide file ends (putting file ends c n) n (x .name) (x .right)
 right-side n x = record {
   small = x .parts .small;
   word-is = ap (λ i. n * payloads + i) (x .parts .payload);
@@ -73,7 +73,7 @@ module _ {Γ : Context} {file ends : List ℕ} {p c q at : ℕ} where
   module _ (can : CanTry file ends Γ 1 (Flow p c q) at) where
     pub not-skip : (kindAt file c ≡ 24 → ⊥) → StepOf file ends Γ (Flow p c q) at Fails
     unfolding flowRule
-    not-skip h = flow-rule can flow1 λ x y e t d end a k z s. misfit-comes (other-than-skip misfit e _ (other-kind k h))
+    not-skip h = flow-rule can flow1 λ x y e t d end a k z s. misfit-comes (other-than-skip Γ misfit e _ (other-kind k h))
 
     pub skip-comes : kindAt file c ≡ 24 → {b : Bool} → SameWritten file ends p q b →
         StepOf file ends Γ (Flow p c q) at (conditionOf b)
@@ -85,7 +85,7 @@ module _ {Γ : Context} {file ends : List ℕ} {p c q at : ℕ} where
   module _ (can : CanTry file ends Γ 3 (Flow p c q) at) where
     pub not-scalar : (kindAt file c ≡ 27 → ⊥) → StepOf file ends Γ (Flow p c q) at Fails
     unfolding flowRule
-    not-scalar h = flow-rule can flow3 λ x y e t d end a k z s. misfit-comes (other-than-scalar misfit e _ (other-kind k h))
+    not-scalar h = flow-rule can flow3 λ x y e t d end a k z s. misfit-comes (other-than-scalar Γ misfit e _ (other-kind k h))
 
     pub scalar-comes : kindAt file c ≡ 27 → {b : Bool} → SameReplaced file ends p q (putting file ends c 2) b →
         StepOf file ends Γ (Flow p c q) at (conditionOf b)
@@ -98,7 +98,7 @@ module _ {Γ : Context} {file ends : List ℕ} {p c q at : ℕ} where
   module _ (can : CanTry file ends Γ 4 (Flow p c q) at) where
     pub not-array : (kindAt file c ≡ 28 → ⊥) → StepOf file ends Γ (Flow p c q) at Fails
     unfolding flowRule
-    not-array h = flow-rule can flow4 λ x y e t d end a k z s. misfit-comes (other-than-array misfit e _ (other-kind k h))
+    not-array h = flow-rule can flow4 λ x y e t d end a k z s. misfit-comes (other-than-array Γ misfit e _ (other-kind k h))
 
     pub array-comes : kindAt file c ≡ 28 → {b : Bool} → SameReplaced file ends p q (putting file ends c 16) b →
         StepOf file ends Γ (Flow p c q) at (conditionOf b)
@@ -111,7 +111,7 @@ module _ {Γ : Context} {file ends : List ℕ} {p c q at : ℕ} where
   module _ (can : CanTry file ends Γ 5 (Flow p c q) at) where
     pub not-assert : (kindAt file c ≡ 26 → ⊥) → StepOf file ends Γ (Flow p c q) at Fails
     unfolding flowRule
-    not-assert h = flow-rule can flow5 λ x y e t d end a k z s. misfit-comes (other-than-assert misfit e _ (other-kind k h))
+    not-assert h = flow-rule can flow5 λ x y e t d end a k z s. misfit-comes (other-than-assert Γ misfit e _ (other-kind k h))
 
     pub assert-comes : kindAt file c ≡ 26 → {b : Bool} → SameUnder file ends p q (c + 1) b →
         StepOf file ends Γ (Flow p c q) at (conditionOf b)

@@ -4,8 +4,10 @@
 --     UnionRules          two parts of a set
 --     UnmodifiedRules     what the command does not modify
 --     AntecedentRules     sets under an assertion
+--     CallRules           a call
 pub mod AtomicRules
 pub mod ConsequenceRules
 pub mod UnionRules
 pub mod UnmodifiedRules
 pub mod AntecedentRules
+pub mod CallRules

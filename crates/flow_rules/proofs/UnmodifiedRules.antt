@@ -31,7 +31,7 @@ module _ {Γ : Context} {file ends : List ℕ} {p c q at : ℕ} (can : CanTry fi
   can-keep-set = record {
     ends-of = can .can .ends-of;
     part = node-known (can .can .ends-of) (trees (can .can) .after-at);
-    command = node-known (can .can .ends-of) (trees (can .can) .command-at);
+    command = node-known (can .can .ends-of) (trees (can .can) .command-at .there);
   }
 
   module _ {a : Bool} (u : SameWritten file ends p q a) where
@@ -43,7 +43,7 @@ module _ {Γ : Context} {file ends : List ℕ} {p c q at : ℕ} (can : CanTry fi
     pub set-kept : a ≡ true → {b : Bool} → KeptAt file ends q c b → StepOf file ends Γ (Flow p c q) at (conditionOf b)
     unfolding flowRule
     set-kept h w = flow-rule can flow10 λ x y e t d end f g z s.
-        second-test refl (sym (u .does x y f z) ∙ h) (w .set Γ y e z g)
+        second-test refl (sym (u .does x y f z) ∙ h) (w .set Γ (can .can .procedures) y e z g)
         (no-children (no-parts Γ file ends d t s))
 
 module _ {Γ : Context} {file ends : List ℕ} {p c q at : ℕ} (can : CanTry file ends Γ 11 (Flow p c q) at) where
@@ -63,7 +63,7 @@ module _ {Γ : Context} {file ends : List ℕ} {p c q at : ℕ} (can : CanTry fi
         record {
           ends-of = o;
           part = known-to e (node-known o (is-one (trees (can .can) .before-at) o one .only-at .consequent-at));
-          command = node-known o (trees (can .can) .command-at);
+          command = node-known o (trees (can .can) .command-at .there);
         }
 
     module _ (alone : countAt file q ≡ 1) where
@@ -91,7 +91,7 @@ module _ {Γ : Context} {file ends : List ℕ} {p c q at : ℕ} (can : CanTry fi
             let n = is-one z (can .can .ends-of) alone in
             rw (m .is, n .is) (second-test refl
             (sym (u .is _ _ (m .only-at .consequent-at) (n .only-at .consequent-at)) ∙ h)
-            (w .expression (m .only .consequent) e (m .only-at .consequent-at) g)
+            (w .expression Γ (can .can .procedures) (m .only .consequent) e (m .only-at .consequent-at) g)
             (one-child (up-to (pre-stands (m .only-at .antecedent-at) g (n .only-at .antecedent-at) k-at) last)))
 
         pub consequent-kept : a ≡ true → {b : Bool} → KeptAt file ends (endAt ends (p + 1)) c b →

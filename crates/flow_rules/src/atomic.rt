@@ -14,7 +14,7 @@ use words::kinds::SCALAR_WORD;
 use words::kinds::SKIP;
 use words::kinds::TO_ARRAY;
 use words::kinds::TO_SCALAR;
-ghost use Rattle.context.specs.Contexts.{contextOf};
+ghost use Rattle.context.specs.Contexts.{contextIn};
 ghost use Rattle.goals.specs.Goals.{CanTry, StepOf};
 ghost use Rattle.goals.specs.declared.Goal.the-variants.{Flow};
 
@@ -28,8 +28,8 @@ pub fn rule_1(
     c: usize,
     q: usize,
 ) -> Condition
-    requires { ⌜ CanTry (now w) (now ends) (contextOf context) 1 (Flow p c q) «at» ⌝ }
-    ensures { λ r. ⌜ StepOf (now (w .entry)) (now (ends .entry)) (contextOf context) (Flow p c q) «at» r ⌝ }
+    requires { ⌜ CanTry (now w) (now ends) (contextIn context (now w)) 1 (Flow p c q) «at» ⌝ }
+    ensures { λ r. ⌜ StepOf (now (w .entry)) (now (ends .entry)) (contextIn context (now (w .entry))) (Flow p c q) «at» r ⌝ }
 {
     if w[c] / KIND != SKIP {
         return Condition::Fails;
@@ -47,8 +47,8 @@ pub fn rule_3(
     c: usize,
     q: usize,
 ) -> Condition
-    requires { ⌜ CanTry (now w) (now ends) (contextOf context) 3 (Flow p c q) «at» ⌝ }
-    ensures { λ r. ⌜ StepOf (now (w .entry)) (now (ends .entry)) (contextOf context) (Flow p c q) «at» r ⌝ }
+    requires { ⌜ CanTry (now w) (now ends) (contextIn context (now w)) 3 (Flow p c q) «at» ⌝ }
+    ensures { λ r. ⌜ StepOf (now (w .entry)) (now (ends .entry)) (contextIn context (now (w .entry))) (Flow p c q) «at» r ⌝ }
 {
     let x = w[c];
     if x / KIND != TO_SCALAR {
@@ -74,8 +74,8 @@ pub fn rule_4(
     c: usize,
     q: usize,
 ) -> Condition
-    requires { ⌜ CanTry (now w) (now ends) (contextOf context) 4 (Flow p c q) «at» ⌝ }
-    ensures { λ r. ⌜ StepOf (now (w .entry)) (now (ends .entry)) (contextOf context) (Flow p c q) «at» r ⌝ }
+    requires { ⌜ CanTry (now w) (now ends) (contextIn context (now w)) 4 (Flow p c q) «at» ⌝ }
+    ensures { λ r. ⌜ StepOf (now (w .entry)) (now (ends .entry)) (contextIn context (now (w .entry))) (Flow p c q) «at» r ⌝ }
 {
     let x = w[c];
     if x / KIND != TO_ARRAY {
@@ -101,8 +101,8 @@ pub fn rule_5(
     c: usize,
     q: usize,
 ) -> Condition
-    requires { ⌜ CanTry (now w) (now ends) (contextOf context) 5 (Flow p c q) «at» ⌝ }
-    ensures { λ r. ⌜ StepOf (now (w .entry)) (now (ends .entry)) (contextOf context) (Flow p c q) «at» r ⌝ }
+    requires { ⌜ CanTry (now w) (now ends) (contextIn context (now w)) 5 (Flow p c q) «at» ⌝ }
+    ensures { λ r. ⌜ StepOf (now (w .entry)) (now (ends .entry)) (contextIn context (now (w .entry))) (Flow p c q) «at» r ⌝ }
 {
     if w[c] / KIND != ASSERT {
         return Condition::Fails;

@@ -3,8 +3,8 @@ use context::Context;
 use goals::Goal;
 use implication::Condition;
 ghost use mathlib.Core.Path.{_≡_};
-ghost use Rattle.context.specs.Contexts.{contextOf};
-ghost use Rattle.goals.specs.Children.{childAt};
+ghost use Rattle.context.specs.Contexts.{contextIn};
+ghost use Rattle.goals.specs.Children.{flowChild};
 ghost use Rattle.goals.specs.Goals.{CanTry, StepOf};
 ghost use Rattle.goals.specs.declared.Goal.the-variants.{Flow};
 ghost use Rattle.flow_compound.specs.Children.{CanFlowChild};
@@ -19,8 +19,8 @@ pub fn rule_7(
     c: usize,
     q: usize,
 ) -> Condition
-    requires { ⌜ CanTry (now w) (now ends) (contextOf context) 7 (Flow p c q) «at» ⌝ }
-    ensures { λ r. ⌜ StepOf (now (w .entry)) (now (ends .entry)) (contextOf context) (Flow p c q) «at» r ⌝ }
+    requires { ⌜ CanTry (now w) (now ends) (contextIn context (now w)) 7 (Flow p c q) «at» ⌝ }
+    ensures { λ r. ⌜ StepOf (now (w .entry)) (now (ends .entry)) (contextIn context (now (w .entry))) (Flow p c q) «at» r ⌝ }
 {
     Condition::Passes
 }
@@ -28,7 +28,7 @@ pub fn rule_7(
 // Its children: set (P, M), flow (M, C, Q).
 pub fn child_7(ends: &[u32], at: usize, p: usize, c: usize, q: usize, k: usize) -> Goal
     requires { ⌜ CanFlowChild (now ends) 7 p c q «at» k ⌝ }
-    ensures { λ r. ⌜ r ≡ childAt (now (ends .entry)) (Flow p c q) 7 «at» k ⌝ }
+    ensures { λ r. ⌜ r ≡ flowChild (now (ends .entry)) p c q 7 «at» k ⌝ }
 {
     let m = at + 1;
     if k == 0 {
@@ -47,8 +47,8 @@ pub fn rule_8(
     c: usize,
     q: usize,
 ) -> Condition
-    requires { ⌜ CanTry (now w) (now ends) (contextOf context) 8 (Flow p c q) «at» ⌝ }
-    ensures { λ r. ⌜ StepOf (now (w .entry)) (now (ends .entry)) (contextOf context) (Flow p c q) «at» r ⌝ }
+    requires { ⌜ CanTry (now w) (now ends) (contextIn context (now w)) 8 (Flow p c q) «at» ⌝ }
+    ensures { λ r. ⌜ StepOf (now (w .entry)) (now (ends .entry)) (contextIn context (now (w .entry))) (Flow p c q) «at» r ⌝ }
 {
     Condition::Passes
 }
@@ -56,7 +56,7 @@ pub fn rule_8(
 // Its children: flow (P, C, M), set (M, Q).
 pub fn child_8(ends: &[u32], at: usize, p: usize, c: usize, q: usize, k: usize) -> Goal
     requires { ⌜ CanFlowChild (now ends) 8 p c q «at» k ⌝ }
-    ensures { λ r. ⌜ r ≡ childAt (now (ends .entry)) (Flow p c q) 8 «at» k ⌝ }
+    ensures { λ r. ⌜ r ≡ flowChild (now (ends .entry)) p c q 8 «at» k ⌝ }
 {
     let m = at + 1;
     if k == 0 {

@@ -1,4 +1,4 @@
-// The rules of flow (document 01, rules 1 to 14), at the evidence word at `at`, of kind 33, for the set at p, the
+// The rules of flow (document 01, rules 1 to 14; document 02, rule 31), at the evidence word at `at`, of kind 33, for the set at p, the
 // command at c and the set at q; those of compound commands are in `flow_compound`. `rule_` with a rule's number tries
 // its conditions, `child_` gives the goal of its k-th child, 0 the first. They are called alike, so that some do not use
 // all that they are given; no rule of flow has an implication of its own, and none uses the context.
@@ -7,6 +7,7 @@ pub mod consequence; // rules 7 and 8
 pub mod union; // rule 9
 pub mod unmodified; // rules 10 and 11: what is not modified
 pub mod antecedent; // rule 12: sets under an assertion
+pub mod call; // rule 31
 
 use antecedent::child_12;
 use antecedent::rule_12;
@@ -14,6 +15,7 @@ use atomic::rule_1;
 use atomic::rule_3;
 use atomic::rule_4;
 use atomic::rule_5;
+use call::rule_31;
 use consequence::child_7;
 use consequence::child_8;
 use consequence::rule_7;
@@ -36,8 +38,8 @@ use unmodified::rule_10;
 use unmodified::rule_11;
 use words::kinds::KIND;
 ghost use mathlib.Core.Path.{_≡_};
-ghost use Rattle.context.specs.Contexts.{contextOf};
-ghost use Rattle.goals.specs.Children.{childAt};
+ghost use Rattle.context.specs.Contexts.{contextIn};
+ghost use Rattle.goals.specs.Children.{flowChild};
 ghost use Rattle.goals.specs.Goals.{CanStep, StepOf};
 ghost use Rattle.goals.specs.declared.Goal.the-variants.{Flow};
 ghost use Rattle.flow_compound.specs.Children.{CanFlowChild};
@@ -52,8 +54,8 @@ pub fn flow_condition(
     c: usize,
     q: usize,
 ) -> Condition
-    requires { ⌜ CanStep (now w) (now ends) (contextOf context) (Flow p c q) «at» ⌝ }
-    ensures { λ r. ⌜ StepOf (now (w .entry)) (now (ends .entry)) (contextOf context) (Flow p c q) «at» r ⌝ }
+    requires { ⌜ CanStep (now w) (now ends) (contextIn context (now w)) (Flow p c q) «at» ⌝ }
+    ensures { λ r. ⌜ StepOf (now (w .entry)) (now (ends .entry)) (contextIn context (now (w .entry))) (Flow p c q) «at» r ⌝ }
 {
     let rule = w[at] % KIND;
     match rule {
@@ -70,8 +72,9 @@ pub fn flow_condition(
         11 => rule_11(w, ends, context, at, p, c, q),
         12 => rule_12(w, ends, context, at, p, c, q),
         13 => rule_13(w, ends, context, at, p, c, q),
+        14 => rule_14(w, ends, context, at, p, c, q),
         // a reader lets no other rule pass
-        _ => rule_14(w, ends, context, at, p, c, q),
+        _ => rule_31(w, ends, context, at, p, c, q),
     }
 }
 
@@ -86,7 +89,7 @@ pub fn flow_child(
     k: usize,
 ) -> Goal
     requires { ⌜ CanFlowChild (now ends) rule p c q «at» k ⌝ }
-    ensures { λ r. ⌜ r ≡ childAt (now (ends .entry)) (Flow p c q) rule «at» k ⌝ }
+    ensures { λ r. ⌜ r ≡ flowChild (now (ends .entry)) p c q rule «at» k ⌝ }
 {
     match rule {
         2 => child_2(ends, at, p, c, q, k),

@@ -6,8 +6,8 @@ use goals::condition;
 use implication::Condition;
 use sets::rule::same_union;
 ghost use mathlib.Core.Path.{_≡_};
-ghost use Rattle.context.specs.Contexts.{contextOf};
-ghost use Rattle.goals.specs.Children.{childAt};
+ghost use Rattle.context.specs.Contexts.{contextIn};
+ghost use Rattle.goals.specs.Children.{flowChild};
 ghost use Rattle.goals.specs.Goals.{CanTry, StepOf};
 ghost use Rattle.goals.specs.declared.Goal.the-variants.{Flow};
 ghost use Rattle.flow_compound.specs.Children.{CanFlowChild};
@@ -22,8 +22,8 @@ pub fn rule_9(
     c: usize,
     q: usize,
 ) -> Condition
-    requires { ⌜ CanTry (now w) (now ends) (contextOf context) 9 (Flow p c q) «at» ⌝ }
-    ensures { λ r. ⌜ StepOf (now (w .entry)) (now (ends .entry)) (contextOf context) (Flow p c q) «at» r ⌝ }
+    requires { ⌜ CanTry (now w) (now ends) (contextIn context (now w)) 9 (Flow p c q) «at» ⌝ }
+    ensures { λ r. ⌜ StepOf (now (w .entry)) (now (ends .entry)) (contextIn context (now (w .entry))) (Flow p c q) «at» r ⌝ }
 {
     let s = at + 1;
     let s1 = end_or_zero(ends, s);
@@ -38,7 +38,7 @@ pub fn rule_9(
 // Its children: (S, C, S'), (T, C, T').
 pub fn child_9(ends: &[u32], at: usize, p: usize, c: usize, q: usize, k: usize) -> Goal
     requires { ⌜ CanFlowChild (now ends) 9 p c q «at» k ⌝ }
-    ensures { λ r. ⌜ r ≡ childAt (now (ends .entry)) (Flow p c q) 9 «at» k ⌝ }
+    ensures { λ r. ⌜ r ≡ flowChild (now (ends .entry)) p c q 9 «at» k ⌝ }
 {
     let s = at + 1;
     let s1 = end_or_zero(ends, s);

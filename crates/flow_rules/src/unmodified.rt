@@ -9,8 +9,8 @@ use rule_laws::same::is_same_consequent;
 use sets::pile::count;
 use sets::rule::same_written;
 ghost use mathlib.Core.Path.{_≡_};
-ghost use Rattle.context.specs.Contexts.{contextOf};
-ghost use Rattle.goals.specs.Children.{childAt};
+ghost use Rattle.context.specs.Contexts.{contextIn};
+ghost use Rattle.goals.specs.Children.{flowChild};
 ghost use Rattle.goals.specs.Goals.{CanTry, StepOf};
 ghost use Rattle.goals.specs.declared.Goal.the-variants.{Flow};
 ghost use Rattle.flow_compound.specs.Children.{CanFlowChild};
@@ -25,8 +25,8 @@ pub fn rule_10(
     c: usize,
     q: usize,
 ) -> Condition
-    requires { ⌜ CanTry (now w) (now ends) (contextOf context) 10 (Flow p c q) «at» ⌝ }
-    ensures { λ r. ⌜ StepOf (now (w .entry)) (now (ends .entry)) (contextOf context) (Flow p c q) «at» r ⌝ }
+    requires { ⌜ CanTry (now w) (now ends) (contextIn context (now w)) 10 (Flow p c q) «at» ⌝ }
+    ensures { λ r. ⌜ StepOf (now (w .entry)) (now (ends .entry)) (contextIn context (now (w .entry))) (Flow p c q) «at» r ⌝ }
 {
     if !same_written(w, ends, p, q) {
         return Condition::Fails;
@@ -44,8 +44,8 @@ pub fn rule_11(
     c: usize,
     q: usize,
 ) -> Condition
-    requires { ⌜ CanTry (now w) (now ends) (contextOf context) 11 (Flow p c q) «at» ⌝ }
-    ensures { λ r. ⌜ StepOf (now (w .entry)) (now (ends .entry)) (contextOf context) (Flow p c q) «at» r ⌝ }
+    requires { ⌜ CanTry (now w) (now ends) (contextIn context (now w)) 11 (Flow p c q) «at» ⌝ }
+    ensures { λ r. ⌜ StepOf (now (w .entry)) (now (ends .entry)) (contextIn context (now (w .entry))) (Flow p c q) «at» r ⌝ }
 {
     if count(w, p) != 1 {
         return Condition::Fails;
@@ -64,7 +64,7 @@ pub fn rule_11(
 // Its child: precondition (φ, C, φ').
 pub fn child_11(ends: &[u32], at: usize, p: usize, c: usize, q: usize, k: usize) -> Goal
     requires { ⌜ CanFlowChild (now ends) 11 p c q «at» k ⌝ }
-    ensures { λ r. ⌜ r ≡ childAt (now (ends .entry)) (Flow p c q) 11 «at» k ⌝ }
+    ensures { λ r. ⌜ r ≡ flowChild (now (ends .entry)) p c q 11 «at» k ⌝ }
 {
     Goal::Pre(p + 1, c, q + 1)
 }

@@ -48,25 +48,25 @@ module _ {j : Judgement} (P : Row j → Bool) where
   pub by-table : allRows (rules j) ≡ true → {n : ℕ} {l : List Item} (r : Rule j n l) → P (row r) ≡ true
   by-table e {n} r = in-rows (rules j) n (row r) e (rule-row r .0)
 
-module _ (ends : List ℕ) (at : ℕ) where
+module _ (file ends : List ℕ) (at : ℕ) where
   abbrev counts : (goal : Goal) → Row (judgementOf goal) → Bool
-  counts goal ρ = eqb (length (childrenAt ends goal (ρ .number) at)) (length (carriedOff (ρ .after)))
+  counts goal ρ = eqb (length (childrenAt file ends goal (ρ .number) at)) (length (carriedOff (ρ .after)))
 
   goal-count : (goal : Goal) {n : ℕ} {l : List Item} → Rule (judgementOf goal) n l →
-      length (childrenAt ends goal n at) ≡ length (carriedOff l)
+      length (childrenAt file ends goal n at) ≡ length (carriedOff l)
   goal-count (Flow p c q) r = eqb-true _ _ (by-table (counts (Flow p c q)) refl r)
   goal-count (Set p q) r = eqb-true _ _ (by-table (counts (Set p q)) refl r)
   goal-count (Pre f c g) r = eqb-true _ _ (by-table (counts (Pre f c g)) refl r)
 
 pub record RowIs (file ends : List ℕ) (goal : Goal) (g : TreeGoal) (at : ℕ) : Type 0 where
   pub row : rowOf (judgementOf goal) (payloadAt file at) ≡ packedItems (treeItems g)
-  pub count : length (childrenAt ends goal (payloadAt file at) at) ≡ length (carriedOff (treeItems g))
+  pub count : length (childrenAt file ends goal (payloadAt file at) at) ≡ length (carriedOff (treeItems g))
 
 by-rule : {file ends : List ℕ} {at n : ℕ} (goal : Goal) (g : TreeGoal) → Rule (judgementOf goal) n (treeItems g) →
     payloadAt file at ≡ n → RowIs file ends goal g at
 by-rule {file} {ends} {at} goal g r e = record {
   row = ap (rowOf (judgementOf goal)) e ∙ row-rule r;
-  count = ap (λ n. length (childrenAt ends goal n at)) e ∙ goal-count ends at goal r;
+  count = ap (λ n. length (childrenAt file ends goal n at)) e ∙ goal-count file ends at goal r;
 }
 
 pub row-is : {Γ : Context} {file ends : List ℕ} {goal : Goal} {g : TreeGoal} {d at end : ℕ} →

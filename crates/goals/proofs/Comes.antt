@@ -27,9 +27,10 @@ use Rattle.implication.specs.declared.Condition.{Condition}
 use Rattle.implication.specs.declared.Condition.the-variants.{Passes, Fails}
 use Rattle.goals.specs.declared.Goal.{Goal}
 use Rattle.goals.specs.declared.Goal.the-variants.{Flow, Set, Pre}
-use Rattle.ends.specs.Places.{WrittenAt, CommandAt, SetAt}
+use Rattle.ends.specs.Places.{WrittenAt, SetAt}
 use Rattle.goals.specs.Children.{childrenAt, pastCarried}
 use Rattle.goals.specs.Conditions.{conditionOf}
+use Rattle.goals.specs.Resolved.{ResolvedAt}
 use Rattle.goals.specs.Goals.{TreeGoal, verdict, GoalStands, flow-stands, set-stands, pre-stands, ChildrenOf, ComesTo}
 use Rattle.goals.specs.Goals.{treeStep, treeItems, CanTry, StepOf}
 use Rattle.goals.proofs.Evidence.{Placed, placed, evidence-of}
@@ -105,29 +106,29 @@ module _ (Γ : Context) (file ends : List ℕ) where
   -- for all trees at the places of its goal, and its parts, a rule comes to the conditions' result
   abbrev pub FlowComes : (p c q at : ℕ) {n : ℕ} {l : List Item} → Rule tree.flow n l → Condition → Type 0
   FlowComes p c q at {n} {l} r result =
-      (x y : Members) (e : Command) (t : Parts l) (d end : ℕ) → SetAt file ends Γ x p → CommandAt file ends e c →
+      (x y : Members) (e : Command) (t : Parts l) (d end : ℕ) → SetAt file ends Γ x p → ResolvedAt file ends Γ e c →
       SetAt file ends Γ y q → Placed Γ file ends d t (at + 1) end →
-      ComesTo Γ file ends (applied l (flowRule Γ r) (judge Γ t) x e y) (childrenAt ends (Flow p c q) n at) d
+      ComesTo Γ file ends (applied l (flowRule Γ r) (judge Γ t) x e y) (childrenAt file ends (Flow p c q) n at) d
       (pastCarried ends l (at + 1)) end result
 
   abbrev pub SetComes : (p q at : ℕ) {n : ℕ} {l : List Item} → Rule tree.implication n l → Condition → Type 0
   SetComes p q at {n} {l} r result =
       (x y : Members) (t : Parts l) (d end : ℕ) → SetAt file ends Γ x p → SetAt file ends Γ y q →
       Placed Γ file ends d t (at + 1) end →
-      ComesTo Γ file ends (applied l (setRule Γ r) (judge Γ t) x y) (childrenAt ends (Set p q) n at) d
+      ComesTo Γ file ends (applied l (setRule Γ r) (judge Γ t) x y) (childrenAt file ends (Set p q) n at) d
       (pastCarried ends l (at + 1)) end result
 
   abbrev pub PreComes : (f c g at : ℕ) {n : ℕ} {l : List Item} → Rule tree.precondition n l → Condition → Type 0
   PreComes f c g at {n} {l} r result =
       (φ φ′ : Expr Boolean) (e : Command) (t : Parts l) (d end : ℕ) → WrittenAt file ends φ f →
-      CommandAt file ends e c → WrittenAt file ends φ′ g → Placed Γ file ends d t (at + 1) end →
-      ComesTo Γ file ends (applied l (preRule Γ r) (judge Γ t) φ e φ′) (childrenAt ends (Pre f c g) n at) d
+      ResolvedAt file ends Γ e c → WrittenAt file ends φ′ g → Placed Γ file ends d t (at + 1) end →
+      ComesTo Γ file ends (applied l (preRule Γ r) (judge Γ t) φ e φ′) (childrenAt file ends (Pre f c g) n at) d
       (pastCarried ends l (at + 1)) end result
 
   -- what a step promises of a goal as trees
   abbrev Promised : ℕ → Goal → Condition → TreeGoal → ℕ → ℕ → Type 0
   Promised at goal r g d end =
-      ComesTo Γ file ends (treeStep Γ g) (childrenAt ends goal (payloadAt file at) at) d
+      ComesTo Γ file ends (treeStep Γ g) (childrenAt file ends goal (payloadAt file at) at) d
       (pastCarried ends (treeItems g) (at + 1)) end r
 
 module _ {Γ : Context} {file ends : List ℕ} {n : ℕ} {l : List Item} {at : ℕ} {u : Condition} where

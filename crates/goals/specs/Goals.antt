@@ -1,5 +1,5 @@
 -- Goals by places, and the goals and evidence that stand there as trees; the contract of every rule.
--- Working: `can-judge` and `judged-outcome` of outcomes/proofs/Outcomes tie it to what refusals 8 and 9 leave of a file;
+-- Working: `can-judge` and `judged-at` of outcomes/proofs/ProgramGoal tie it to what refusals 8 and 9 leave of a program;
 -- what is judged is an equation with `judge`. Assumes nothing.
 --     TreeGoal, verdict, verdicts    evidence with the goal that it is judged against; its verdict; of several
 --     treeStep, treeItems            what the rule of its word comes to; what stands after that word
@@ -17,8 +17,6 @@ use Rattle.rules.specs.Context.{Context}
 use Rattle.rules.specs.Evidence.{Item, by, FlowEvidence, SetEvidence, PreEvidence}
 use Rattle.rules.specs.Judge.{Verdict, accepted, refused, _also_, RuleStep, step, applied, flowRule, setRule, preRule, judge}
 use Rattle.layout.specs.Bytes.{payloadAt}
-use Rattle.layout.specs.EvidenceWords.{treePart}
-use Rattle.layout.specs.Standing.{PartStands}
 use Rattle.ends.specs.Ends.{EndsOf}
 use Rattle.implication.specs.Sides.{resultOf}
 use Rattle.implication.specs.declared.Condition.{Condition}
@@ -27,8 +25,10 @@ use Rattle.goals.specs.declared.Goal.{Goal}
 use Rattle.goals.specs.declared.Goal.the-variants.{Flow, Set, Pre}
 use Rattle.goals.specs.declared.Judged.{Judged}
 use Rattle.goals.specs.declared.Judged.the-variants.{Accepted, Refused}
-use Rattle.ends.specs.Places.{WrittenAt, CommandAt, SetAt}
+use Rattle.ends.specs.Places.{WrittenAt, SetAt}
+use Rattle.ends.specs.Procedures.{Procedures}
 use Rattle.goals.specs.Children.{childrenAt, pastCarried}
+use Rattle.goals.specs.Resolved.{ResolvedAt, EvidenceAt}
 
 pub data TreeGoal : Type 0 where
   flow : FlowEvidence → Members → Command → Members → TreeGoal
@@ -58,14 +58,14 @@ module _ (Γ : Context) (file ends : List ℕ) where
   -- the goal's trees stand at its places, and the evidence from `at` up to `end`, with d levels left
   pub data GoalStands : Goal → TreeGoal → ℕ → ℕ → ℕ → Type 0 where
     flow-stands : {k : FlowEvidence} {p q : Members} {c : Command} {i j l d at end : ℕ} →
-        SetAt file ends Γ p i → CommandAt file ends c j → SetAt file ends Γ q l →
-        PartStands file (treePart Γ k) d at end → GoalStands (Flow i j l) (flow k p c q) d at end
+        SetAt file ends Γ p i → ResolvedAt file ends Γ c j → SetAt file ends Γ q l →
+        EvidenceAt Γ file d at k end → GoalStands (Flow i j l) (flow k p c q) d at end
     set-stands : {k : SetEvidence} {p q : Members} {i j d at end : ℕ} →
         SetAt file ends Γ p i → SetAt file ends Γ q j →
-        PartStands file (treePart Γ k) d at end → GoalStands (Set i j) (set k p q) d at end
+        EvidenceAt Γ file d at k end → GoalStands (Set i j) (set k p q) d at end
     pre-stands : {k : PreEvidence} {φ φ′ : Expr Boolean} {c : Command} {i j l d at end : ℕ} →
-        WrittenAt file ends φ i → CommandAt file ends c j → WrittenAt file ends φ′ l →
-        PartStands file (treePart Γ k) d at end → GoalStands (Pre i j l) (pre k φ c φ′) d at end
+        WrittenAt file ends φ i → ResolvedAt file ends Γ c j → WrittenAt file ends φ′ l →
+        EvidenceAt Γ file d at k end → GoalStands (Pre i j l) (pre k φ c φ′) d at end
 
   -- goals whose evidence stands one after the other
   abbrev pub GoalsStand : List Goal → List TreeGoal → ℕ → ℕ → ℕ → Type 0
@@ -86,9 +86,10 @@ module _ (Γ : Context) (file ends : List ℕ) where
     pub is : s ≡ step (resultOf r) children
     pub stand : r ≡ Passes → ChildrenOf children goals d next end
 
--- what a rule asks for: the goal stands, with its evidence; the ends are known; the file is small
+-- what a rule asks for: the goal stands, with its evidence; the ends and the procedures are known; the file is small
 pub record CanStep (file ends : List ℕ) (Γ : Context) (goal : Goal) (at : ℕ) : Type 0 where
   pub ends-of : EndsOf file ends
+  pub procedures : Procedures file ends Γ
   pub size : length file ≤ 8192
   pub few : Γ .limits .comparisons ≤ 16
   pub tree : TreeGoal
@@ -105,7 +106,7 @@ pub record CanTry (file ends : List ℕ) (Γ : Context) (rule : ℕ) (goal : Goa
 -- what a rule promises of its conditions' result r
 pub record StepOf (file ends : List ℕ) (Γ : Context) (goal : Goal) (at : ℕ) (r : Condition) : Type 0 where
   pub comes : (g : TreeGoal) (d end : ℕ) → d ≤ 256 → GoalStands Γ file ends goal g (suc d) at end →
-      ComesTo Γ file ends (treeStep Γ g) (childrenAt ends goal (payloadAt file at) at) d
+      ComesTo Γ file ends (treeStep Γ g) (childrenAt file ends goal (payloadAt file at) at) d
       (pastCarried ends (treeItems g) (at + 1)) end r
 
 abbrev pub judgedOf : Verdict → ℕ → Judged
@@ -114,6 +115,7 @@ judgedOf (refused k i) end = Refused (record { number = k; place = i })
 
 pub record CanJudge (file ends : List ℕ) (Γ : Context) (goal : Goal) (at left : ℕ) : Type 0 where
   pub ends-of : EndsOf file ends
+  pub procedures : Procedures file ends Γ
   pub size : length file ≤ 8192
   pub few : Γ .limits .comparisons ≤ 16
   pub low : left ≤ 256

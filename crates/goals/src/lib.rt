@@ -5,11 +5,11 @@ ghost use mathlib.Core.Path.{_≡_};
 ghost use Rattle.goals.specs.Conditions.{conditionOf};
 
 pub enum Goal {
-    // precondition, command and postcondition (rules 1 to 14)
+    // precondition, command and postcondition (rules 1 to 14 and 31)
     Flow(usize, usize, usize),
     // two sets (rules 13 to 19 of sets)
     Set(usize, usize),
-    // an assertion, a command and an assertion (rules 20 to 30)
+    // an assertion, a command and an assertion (rules 20 to 30 and 32)
     Pre(usize, usize, usize),
 }
 

@@ -12,8 +12,9 @@ use Rattle.language.specs.Syntax as syntax
 use Rattle.language.specs.Syntax.{plus, minus, times, equal, less, atMost}
 use Rattle.language.specs.Syntax.{Expr, constant, scalar, operation, select, compare, truth, and, or, neg}
 use Rattle.language.specs.Syntax.{array, zeros, update, toScalar, toArray}
-use Rattle.language.specs.Syntax.{skip, sequence, assert, assign, ifElse, while, for}
+use Rattle.language.specs.Syntax.{skip, sequence, assert, assign, ifElse, while, for, call}
 use Rattle.rules.specs.Words.{operatorPayload, comparisonPayload, truthPayload}
+use Rattle.rules.specs.Context.{Context}
 use Rattle.layout.specs.Spelling.{payloadOf}
 use Rattle.layout.specs.Nodes.{expressionNode, commandNode, headOf, kindOf, contentOf, InRange}
 use Rattle.layout.proofs.Words.{for-first, for-second}
@@ -30,7 +31,7 @@ use Rattle.words.specs.declared.ArrayWord.{ArrayWord}
 use Rattle.words.specs.declared.ArrayWord.the-variants.{Identifier, Zeros, Update}
 use Rattle.words.specs.declared.CommandWord.{CommandWord}
 use Rattle.words.specs.declared.CommandWord.the-variants.{Skip, Sequence, Assert, AssignScalar, AssignArray, If, While}
-use Rattle.words.specs.declared.CommandWord.the-variants.{For}
+use Rattle.words.specs.declared.CommandWord.the-variants.{For, Call}
 
 abbrev pub operatorHead : syntax.Operator → Operator
 operatorHead plus = Plus
@@ -69,6 +70,7 @@ commandHead (assign (toArray a e)) = AssignArray a
 commandHead (ifElse b c d) = If
 commandHead (while b c) = While
 commandHead (for q m c) = For q m
+commandHead (call n c) = Call n
 
 operator-decoded : (o : syntax.Operator) →
     arithmeticOf 3 (payloadOf (operatorPayload o)) ≡ Operation (operatorHead o)
@@ -114,15 +116,16 @@ array-decoded (array a) h = rw (le-leb a 31 (omega (arith, h .0)))
 array-decoded zeros h = refl
 array-decoded (update a i b) h = refl
 
-pub command-decoded : (c : syntax.Command) → InRange (headOf (commandNode c)) →
-    commandOf (kindOf (headOf (commandNode c))) (contentOf (headOf (commandNode c))) ≡ commandHead c
+pub command-decoded : (Γ : Context) (c : syntax.Command) → InRange (headOf (commandNode Γ c)) →
+    commandOf (kindOf (headOf (commandNode Γ c))) (contentOf (headOf (commandNode Γ c))) ≡ commandHead c
 unfolding commandOf
-command-decoded skip h = refl
-command-decoded (sequence a b) h = refl
-command-decoded (assert b) h = refl
-command-decoded (assign (toScalar x e)) h = rw (le-leb x 31 (omega (arith, h .0)))
-command-decoded (assign (toArray a e)) h = rw (le-leb a 31 (omega (arith, h .0)))
-command-decoded (ifElse b c₁ c₂) h = refl
-command-decoded (while b c) h = refl
-command-decoded (for q m c) h =
+command-decoded Γ skip h = refl
+command-decoded Γ (sequence a b) h = refl
+command-decoded Γ (assert b) h = refl
+command-decoded Γ (assign (toScalar x e)) h = rw (le-leb x 31 (omega (arith, h .0)))
+command-decoded Γ (assign (toArray a e)) h = rw (le-leb a 31 (omega (arith, h .0)))
+command-decoded Γ (ifElse b c₁ c₂) h = refl
+command-decoded Γ (while b c) h = refl
+command-decoded Γ (for q m c) h =
     rw (le-leb (q + 32 * m) 1023 (omega (arith, h .0, h .1))) (ap₂ For (for-first q m (h .0)) (for-second q m (h .0)))
+command-decoded Γ (call n c) h = refl

@@ -1,6 +1,8 @@
 -- The parts of what stands at a place, by its first word.
 -- Assumes nothing.
---     InRoom, expression-inside, command-inside                      it has a word, and ends within the room
+--     InRoom, expression-inside, resolved-inside, command-inside     it has a word, and ends within the room
+--     CallOf                                                         a call of a procedure of the context
+--     runnable                                                       a part of a command that can be run
 --     One, Two, Three                                                so many parts, one after the other
 --     ArithmeticParts, BooleanParts, ArrayParts, CommandParts        the parts by the first word
 --     arithmetic-parts, boolean-parts, array-parts, command-parts    are what stands there
@@ -11,6 +13,7 @@
 use mathlib.Core.Path.{_≡_, refl, sym, ap, ap₂, subst, _∙_}
 use mathlib.Core.Bool.{Bool, true, false, cond}
 use mathlib.Core.List.{List, [], _∷_}
+use mathlib.Core.Option.{some}
 use Prim.Native.Nat.{ℕ, _+_, _/_, _%_, _<_, _≤_}
 use native.Mathlib.Omega.{arith}
 use lib.ListN.{length}
@@ -18,11 +21,13 @@ use Rattle.language.specs.Syntax as syntax
 use Rattle.language.specs.Syntax.{plus, minus, times, equal, less, atMost}
 use Rattle.language.specs.Syntax.{Sort, Expr, constant, scalar, operation, select, compare, truth, and, or, neg}
 use Rattle.language.specs.Syntax.{array, zeros, update, toScalar, toArray}
-use Rattle.language.specs.Syntax.{skip, sequence, assert, assign, ifElse, while, for}
+use Rattle.language.specs.Syntax.{skip, sequence, assert, assign, ifElse, while, for, call}
+use Rattle.rules.specs.Context.{Procedure, Context, itemAt}
+use Rattle.rules.specs.Resolved.{Resolved}
 use Rattle.layout.specs.Bytes.{payloads, kindAt, payloadAt}
 use Rattle.layout.specs.EvidenceWords.{Part, expressionPart, commandPart}
 use Rattle.layout.specs.Nodes.{Node, expressionNode, commandNode, headOf, kindOf, contentOf}
-use Rattle.layout.specs.Standing.{Chain}
+use Rattle.layout.specs.Standing.{PartStands, Chain}
 use Rattle.layout.proofs.Nodes as nodes
 use Rattle.layout.proofs.Nodes.{Opened, with-levels, one-part, node-inside}
 use Rattle.ends.specs.Ends.{EndsOf}
@@ -40,9 +45,9 @@ use Rattle.words.specs.declared.ArrayWord.the-variants.{Identifier, Zeros, Upda
 use Rattle.words.specs.declared.CommandWord.{CommandWord}
 use Rattle.words.specs.declared.CommandWord.the-variants as command
 use Rattle.words.specs.declared.CommandWord.the-variants.{Skip, Sequence, Assert, AssignScalar, AssignArray, If, While}
-use Rattle.words.specs.declared.CommandWord.the-variants.{For}
+use Rattle.words.specs.declared.CommandWord.the-variants.{For, Call}
 use Rattle.heads.specs.Stands.{arithmeticAt, booleanAt, arrayAt, commandAt, OfGroup, FileInRoom, PartAt}
-use Rattle.heads.specs.Stands.{ExpressionStands, CommandStands}
+use Rattle.heads.specs.Stands.{resolvedPart, Runnable, ExpressionStands, CommandStands}
 use Rattle.heads.proofs.Decoded.{operatorHead, comparisonHead, arithmeticHead, booleanHead, arrayHead}
 use Rattle.heads.proofs.Decoded.{commandHead}
 use Rattle.heads.proofs.Decoded.{arithmetic-decoded, boolean-decoded, array-decoded, command-decoded}
@@ -62,6 +67,12 @@ booleanPart e = expressionPart e
 
 abbrev pub arrayPart : Expr syntax.Array → Part
 arrayPart e = expressionPart e
+
+-- a call of procedure n
+pub record CallOf (Γ : Context) (n : ℕ) (c : syntax.Command) : Type 0 where
+  pub procedure : Procedure
+  pub listed : itemAt (Γ .procedures) n ≡ some procedure
+  pub is : c ≡ call n (procedure .body)
 
 module _ (w ends : List ℕ) where
   module _ {A X : Type 0} (f : X → Part) (make : X → A) where
@@ -112,16 +123,22 @@ module _ (w ends : List ℕ) where
   ArrayParts Update e at p = Three arrayPart arithmeticPart arithmeticPart update e (at + 1) p
   ArrayParts array.Other e at p = ⊥
 
-  abbrev pub CommandParts : CommandWord → syntax.Command → ℕ → ℕ → Type 0
-  CommandParts Skip c at p = c ≡ skip
-  CommandParts Sequence c at p = Two commandPart commandPart sequence c (at + 1) p
-  CommandParts Assert c at p = One booleanPart assert c (at + 1) p
-  CommandParts (AssignScalar x) c at p = One arithmeticPart (λ e. assign (toScalar x e)) c (at + 1) p × (x ≤ 31)
-  CommandParts (AssignArray a) c at p = One arrayPart (λ e. assign (toArray a e)) c (at + 1) p × (a ≤ 31)
-  CommandParts If c at p = Three booleanPart commandPart commandPart ifElse c (at + 1) p
-  CommandParts While c at p = Two booleanPart commandPart while c (at + 1) p
-  CommandParts (For q m) c at p = One commandPart (for q m) c (at + 1) p × ((q ≤ 31) × (m ≤ 31))
-  CommandParts command.Other c at p = ⊥
+  abbrev pub CommandParts : Context → CommandWord → syntax.Command → ℕ → ℕ → Type 0
+  CommandParts Γ Skip c at p = c ≡ skip
+  CommandParts Γ Sequence c at p = Two (resolvedPart Γ) (resolvedPart Γ) sequence c (at + 1) p
+  CommandParts Γ Assert c at p = One booleanPart assert c (at + 1) p
+  CommandParts Γ (AssignScalar x) c at p = One arithmeticPart (λ e. assign (toScalar x e)) c (at + 1) p × (x ≤ 31)
+  CommandParts Γ (AssignArray a) c at p = One arrayPart (λ e. assign (toArray a e)) c (at + 1) p × (a ≤ 31)
+  CommandParts Γ If c at p = Three booleanPart (resolvedPart Γ) (resolvedPart Γ) ifElse c (at + 1) p
+  CommandParts Γ While c at p = Two booleanPart (resolvedPart Γ) while c (at + 1) p
+  CommandParts Γ (For q m) c at p = One (resolvedPart Γ) (for q m) c (at + 1) p × ((q ≤ 31) × (m ≤ 31))
+  CommandParts Γ (Call n) c at p = CallOf Γ n c
+  CommandParts Γ command.Other c at p = ⊥
+
+-- with what is said of its calls left out
+pub unresolved : {file : List ℕ} (Γ : Context) (c : syntax.Command) (d : ℕ) {at p : ℕ} →
+    PartStands file (resolvedPart Γ c) d at p → PartStands file (commandPart Γ c) d at p
+unresolved Γ c d s = record { stand = s .stand; fit = s .fit .0 }
 
 operator-meant : (o : syntax.Operator) → operatorMeant (operatorHead o) ≡ o
 operator-meant plus = refl
@@ -147,9 +164,17 @@ module _ {w ends : List ℕ} where
       InRoom (s .file) w ends at p
   expression-inside e s = inside s (node-inside (expressionNode e) (s .stands))
 
-  pub command-inside : (c : syntax.Command) {at p : ℕ} (s : PartAt w ends (commandPart c) at p) →
+  pub resolved-inside : (Γ : Context) (c : syntax.Command) {at p : ℕ} (s : PartAt w ends (resolvedPart Γ c) at p) →
       InRoom (s .file) w ends at p
-  command-inside c s = inside s (node-inside (commandNode c) (s .stands))
+  resolved-inside Γ c s = inside s (node-inside (commandNode Γ c) (s .stands))
+
+  pub command-inside : (c : syntax.Command) {at p : ℕ} (x : Runnable w ends c at p) → InRoom (x .there .file) w ends at p
+  command-inside c x = resolved-inside (x .context) c (x .there)
+
+  -- a part of a command that can be run
+  abbrev pub runnable : {c : syntax.Command} {at p : ℕ} (x : Runnable w ends c at p) (d : syntax.Command) {a q : ℕ} →
+      PartAt w ends (resolvedPart (x .context) d) a q → Runnable w ends d a q
+  runnable x d s = record { context = x .context; bodyAt = x .bodyAt; bodies = x .bodies; there = s }
 
 -- the parts of what stands in a file
 module _ {file w ends : List ℕ} (l : FileInRoom file w) (n : EndsOf file ends) where
@@ -208,16 +233,43 @@ module _ {file w ends : List ℕ} (l : FileInRoom file w) (n : EndsOf file ends)
   array-own d zeros o = refl
   array-own d (update h i a) o = three d h i a refl (o .parts-at)
 
-  command-own : (d : ℕ) (c : syntax.Command) {at p : ℕ} → Opened file (commandNode c) d at p →
-      CommandParts w ends (commandHead c) c at p
-  command-own d skip o = refl
-  command-own d (sequence a b) o = two d a b refl (o .parts-at)
-  command-own d (assert b) o = one d b refl (o .parts-at)
-  command-own d (assign (toScalar x e)) o = (one d e refl (o .parts-at), omega (arith, o .in-range .0))
-  command-own d (assign (toArray a e)) o = (one d e refl (o .parts-at), omega (arith, o .in-range .0))
-  command-own d (ifElse b c₁ c₂) o = three d b c₁ c₂ refl (o .parts-at)
-  command-own d (while b c) o = two d b c refl (o .parts-at)
-  command-own d (for q m c) o = (one d c refl (o .parts-at), o .in-range)
+  with-resolved : (Γ : Context) (c : syntax.Command) (d : ℕ) {at p : ℕ} → PartStands file (commandPart Γ c) d at p →
+      Resolved (Γ .procedures) c → PartStands file (resolvedPart Γ c) d at p
+  with-resolved Γ c d s r = record { stand = s .stand; fit = (s .fit, r) }
+
+  command-own : (Γ : Context) (d : ℕ) (c : syntax.Command) {at p : ℕ} → Opened file (commandNode Γ c) d at p →
+      Resolved (Γ .procedures) c → CommandParts w ends Γ (commandHead c) c at p
+  command-own Γ d skip o r = refl
+  command-own Γ d (sequence a b) {at} {p} o r =
+      let k = o .parts-at in
+      let parts : Chain file (resolvedPart Γ a ∷ resolvedPart Γ b ∷ []) d (at + 1) p =
+      (k .0, with-resolved Γ a d (k .1) (r .0), (k .2 .0, with-resolved Γ b d (k .2 .1) (r .1), k .2 .2)) in
+      two d a b refl parts
+  command-own Γ d (assert b) o r = one d b refl (o .parts-at)
+  command-own Γ d (assign (toScalar x e)) o r = (one d e refl (o .parts-at), omega (arith, o .in-range .0))
+  command-own Γ d (assign (toArray a e)) o r = (one d e refl (o .parts-at), omega (arith, o .in-range .0))
+  command-own Γ d (ifElse b c₁ c₂) {at} {p} o r =
+      let k = o .parts-at in
+      let parts : Chain file (booleanPart b ∷ resolvedPart Γ c₁ ∷ resolvedPart Γ c₂ ∷ []) d (at + 1) p = (
+        k .0,
+        k .1,
+        (
+          k .2 .0,
+          with-resolved Γ c₁ d (k .2 .1) (r .0),
+          (k .2 .2 .0, with-resolved Γ c₂ d (k .2 .2 .1) (r .1), k .2 .2 .2),
+        ),
+      ) in
+      three d b c₁ c₂ refl parts
+  command-own Γ d (while b c) {at} {p} o r =
+      let k = o .parts-at in
+      let parts : Chain file (booleanPart b ∷ resolvedPart Γ c ∷ []) d (at + 1) p =
+      (k .0, k .1, (k .2 .0, with-resolved Γ c d (k .2 .1) r, k .2 .2)) in
+      two d b c refl parts
+  command-own Γ d (for q m c) {at} {p} o r =
+      let k = o .parts-at in
+      let parts : Chain file (resolvedPart Γ c ∷ []) d (at + 1) p = (k .0, with-resolved Γ c d (k .1) r, k .2) in
+      (one d c refl parts, o .in-range)
+  command-own Γ d (call n c) o (k, e, b, r) = record { procedure = k; listed = e; is = ap (call n) b }
 
 -- by the word that stands in the room, which is the file's: v is the node's own
 module _ {w ends : List ℕ} where
@@ -249,12 +301,13 @@ module _ {w ends : List ℕ} where
       by-word arrayOf (λ h. ArrayParts w ends h e at p) s (expression-inside e s) o (array-decoded e (o .in-range)) eq
       (array-own (s .loaded) (s .ends-of) n e o)
 
-  pub command-parts : (c : syntax.Command) {at p : ℕ} {h : CommandWord} →
-      PartAt w ends (commandPart c) at p → commandAt w at ≡ h → CommandParts w ends h c at p
-  command-parts c {at} {p} s eq =
-      with-levels (commandNode c) (s .levels) (s .stands) λ n l o.
-      by-word commandOf (λ h. CommandParts w ends h c at p) s (command-inside c s) o (command-decoded c (o .in-range)) eq
-      (command-own (s .loaded) (s .ends-of) n c o)
+  pub command-parts : (c : syntax.Command) {at p : ℕ} {h : CommandWord} (x : Runnable w ends c at p) → commandAt w at ≡ h →
+      CommandParts w ends (x .context) h c at p
+  command-parts c {at} {p} x eq =
+      with-levels (commandNode (x .context) c) (x .there .levels) (unresolved (x .context) c (x .there .levels) (x .there .stands)) λ n l o.
+      by-word commandOf (λ h. CommandParts w ends (x .context) h c at p) (x .there) (command-inside c x) o
+      (command-decoded (x .context) c (o .in-range)) eq
+      (command-own (x .there .loaded) (x .there .ends-of) (x .context) n c o (x .there .stands .fit .1))
 
   module _ {at : ℕ} where
     pub expression-starts : {k : Sort} → ExpressionStands w ends k at → at < length w

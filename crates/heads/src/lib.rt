@@ -11,6 +11,8 @@ use words::decode::payload;
 use words::decode::signed;
 use words::kinds::AND;
 use words::kinds::ASSERT;
+use words::kinds::CALL;
+use words::kinds::CALL_WORD;
 use words::kinds::COMPARISON;
 use words::kinds::CONSTANT;
 use words::kinds::FOR;
@@ -104,6 +106,8 @@ pub fn command_head(w: &[u32], at: usize) -> CommandWord
         IF => CommandWord::If,
         WHILE => CommandWord::While,
         FOR => CommandWord::For(p % 32, p / 32),
+        // not p, which is worked out before all arms if a fourth has it
+        CALL => CommandWord::Call(word - CALL_WORD),
         _ => CommandWord::Other,
     }
 }

@@ -36,11 +36,11 @@ module _ (Γ : Context) (file ends : List ℕ) where
   pub goal-counts : {goal : Goal} {g : TreeGoal} {d at end : ℕ} → GoalStands Γ file ends goal g d at end →
       (n : ℕ) → verdict Γ g ≡ accepted n → at + n ≤ end
   goal-counts {d = d} {at} {end} (flow-stands {k} {p} {q} {c} x y z s) n e =
-      tree-counts k d at end n s (flow-counts Γ k p c q) e
+      tree-counts k d at end n (s .stands) (flow-counts Γ k p c q) e
   goal-counts {d = d} {at} {end} (set-stands {k} {p} {q} x y s) n e =
-      tree-counts k d at end n s (set-counts Γ k p q) e
+      tree-counts k d at end n (s .stands) (set-counts Γ k p q) e
   goal-counts {d = d} {at} {end} (pre-stands {k} {φ} {φ′} {c} x y z s) n e =
-      tree-counts k d at end n s (pre-counts Γ k φ c φ′) e
+      tree-counts k d at end n (s .stands) (pre-counts Γ k φ c φ′) e
 
   tree-inside : {j : Judgement} (k : Evidence j) (d at end : ℕ) → TreeAt Γ file d at k end → end ≤ length file
   tree-inside k d at end s =
@@ -49,26 +49,23 @@ module _ (Γ : Context) (file ends : List ℕ) where
 
   pub goal-inside : {goal : Goal} {g : TreeGoal} {d at end : ℕ} → GoalStands Γ file ends goal g d at end →
       end ≤ length file
-  goal-inside {d = d} {at} {end} (flow-stands {k = k} x y z s) = tree-inside k d at end s
-  goal-inside {d = d} {at} {end} (set-stands {k = k} x y s) = tree-inside k d at end s
-  goal-inside {d = d} {at} {end} (pre-stands {k = k} x y z s) = tree-inside k d at end s
+  goal-inside {d = d} {at} {end} (flow-stands {k = k} x y z s) = tree-inside k d at end (s .stands)
+  goal-inside {d = d} {at} {end} (set-stands {k = k} x y s) = tree-inside k d at end (s .stands)
+  goal-inside {d = d} {at} {end} (pre-stands {k = k} x y z s) = tree-inside k d at end (s .stands)
 
   pub goal-place : {goal : Goal} {g : TreeGoal} {d at end : ℕ} → GoalStands Γ file ends goal g d at end →
       at < length file
-  goal-place {d = d} {at} {end} (flow-stands {k = k} x y z s) = head-inside Γ file k d at end s
-  goal-place {d = d} {at} {end} (set-stands {k = k} x y s) = head-inside Γ file k d at end s
-  goal-place {d = d} {at} {end} (pre-stands {k = k} x y z s) = head-inside Γ file k d at end s
+  goal-place {d = d} {at} {end} (flow-stands {k = k} x y z s) = head-inside Γ file k d at end (s .stands)
+  goal-place {d = d} {at} {end} (set-stands {k = k} x y s) = head-inside Γ file k d at end (s .stands)
+  goal-place {d = d} {at} {end} (pre-stands {k = k} x y z s) = head-inside Γ file k d at end (s .stands)
 
-  below : {at end : ℕ} → Inside file at end → length file ≤ 8192 → at < 8192
-  below i n = let s = i .start in let w = i .within in omega arith
+  first-word : {at end : ℕ} → Inside file at end → at < length file
+  first-word i = let s = i .start in let w = i .within in omega arith
 
-  pub goal-low : {goal : Goal} {g : TreeGoal} {d at end : ℕ} → GoalStands Γ file ends goal g d at end →
-      length file ≤ 8192 → GoalLow goal
-  goal-low (flow-stands x y z s) n =
-      (below (node-inside x) n, below (node-inside y) n, below (node-inside z) n)
-  goal-low (set-stands x y s) n = (below (node-inside x) n, below (node-inside y) n)
-  goal-low (pre-stands x y z s) n =
-      (below (node-inside x) n, below (node-inside y) n, below (node-inside z) n)
+  pub goal-low : {goal : Goal} {g : TreeGoal} {d at end : ℕ} → GoalStands Γ file ends goal g d at end → GoalLow file goal
+  goal-low (flow-stands x y z s) = (first-word (node-inside x), first-word (node-inside (y .there)), first-word (node-inside z))
+  goal-low (set-stands x y s) = (first-word (node-inside x), first-word (node-inside y))
+  goal-low (pre-stands x y z s) = (first-word (node-inside x), first-word (node-inside (y .there)), first-word (node-inside z))
 
   tree-level : {j : Judgement} (k : Evidence j) (d at end : ℕ) → TreeAt Γ file d at k end → 1 ≤ d
   unfolding FitsTree
@@ -76,6 +73,6 @@ module _ (Γ : Context) (file ends : List ℕ) where
   tree-level (by r i t) (suc d) at end s = omega arith
 
   pub goal-level : {goal : Goal} {g : TreeGoal} {d at end : ℕ} → GoalStands Γ file ends goal g d at end → 1 ≤ d
-  goal-level {d = d} {at} {end} (flow-stands {k = k} x y z s) = tree-level k d at end s
-  goal-level {d = d} {at} {end} (set-stands {k = k} x y s) = tree-level k d at end s
-  goal-level {d = d} {at} {end} (pre-stands {k = k} x y z s) = tree-level k d at end s
+  goal-level {d = d} {at} {end} (flow-stands {k = k} x y z s) = tree-level k d at end (s .stands)
+  goal-level {d = d} {at} {end} (set-stands {k = k} x y s) = tree-level k d at end (s .stands)
+  goal-level {d = d} {at} {end} (pre-stands {k = k} x y z s) = tree-level k d at end (s .stands)

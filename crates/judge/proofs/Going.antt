@@ -1,21 +1,17 @@
 -- The children of an evidence word whose conditions pass, judged one after the other.
 -- Assumes nothing.
---     can-step-of, step-of, child-is                        a rule by the judgement of its goal
---     flow-child-asked, set-child-asked, pre-child-asked    what the goal of a child asks for, by judgement
---     level-due                                             evidence takes a level
---     can-step, can-go                                      the word: what its conditions ask for; its children, where they pass
---     judged-failed, judged-large, judged-passed            its verdict by the result of its conditions
---     Going                                                 the children from number k on, in the code's loop
---     going-start, going-step, going-refused, going-end     at the start; past a child; a child refused; past the last
---     child-asked, child-can                                what the goal of a child and judging it ask for
---     next-fits                                             a child has a small number
---     count-fits                                            the sum of counts does not overflow
+--     level-due                                            evidence takes a level
+--     can-step, can-go                                     the word: what its conditions ask for; its children, where they pass
+--     judged-failed, judged-large, judged-passed           its verdict by the result of its conditions
+--     Going                                                the children from number k on, in the code's loop
+--     going-start, going-step, going-refused, going-end    at the start; past a child; a child refused; past the last
+--     child-asked, child-can                               what the goal of a child and judging it ask for
+--     next-fits                                            a child has a small number
+--     count-fits                                           the sum of counts does not overflow
 use mathlib.Core.Path.{_≡_, refl, sym, ap, subst, _∙_}
-use mathlib.Core.Bool.{Bool, true, false, cond}
 use mathlib.Core.List.{List, [], _∷_}
 use Prim.Native.Nat.{ℕ, zero, suc, _+_, _-_, _/_, _<_, _≤_}
 use native.Mathlib.Omega.{arith}
-use lib.Dec.{eqb}
 use lib.ListN.{length, getD, drop}
 use Rattle.rules.specs.Context.{Context}
 use Rattle.rules.specs.Evidence.{Item, by}
@@ -29,17 +25,16 @@ use Rattle.implication.specs.declared.Condition.{Condition}
 use Rattle.implication.specs.declared.Condition.the-variants.{Passes, Fails, TooLarge}
 use Rattle.context.specs.declared.Refusal.{Refusal}
 use Rattle.goals.specs.declared.Goal.{Goal}
-use Rattle.goals.specs.declared.Goal.the-variants.{Flow, Set, Pre}
 use Rattle.goals.specs.declared.Judged.{Judged}
 use Rattle.goals.specs.declared.Judged.the-variants.{Accepted, Refused}
-use Rattle.goals.specs.Children.{ofRule, flowChildren, setChildren, preChildren, childrenAt, childAt, judgementOf, carriedOff}
+use Rattle.goals.specs.Children.{childrenAt, childAt, judgementOf, carriedOff}
 use Rattle.goals.specs.Goals.{TreeGoal, verdict, verdicts, treeStep, treeItems, GoalStands, GoalsStand}
 use Rattle.goals.specs.Goals.{flow, set, pre, flow-stands, set-stands, pre-stands, CanStep, StepOf, judgedOf, CanJudge, JudgedOf}
 use Rattle.goals.proofs.Children.{row-is}
-use Rattle.flow_compound.specs.Children as flows
 use Rattle.judge.specs.Row.{PastCarried}
 use Rattle.judge.specs.declared.row.First.{First}
 use Rattle.judge.specs.Going.{CanChild, CanGo, Goes}
+use Rattle.judge.proofs.Asked.{children-few}
 use Rattle.judge.proofs.Counts.{goal-counts, goal-inside, goal-place, goal-low, goal-level}
 
 -- the verdict of a goal by what its rule comes to
@@ -47,73 +42,14 @@ word-is : {Γ : Context} {file ends : List ℕ} {goal : Goal} {g : TreeGoal} {d 
     GoalStands Γ file ends goal g (suc d) at end → verdict Γ g ≡ judgeWord at (treeStep Γ g)
 unfolding judge FitsTree
 word-is {Γ} (flow-stands {k = by r i t} {p = p} {q = q} {c = c} x y z s) =
-    ap (λ n. judgeWord n (treeStep Γ (flow (by r i t) p c q))) (s .fit .0)
+    ap (λ n. judgeWord n (treeStep Γ (flow (by r i t) p c q))) (s .stands .fit .0)
 word-is {Γ} (set-stands {k = by r i t} {p = p} {q = q} x y s) =
-    ap (λ n. judgeWord n (treeStep Γ (set (by r i t) p q))) (s .fit .0)
+    ap (λ n. judgeWord n (treeStep Γ (set (by r i t) p q))) (s .stands .fit .0)
 word-is {Γ} (pre-stands {k = by r i t} {φ = φ} {φ′ = φ′} {c = c} x y z s) =
-    ap (λ n. judgeWord n (treeStep Γ (pre (by r i t) φ c φ′))) (s .fit .0)
+    ap (λ n. judgeWord n (treeStep Γ (pre (by r i t) φ c φ′))) (s .stands .fit .0)
 
 abbrev refusal : ℕ → ℕ → Judged
 refusal n i = Refused (record { number = n; place = i })
-
--- by the judgement of a goal
-module _ {goal g : Goal} (e : goal ≡ g) where
-  pub can-step-of : {file ends : List ℕ} {Γ : Context} {at : ℕ} → CanStep file ends Γ goal at → CanStep file ends Γ g at
-  can-step-of {file} {ends} {Γ} {at} h = subst (λ x. CanStep file ends Γ x at) e h
-
-  pub step-of : {file ends : List ℕ} {Γ : Context} {at : ℕ} {r : Condition} → StepOf file ends Γ g at r →
-      StepOf file ends Γ goal at r
-  step-of {file} {ends} {Γ} {at} {r} h = subst (λ x. StepOf file ends Γ x at r) (sym e) h
-
-  pub child-is : (ends : List ℕ) (rule at k : ℕ) {r : Goal} → r ≡ childAt ends g rule at k →
-      r ≡ childAt ends goal rule at k
-  child-is ends rule at k {r} h = subst (λ x. r ≡ childAt ends x rule at k) (sym e) h
-
--- a rule has few children
-abbrev FewIn : List (ℕ × List Goal) → Type 0
-FewIn [] = Unit {0}
-FewIn (x ∷ l) = (length (x .1) ≤ 8) × FewIn l
-
-few-of : (n : ℕ) (l : List (ℕ × List Goal)) → FewIn l → length (ofRule n l) ≤ 8
-few-of n [] h = omega arith
-few-of n (x ∷ l) h = go (eqb n (x .0)) (few-of n l (h .1))
-  where
-    go : (b : Bool) → length (ofRule n l) ≤ 8 → length (cond b (x .1) (ofRule n l)) ≤ 8
-    go true i = h .0
-    go false i = i
-
-children-few : (ends : List ℕ) (goal : Goal) (rule at : ℕ) → length (childrenAt ends goal rule at) ≤ 8
-children-few ends (Flow p c q) rule at = few-of rule (flowChildren ends p c q at) (
-  omega arith,
-  (omega arith, (omega arith, (omega arith, (omega arith, (omega arith, (omega arith, (omega arith, (omega arith, tt)))))))),
-)
-children-few ends (Set p q) rule at = few-of rule (setChildren ends p q at) (omega arith, (omega arith, tt))
-children-few ends (Pre f c g) rule at =
-    few-of rule (preChildren ends f c g at) (omega arith, (omega arith, (omega arith, (omega arith, (omega arith, tt)))))
-
-module _ {ends : List ℕ} {goal : Goal} {rule at k : ℕ} where
-  moved : {g : Goal} → goal ≡ g → CanChild ends goal rule at k → CanChild ends g rule at k
-  moved e h = subst (λ x. CanChild ends x rule at k) e h
-
-  pub flow-child-asked : {p c q : ℕ} → goal ≡ Flow p c q → CanChild ends goal rule at k →
-      flows.CanFlowChild ends rule p c q at k
-  flow-child-asked e h =
-      let x = moved e h in
-      record {
-        before = x .low .0;
-        command = x .low .1;
-        after = x .low .2;
-        word = x .place;
-        child = x .some;
-      }
-
-  pub set-child-asked : {p q : ℕ} → goal ≡ Set p q → CanChild ends goal rule at k →
-      (at < 8192) × (k < length (childrenAt ends (Set p q) rule at))
-  set-child-asked e h = let x = moved e h in (x .place, x .some)
-
-  pub pre-child-asked : {f c g : ℕ} → goal ≡ Pre f c g → CanChild ends goal rule at k →
-      (at < 8192) × (c < 8192) × (k < length (childrenAt ends (Pre f c g) rule at))
-  pre-child-asked e h = let x = moved e h in (x .place, x .low .1, x .some)
 
 module _ {file ends : List ℕ} {Γ : Context} {goal : Goal} {at left : ℕ} (p : CanJudge file ends Γ goal at left) where
   pub level-due : 1 ≤ left
@@ -129,6 +65,7 @@ module _ {file ends : List ℕ} {Γ : Context} {goal : Goal} {at left : ℕ} (p 
   pub can-step : CanStep file ends Γ goal at
   can-step = record {
     ends-of = p .ends-of;
+    procedures = p .procedures;
     size = p .size;
     few = p .few;
     tree = p .tree;
@@ -187,7 +124,7 @@ drop-all (x ∷ l) (suc k) e = drop-all l k (omega arith)
 
 module _ (file ends : List ℕ) (Γ : Context) (goal : Goal) (at left : ℕ) where
   abbrev goals : List Goal
-  goals = childrenAt ends goal (payloadAt file at) at
+  goals = childrenAt file ends goal (payloadAt file at) at
 
   -- of a goal's tree: the trees of the children from number k on, and the verdict with them
   pub record GoingOf (g : TreeGoal) (end k next count : ℕ) : Type 0 where
@@ -202,7 +139,7 @@ module _ (file ends : List ℕ) (Γ : Context) (goal : Goal) (at left : ℕ) whe
     pub many : k + length items ≡ length goals
     pub goes : (g : TreeGoal) (end : ℕ) → GoalStands Γ file ends goal g (suc left) at end → GoingOf g end k next count
 
-also-sum : (m n : ℕ) (v : Verdict) → accepted m also (accepted n also v) ≡ accepted (m + n) also v
+pub also-sum : (m n : ℕ) (v : Verdict) → accepted m also (accepted n also v) ≡ accepted (m + n) also v
 unfolding _also_
 also-sum m n (accepted k) = ap accepted (omega arith)
 also-sum m n (refused k i) = refl
@@ -215,12 +152,12 @@ also-stop : (m k i : ℕ) (v : Verdict) → accepted m also (refused k i also v)
 unfolding _also_
 also-stop m k i v = refl
 
-accepted-is : (v : Verdict) {m at end : ℕ} → Accepted m at ≡ judgedOf v end → (v ≡ accepted m) × (at ≡ end)
+pub accepted-is : (v : Verdict) {m at end : ℕ} → Accepted m at ≡ judgedOf v end → (v ≡ accepted m) × (at ≡ end)
 accepted-is (accepted n) e = (cc, cc)
 accepted-is (refused k i) e = absurd (let u : _≡_ {A = ℕ} 0 1 = cc in omega (arith, u))
 
 -- a verdict that was written as a refusal stays one
-refused-is : (v w : Verdict) (m end last : ℕ) {r : Judged} {x : Refusal} → r ≡ Refused x → r ≡ judgedOf v end →
+pub refused-is : (v w : Verdict) (m end last : ℕ) {r : Judged} {x : Refusal} → r ≡ Refused x → r ≡ judgedOf v end →
     r ≡ judgedOf (accepted m also (v also w)) last
 refused-is (accepted n) w m end last e h = absurd (let u : _≡_ {A = ℕ} 0 1 = cc in omega (arith, u))
 refused-is (refused k i) w m end last e h = h ∙ ap (λ v. judgedOf v last) (sym (also-stop m k i w))
@@ -272,23 +209,22 @@ module _ {file ends : List ℕ} {Γ : Context} {goal : Goal} {at left : ℕ} (p 
           omega arith
 
       pub next-fits : k < 8
-      next-fits = let h = below in let l = children-few ends goal (payloadAt file at) at in omega arith
+      next-fits = let h = below in let l = children-few file ends goal (payloadAt file at) at in omega arith
 
       -- the goals from k on
       split : drop k (goals file ends Γ goal at left)
-          ≡ childAt ends goal rule at k ∷ drop (k + 1) (goals file ends Γ goal at left)
+          ≡ childAt file ends goal rule at k ∷ drop (k + 1) (goals file ends Γ goal at left)
       split =
           drop-one (goals file ends Γ goal at left) k goal below
-          ∙ ap (λ n. getD (childrenAt ends goal n at) k goal ∷ drop (k + 1) (goals file ends Γ goal at left)) (sym e)
+          ∙ ap (λ n. getD (childrenAt file ends goal n at) k goal ∷ drop (k + 1) (goals file ends Γ goal at left)) (sym e)
 
-      pub child-asked : CanChild ends goal rule at k
+      pub child-asked : CanChild file ends goal rule at k
       child-asked =
-          let h = goal-place Γ file ends (p .can .goal-stands) in
-          let n = p .can .size in
           record {
-            low = goal-low Γ file ends (p .can .goal-stands) (p .can .size);
-            place = omega (arith, h, n);
-            some = subst (λ n. k < length (childrenAt ends goal n at)) (sym e) below;
+            size = p .can .size;
+            low = goal-low Γ file ends (p .can .goal-stands);
+            place = goal-place Γ file ends (p .can .goal-stands);
+            some = subst (λ n. k < length (childrenAt file ends goal n at)) (sym e) below;
           }
 
       -- the tree of the child and those after it
@@ -300,7 +236,7 @@ module _ {file ends : List ℕ} {Γ : Context} {goal : Goal} {at left : ℕ} (p 
         rest-stand : GoalsStand Γ file ends (drop (k + 1) (goals file ends Γ goal at left)) others left past end
         judged : verdict Γ g ≡ accepted count also (verdict Γ tree also verdicts Γ others)
 
-      module _ {child : Goal} (c : child ≡ childAt ends goal rule at k) where
+      module _ {child : Goal} (c : child ≡ childAt file ends goal rule at k) where
         child-of : (g : TreeGoal) (end : ℕ) → GoalStands Γ file ends goal g (suc left) at end → ChildOf child g end
         child-of g end s =
             let x = going .goes g end s in
@@ -320,6 +256,7 @@ module _ {file ends : List ℕ} {Γ : Context} {goal : Goal} {at left : ℕ} (p 
         pub child-can : CanJudge file ends Γ child next left
         child-can = record {
           ends-of = p .can .ends-of;
+          procedures = p .can .procedures;
           size = p .can .size;
           few = p .can .few;
           low = omega (arith, p .can .low);

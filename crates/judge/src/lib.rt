@@ -12,7 +12,7 @@ use row::row_at;
 use rule::child_of;
 use rule::condition_at;
 use words::kinds::KIND;
-ghost use Rattle.context.specs.Contexts.{contextOf};
+ghost use Rattle.context.specs.Contexts.{contextIn};
 ghost use Rattle.goals.specs.Goals.{CanJudge, JudgedOf};
 ghost use Rattle.judge.specs.Going.{CanGo, Goes};
 
@@ -26,8 +26,8 @@ pub fn judge(
     at: usize,
     left: usize,
 ) -> Judged
-    requires { ⌜ CanJudge (now w) (now ends) (contextOf context) goal «at» left ⌝ }
-    ensures { λ r. ⌜ JudgedOf (now (w .entry)) (now (ends .entry)) (contextOf context) goal «at» left r ⌝ }
+    requires { ⌜ CanJudge (now w) (now ends) (contextIn context (now w)) goal «at» left ⌝ }
+    ensures { λ r. ⌜ JudgedOf (now (w .entry)) (now (ends .entry)) (contextIn context (now (w .entry))) goal «at» left r ⌝ }
 {
     let condition = condition_at(w, ends, context, goal, at);
     match condition {
@@ -52,8 +52,8 @@ fn judge_children(
     at: usize,
     left: usize,
 ) -> Judged
-    requires { ⌜ CanGo (now w) (now ends) (contextOf context) goal «at» left ⌝ }
-    ensures { λ r. ⌜ Goes (now (w .entry)) (now (ends .entry)) (contextOf context) goal «at» left r ⌝ }
+    requires { ⌜ CanGo (now w) (now ends) (contextIn context (now w)) goal «at» left ⌝ }
+    ensures { λ r. ⌜ Goes (now (w .entry)) (now (ends .entry)) (contextIn context (now (w .entry))) goal «at» left r ⌝ }
 {
     let rule = w[at] % KIND;
     let first = past_carried(ends, row_at(goal, rule), at + 1);
@@ -62,7 +62,7 @@ fn judge_children(
     let mut count = 1;
     let mut k = 0;
     while rest != 0 {
-        let child = child_of(ends, rule, goal, at, k);
+        let child = child_of(w, ends, rule, goal, at, k);
         let judged = judge(w, ends, context, child, next, left);
         match judged {
             Judged::Accepted(n, to) => {

@@ -8,7 +8,7 @@ use Rattle.laws.proofs.Bools.{or-left, or-right}
 use Rattle.language.specs.Syntax.{Assignment, toScalar, toArray, Command}
 use Rattle.language.specs.Store.{Store}
 use Rattle.language.specs.Runs.{assigned, Runs, runs-skip, runs-sequence, runs-assert, runs-assign, runs-then}
-use Rattle.language.specs.Runs.{runs-else, runs-done, runs-again, runs-for}
+use Rattle.language.specs.Runs.{runs-else, runs-done, runs-again, runs-for, runs-call}
 use Rattle.language.specs.Modifies.{Identifier, scalarOf, arrayOf, sameIdentifier, target, modifies}
 use Rattle.language.proofs.Values.{InBoth}
 
@@ -46,3 +46,4 @@ kept x (runs-else {c = c} e r) h = kept x r (or-right (modifies c x) _ h)
 kept {s = s} x (runs-done e) h = itself s x
 kept x (runs-again e r q) h = chain _ _ _ x (kept x r h) (kept x q h)
 kept x (runs-for {q = q} {c = c} r) h = kept x r (for-false (sameIdentifier (scalarOf q) x) (modifies c x) h)
+kept x (runs-call r) h = kept x r h

@@ -9,7 +9,7 @@ use Rattle.laws.proofs.Bools.{clash}
 use Rattle.language.specs.Syntax.{Command}
 use Rattle.language.specs.Store.{Store}
 use Rattle.language.specs.Runs.{Runs, runs-skip, runs-sequence, runs-assert, runs-assign, runs-then, runs-else}
-use Rattle.language.specs.Runs.{runs-done, runs-again, runs-for}
+use Rattle.language.specs.Runs.{runs-done, runs-again, runs-for, runs-call}
 
 -- a run from where another ended
 from : {c : Command} {n : ℕ} {s t u : Store} → t ≡ s → Runs c n s u → Runs c n t u
@@ -29,6 +29,7 @@ one-end (runs-done e) (runs-again e′ r′ q′) = clash e′ e
 one-end (runs-again e r q) (runs-done e′) = clash e e′
 one-end (runs-again e r q) (runs-again e′ r′ q′) = one-end q (from (one-end r r′) q′)
 one-end (runs-for r) (runs-for r′) = one-end r r′
+one-end (runs-call r) (runs-call r′) = one-end r r′
 
 pub one-count : {c : Command} {m n : ℕ} {s t u : Store} → Runs c m s t → Runs c n s u → m ≡ n
 one-count runs-skip runs-skip = refl
@@ -45,3 +46,4 @@ one-count (runs-again e r q) (runs-done e′) = clash e e′
 one-count (runs-again e r q) (runs-again e′ r′ q′) =
     ap₂ (λ (m n : ℕ). suc (m + n)) (one-count r r′) (one-count q (from (one-end r r′) q′))
 one-count (runs-for r) (runs-for r′) = one-count r r′
+one-count (runs-call r) (runs-call r′) = ap suc (one-count r r′)

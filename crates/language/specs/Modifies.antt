@@ -1,4 +1,4 @@
--- What a command modifies, and the identifiers of an expression (document 01, "Language").
+-- What a command modifies, and the identifiers of an expression (document 01, "Language"; document 02, request [3]).
 -- Trusted. Assumes nothing.
 --     Identifier, sameIdentifier    scalars and arrays, by their numbers
 --     target                        the identifier that an assignment gives a value
@@ -10,7 +10,7 @@ use Prim.Native.Nat.{ℕ}
 use lib.Dec.{eqb}
 use Rattle.language.specs.Syntax.{Sort, Expr, constant, scalar, operation, select, compare, truth, and, or, neg}
 use Rattle.language.specs.Syntax.{array, zeros, update, Assignment, toScalar, toArray}
-use Rattle.language.specs.Syntax.{Command, skip, sequence, assert, assign, ifElse, while, for}
+use Rattle.language.specs.Syntax.{Command, skip, sequence, assert, assign, ifElse, while, for, call}
 
 pub data Identifier : Type 0 where
   scalarOf arrayOf : ℕ → Identifier
@@ -25,7 +25,7 @@ abbrev pub target : Assignment → Identifier
 target (toScalar x e) = scalarOf x
 target (toArray a e) = arrayOf a
 
--- whether a command modifies an identifier: an array even if it is assigned at one place
+-- whether a command modifies an identifier: an array even if it is assigned at one place; a call what its body modifies
 abbrev pub modifies : Command → Identifier → Bool
 modifies skip x = false
 modifies (sequence c d) x = modifies c x || modifies d x
@@ -34,6 +34,7 @@ modifies (assign a) x = sameIdentifier (target a) x
 modifies (ifElse b c d) x = modifies c x || modifies d x
 modifies (while b c) x = modifies c x
 modifies (for q m c) x = sameIdentifier (scalarOf q) x || modifies c x
+modifies (call p c) x = modifies c x
 
 -- the identifiers of an expression
 unfoldable pub identifiers : {k : Sort} → Expr k → List Identifier

@@ -1,4 +1,4 @@
--- The runs of a command (document 01, "Language"), with their steps as "Runner" counts them.
+-- The runs of a command (document 01, "Language"; document 02, request [3]), with their steps as "Runner" counts them.
 -- Trusted. Assumes nothing.
 --     assigned    the store after an assignment
 --     meaning     the command that a `for` means, from its start and its increment
@@ -10,7 +10,7 @@ use lib.Dec.{eqb}
 use lib.IntN.{pos}
 use Rattle.language.specs.Syntax.{plus, atMost, Boolean, Expr, constant, scalar, operation, compare}
 use Rattle.language.specs.Syntax.{Assignment, toScalar, toArray}
-use Rattle.language.specs.Syntax.{Command, skip, sequence, assert, assign, ifElse, while, for}
+use Rattle.language.specs.Syntax.{Command, skip, sequence, assert, assign, ifElse, while, for, call}
 use Rattle.language.specs.Store.{Store, put, value}
 
 -- s with the identifier given the value that the right side has in s
@@ -30,7 +30,7 @@ meaning q m c =
     sequence (assign (start q))
     (while (compare atMost (scalar q) (scalar m)) (sequence c (assign (increment q))))
 
--- each skip, assignment, assert and test is one step
+-- each skip, assignment, assert and test is one step; so is a call, before its body's
 pub data Runs : Command → ℕ → Store → Store → Type 0 where
   runs-skip : {s : Store} → Runs skip 1 s s
   runs-sequence : {c d : Command} {m n : ℕ} {s t u : Store} →
@@ -45,3 +45,4 @@ pub data Runs : Command → ℕ → Store → Store → Type 0 where
   runs-again : {b : Expr Boolean} {c : Command} {m n : ℕ} {s t u : Store} →
       value b s ≡ true → Runs c m s t → Runs (while b c) n t u → Runs (while b c) (suc (m + n)) s u
   runs-for : {q m : ℕ} {c : Command} {n : ℕ} {s t : Store} → Runs (meaning q m c) n s t → Runs (for q m c) n s t
+  runs-call : {p : ℕ} {c : Command} {n : ℕ} {s t : Store} → Runs c n s t → Runs (call p c) (suc n) s t

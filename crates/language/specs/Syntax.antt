@@ -1,4 +1,4 @@
--- Expressions of three sorts, and commands (document 01, "Language"; paper 000, section 3.1).
+-- Expressions of three sorts, and commands (document 01, "Language"; paper 000, section 3.1; document 02, request [3]).
 -- Trusted. Assumes nothing.
 --     Operator, Comparison    + − ×; = < ≤
 --     Sort, Expr              expressions, by their sort
@@ -35,7 +35,7 @@ pub data Assignment : Type 0 where
   toScalar : ℕ → Expr Arithmetic → Assignment
   toArray : ℕ → Expr Array → Assignment
 
--- `for q m c` is a `for` over q up to m
+-- `for q m c` is a `for` over q up to m; `call p c` calls procedure p of the file, whose body is c (`called`, rules/specs/Context)
 pub data Command : Type 0 where
   skip : Command
   sequence : Command → Command → Command
@@ -44,3 +44,4 @@ pub data Command : Type 0 where
   ifElse : Expr Boolean → Command → Command → Command
   while : Expr Boolean → Command → Command
   for : ℕ → ℕ → Command → Command
+  call : ℕ → Command → Command

@@ -16,7 +16,7 @@ use lib.ListN.{length}
 use Rattle.language.specs.Syntax.{Operator, plus, minus, times, Comparison, equal, less, atMost}
 use Rattle.language.specs.Syntax.{Sort, Arithmetic, Boolean, Array, Expr, constant, scalar, operation, select}
 use Rattle.language.specs.Syntax.{compare, truth, and, or, neg, array, zeros, update, toScalar, toArray}
-use Rattle.language.specs.Syntax.{Command, skip, sequence, assert, assign, ifElse, while, for}
+use Rattle.language.specs.Syntax.{Command, skip, sequence, assert, assign, ifElse, while, for, call}
 use Rattle.rules.specs.Words.{Word, words, commandWords}
 use Rattle.rules.specs.Words.{operatorPayload, comparisonPayload, truthPayload}
 use Rattle.rules.specs.Assertion.{Member, Members, member}
@@ -137,33 +137,35 @@ module _ (file : List ℕ) where
       parted (words i) (words a) t λ r y z.
       begun refl ⊲ expression-stands d h (at + 1) q x ⊲ expression-stands d i q r y ⊲ expression-stands d a r p z))
 
-  pub command-stands : (d : ℕ) (c : Command) (at p : ℕ) → Stands file (commandWords c) (FitsCommand c d) at p →
-      Back (command file d) at c p
+  pub command-stands : (Γ : Context) (d : ℕ) (c : Command) (at p : ℕ) → Stands file (commandWords c) (FitsCommand Γ c d) at p →
+      Back (command Γ file d) at c p
   unfolding command commandWords FitsCommand
-  command-stands zero c at p s = absurd (s .fit)
-  command-stands (suc d) skip at p s = word-back _ s (omega arith, refl, refl) (some-back (begun (s .stand .2)))
-  command-stands (suc d) (sequence c₁ c₂) at p s =
+  command-stands Γ zero c at p s = absurd (s .fit)
+  command-stands Γ (suc d) skip at p s = word-back _ s (omega arith, refl, refl) (some-back (begun (s .stand .2)))
+  command-stands Γ (suc d) (sequence c₁ c₂) at p s =
       word-back _ s (omega arith, refl, refl) (some-back (parted (commandWords c₁) (commandWords c₂) (rest s) λ q x y.
-      begun refl ⊲ command-stands d c₁ (at + 1) q x ⊲ command-stands d c₂ q p y))
-  command-stands (suc d) (assert b) at p s =
+      begun refl ⊲ command-stands Γ d c₁ (at + 1) q x ⊲ command-stands Γ d c₂ q p y))
+  command-stands Γ (suc d) (assert b) at p s =
       word-back _ s (omega arith, refl, refl) (some-back (begun refl ⊲ expression-stands d b (at + 1) p (rest s)))
-  command-stands (suc d) (assign (toScalar x e)) at p s =
+  command-stands Γ (suc d) (assign (toScalar x e)) at p s =
       word-back _ s (omega (arith, s .fit .0), refl, refl)
       (up-to-back 31 x (s .fit .0) (begun refl ⊲ expression-stands d e (at + 1) p (less-fit (rest s))))
-  command-stands (suc d) (assign (toArray a e)) at p s =
+  command-stands Γ (suc d) (assign (toArray a e)) at p s =
       word-back _ s (omega (arith, s .fit .0), refl, refl)
       (up-to-back 31 a (s .fit .0) (begun refl ⊲ expression-stands d e (at + 1) p (less-fit (rest s))))
-  command-stands (suc d) (ifElse b c₁ c₂) at p s =
+  command-stands Γ (suc d) (ifElse b c₁ c₂) at p s =
       word-back _ s (omega arith, refl, refl) (some-back (parted (words b) (commandWords c₁ ++ commandWords c₂) (rest s) λ q x t.
       parted (commandWords c₁) (commandWords c₂) t λ r y z.
-      begun refl ⊲ expression-stands d b (at + 1) q x ⊲ command-stands d c₁ q r y ⊲ command-stands d c₂ r p z))
-  command-stands (suc d) (while b c) at p s =
+      begun refl ⊲ expression-stands d b (at + 1) q x ⊲ command-stands Γ d c₁ q r y ⊲ command-stands Γ d c₂ r p z))
+  command-stands Γ (suc d) (while b c) at p s =
       word-back _ s (omega arith, refl, refl) (some-back (parted (words b) (commandWords c) (rest s) λ q x y.
-      begun refl ⊲ expression-stands d b (at + 1) q x ⊲ command-stands d c q p y))
-  command-stands (suc d) (for q m c) at p s =
+      begun refl ⊲ expression-stands d b (at + 1) q x ⊲ command-stands Γ d c q p y))
+  command-stands Γ (suc d) (for q m c) at p s =
       word-back _ s (s .fit .0) (up-to-back 1023 (q + 32 * m) (omega (arith, s .fit .0 .0, s .fit .0 .1))
       (rw (for-first q m (s .fit .0 .0), for-second q m (s .fit .0 .0))
-      (begun refl ⊲ command-stands d c (at + 1) p (less-fit (rest s)))))
+      (begun refl ⊲ command-stands Γ d c (at + 1) p (less-fit (rest s)))))
+  command-stands Γ (suc d) (call n c) at p s =
+      word-back _ s (s .fit .0, refl, refl) (some-back (rw (s .fit .1) (begun (s .stand .2))))
 
   -- the first word's kind tells the sort
   sort-stands : (d : ℕ) {j : Sort} (e : Expr j) (at p : ℕ) → Stands file (words e) (FitsExpression e d) at p →

@@ -13,9 +13,9 @@ use Rattle.rules.specs.Words.{word}
 use Rattle.rules.specs.Context.{Context}
 use Rattle.rules.specs.Evidence.{Judgement, flow, implication, precondition, Item, Rule, row, rules, item, Tree, by, assertion, command, members}
 use Rattle.rules.specs.Evidence.{child, done, _&_, Evidence, Parts, flow1, flow2, flow3, flow4, flow5, flow6, flow7}
-use Rattle.rules.specs.Evidence.{flow8, flow9, flow10, flow11, flow12, flow13, flow14, set13, set14, set15, set16}
+use Rattle.rules.specs.Evidence.{flow8, flow9, flow10, flow11, flow12, flow13, flow14, flow31, set13, set14, set15, set16}
 use Rattle.rules.specs.Evidence.{set17, set18, set19, pre20, pre21, pre22, pre23, pre24, pre25, pre26, pre27, pre28}
-use Rattle.rules.specs.Evidence.{pre29, pre30}
+use Rattle.rules.specs.Evidence.{pre29, pre30, pre32}
 use Rattle.layout.specs.Reading.{Reader}
 use Rattle.layout.specs.ReadEvidence.{evidenceKind, ruleOf, itemReader, partsReader, evidence}
 use Rattle.layout.specs.EvidenceWords.{spelledTree, FitsTree}
@@ -39,6 +39,7 @@ rule-row flow11 = (refl, omega arith)
 rule-row flow12 = (refl, omega arith)
 rule-row flow13 = (refl, omega arith)
 rule-row flow14 = (refl, omega arith)
+rule-row flow31 = (refl, omega arith)
 rule-row set13 = (refl, omega arith)
 rule-row set14 = (refl, omega arith)
 rule-row set15 = (refl, omega arith)
@@ -57,6 +58,7 @@ rule-row pre27 = (refl, omega arith)
 rule-row pre28 = (refl, omega arith)
 rule-row pre29 = (refl, omega arith)
 rule-row pre30 = (refl, omega arith)
+rule-row pre32 = (refl, omega arith)
 
 -- the word of a rule
 pub rule-range : {j : Judgement} {n : ℕ} {l : List Item} → Rule j n l → InRange (word (evidenceKind j) (pos n))
@@ -74,7 +76,7 @@ module _ (Γ : Context) (file : List ℕ) where
         Back (itemReader Γ file d reader x) at t p
     unfolding spelledTree FitsTree
     item-back (assertion φ) at p s = begun refl ⊲ expression-stands file d φ at p s
-    item-back (command c) at p s = begun refl ⊲ command-stands file d c at p s
+    item-back (command c) at p s = begun refl ⊲ command-stands file Γ d c at p s
     item-back (members m) at p s = begun refl ⊲ set-stands file Γ d m at p s
     item-back (child k) at p s = begun refl ⊲ known _ k at p s
 

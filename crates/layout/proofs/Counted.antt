@@ -4,9 +4,8 @@
 --     node-none                                  expressions, commands and sets have none
 --     Counts, tree-tally                         a verdict with this count; the count of evidence by its words
 --     pre-counts, set-counts, flow-counts        evidence, as it is judged
---     file-counts                                a file, as it is judged, by the words of its parts
---     count-spelled, file-counted                the same by the words of the file
-use mathlib.Core.Path.{_≡_, refl, sym, _∙_, ap, ap₂}
+--     count-words, file-counted                  a file, as it is judged, by its words
+use mathlib.Core.Path.{_≡_, refl, _∙_, ap, ap₂}
 use mathlib.Core.Bool.{Bool, true, false, _&&_, cond}
 use mathlib.Core.List.{List, [], _∷_, _++_, map}
 use Prim.Native.Nat.{ℕ, zero, suc, _+_, _*_, _/_, _<_, _≤_}
@@ -16,26 +15,31 @@ use borrow.Author.Tests.{le-leb, lt-leb}
 use lib.Dec.{leb}
 use lib.ListN.{length, drop}
 use lib.Seq.{drop-cons, drop-length}
+use Rattle.laws.proofs.Bools.{clash}
 use Rattle.language.specs.Syntax.{Boolean, Expr, toScalar, toArray}
-use Rattle.language.specs.Syntax.{Command, skip, sequence, assert, assign, ifElse, while, for}
+use Rattle.language.specs.Syntax.{Command, skip, sequence, assert, assign, ifElse, while, for, call}
 use Rattle.rules.specs.Words.{Word, word, forWord}
 use Rattle.rules.specs.Assertion.{Members}
-use Rattle.rules.specs.Context.{Context}
+use Rattle.rules.specs.Context.{Limits, Context, alone}
 use Rattle.rules.specs.Evidence.{flow, implication, precondition, Standing, Tree, by, assertion, command, members}
 use Rattle.rules.specs.Evidence.{child, done, _&_, FlowEvidence, SetEvidence, PreEvidence}
 use Rattle.rules.specs.Judge.{Verdict, accepted, refused, oneMore, _also_, judge}
 use Rattle.rules.proofs.Holds.{tally, Everywhere, Holding, pre-holds, set-holds, flow-holds}
+use Rattle.layout.specs.EvidenceWords.{Part, joined, EachFits, spelledTree, FitsTree}
+use Rattle.layout.specs.Program.{Program, after}
+use Rattle.layout.specs.File.{File}
+use Rattle.layout.specs.FileWords.{programParts, ProgramStands, ProgramsStand, tableWords, FileStands}
+use Rattle.layout.specs.Verdict.{judgePrograms}
 use Rattle.layout.specs.Bytes.{wordCount, numberAt, payloads}
 use Rattle.layout.specs.Spelling.{SpelledAt}
-use Rattle.layout.specs.EvidenceWords.{Part, joined, EachFits, spelledTree, FitsTree}
+use Rattle.layout.specs.Standing.{StandsTo}
+use Rattle.layout.specs.Counted.{isEvidence, countEvidence}
 use Rattle.layout.specs.Nodes.{Node, expressionNode, commandNode, setNode, nodeWords, FitsNode, nodePart, headOf, partsOf}
 use Rattle.layout.specs.Nodes.{kindOf, AllInRange}
-use Rattle.layout.specs.File.{File}
-use Rattle.layout.specs.FileWords.{fileParts, FileSpelled}
-use Rattle.layout.specs.Counted.{isEvidence, countEvidence}
 use Rattle.layout.proofs.Nodes.{node-law, no-level, kind-at}
 use Rattle.layout.proofs.Forms.{sort-kind, low-kind}
-use Rattle.layout.proofs.Range.{parts-range}
+use Rattle.layout.proofs.Range.{program-range}
+use Rattle.layout.proofs.Stands.{chain-stands}
 
 abbrev isEvidenceWord : Word → Bool
 isEvidenceWord (word k z) = leb 33 k && leb k 35
@@ -70,17 +74,18 @@ low-none : (w : Word) → kindOf w < 24 → isEvidenceWord w ≡ false
 low-none (word k z) h = rw (lt-leb 33 k (omega arith))
 low-none (forWord q m) h = refl
 
-head-none : (x : Node) → isEvidenceWord (headOf x) ≡ false
-head-none (expressionNode {k = j} e) = low-none (headOf (expressionNode e)) (low-kind j (sort-kind e))
-head-none (commandNode skip) = refl
-head-none (commandNode (sequence c d)) = refl
-head-none (commandNode (assert b)) = refl
-head-none (commandNode (assign (toScalar x e))) = refl
-head-none (commandNode (assign (toArray a e))) = refl
-head-none (commandNode (ifElse b c d)) = refl
-head-none (commandNode (while b c)) = refl
-head-none (commandNode (for q m c)) = refl
-head-none (setNode Γ p) = refl
+word-none : (x : Node) → isEvidenceWord (headOf x) ≡ false
+word-none (expressionNode {k = j} e) = low-none (headOf (expressionNode e)) (low-kind j (sort-kind e))
+word-none (commandNode Γ skip) = refl
+word-none (commandNode Γ (sequence c d)) = refl
+word-none (commandNode Γ (assert b)) = refl
+word-none (commandNode Γ (assign (toScalar x e))) = refl
+word-none (commandNode Γ (assign (toArray a e))) = refl
+word-none (commandNode Γ (ifElse b c d)) = refl
+word-none (commandNode Γ (while b c)) = refl
+word-none (commandNode Γ (for q m c)) = refl
+word-none (commandNode Γ (call n c)) = refl
+word-none (setNode Γ p) = refl
 
 parts-none : {d : ℕ} → ((x : Node) → FitsNode x d → evidenceIn (nodeWords x) ≡ 0) → (l : List Node) (at : ℕ) →
     EachFits (map nodePart l) d at → evidenceIn (joined (map nodePart l)) ≡ 0
@@ -94,7 +99,7 @@ node-none : (d : ℕ) (x : Node) → FitsNode x d → evidenceIn (nodeWords x) �
 unfolding evidenceIn
 node-none zero x h = absurd (no-level x h)
 node-none (suc d) x h =
-    rw (node-law x .spelling, head-none x) (parts-none (λ y g. node-none d y g) (partsOf x) 0 (node-law x .fits d 0 h .1))
+    rw (node-law x .spelling, word-none x) (parts-none (λ y g. node-none d y g) (partsOf x) 0 (node-law x .fits d 0 h .1))
 
 -- the count of parts, one after the other
 abbrev counts : List Part → ℕ
@@ -130,7 +135,7 @@ tree-tally Γ (by {j = flow} r i t) (suc d) at h = ap suc (tree-tally Γ t d (at
 tree-tally Γ (by {j = implication} r i t) (suc d) at h = ap suc (tree-tally Γ t d (at + 1) (h .1))
 tree-tally Γ (by {j = precondition} r i t) (suc d) at h = ap suc (tree-tally Γ t d (at + 1) (h .1))
 tree-tally Γ (assertion φ) d at h = node-none d (expressionNode φ) h
-tree-tally Γ (command c) d at h = node-none d (commandNode c) h
+tree-tally Γ (command c) d at h = node-none d (commandNode Γ c) h
 tree-tally Γ (members p) d at h = node-none d (setNode Γ p) h
 tree-tally Γ (child k) d at h = tree-tally Γ k d at h
 tree-tally Γ done d at h = refl
@@ -175,52 +180,105 @@ module _ (Γ : Context) where
       Counts (judge Γ k p c q) (tally k)
   flow-counts k p c q = flow-holds counting Γ k p c q (anywhere k)
 
--- the parts of a file: its evidence has all of them
-pub file-counts : (Γ : Context) (f : File) → EachFits (fileParts Γ f) (Γ .limits .depth) 1 →
-    Counts (judge Γ (f .evidence) (f .pre) (f .program) (f .post)) (evidenceIn (joined (fileParts Γ f)))
-unfolding EachFits
-file-counts Γ f g =
-    let d = Γ .limits .depth in
-    let x = node-none d (commandNode (f .program)) (g .0) in
-    let y = node-none d (setNode Γ (f .pre)) (g .1 .0) in
-    let z = node-none d (setNode Γ (f .post)) (g .1 .1 .0) in
-    let e = joined-counts (fileParts Γ f) in
-    let h = flow-counts Γ (f .evidence) (f .pre) (f .program) (f .post) in
-    let t = tree-tally Γ (f .evidence) d _ (g .1 .1 .1 .0) in
-    record { counted = λ n k. let u = h .counted n k in omega (arith, x, y, z, e, u, t) }
-
 -- ---- the same by the words of the file
 same-kind : (n : ℕ) (w : Word) → n / payloads ≡ kindOf w → isEvidence n ≡ isEvidenceWord w
 same-kind n (word k z) e = ap (λ j. leb 33 j && leb j 35) e
 same-kind n (forWord q m) e = ap (λ j. leb 33 j && leb j 35) e
 
--- words that stand up to the end of a file
-count-spelled : (file : List ℕ) (at : ℕ) (l : List Word) → SpelledAt file at l → AllInRange l →
-    wordCount file ≡ at + length l → countEvidence (drop at file) ≡ evidenceIn l
-unfolding countEvidence evidenceIn
-count-spelled file at [] s h e =
-    let end : at ≡ length file = omega arith in
-    ap (λ i. countEvidence (drop i file)) end ∙ ap countEvidence (drop-length file)
-count-spelled file at (w ∷ l) s h e =
-    ap countEvidence (drop-cons file at 0 (s .0))
-    ∙ ap₂ (λ t n. cond t (suc n) n) (same-kind (numberAt file at) w (kind-at file at w (s .1) (h .0)))
-    (ap (λ i. countEvidence (drop i file)) (sym (add-one at))
-    ∙ count-spelled file (at + 1) l (s .2) (h .1) (omega arith))
+-- the words from a place on
+abbrev from : List ℕ → ℕ → ℕ
+from file at = countEvidence (drop at file)
 
--- word 0 is no evidence, whatever the count in it
-first-none : (n : ℕ) → isEvidence (63 * payloads + n) ≡ false
-first-none n =
-    let k : 35 < (63 * payloads + n) / payloads = omega arith in
-    rw (lt-leb ((63 * payloads + n) / payloads) 35 k)
-    (rw (le-leb 33 ((63 * payloads + n) / payloads) (omega arith)) refl)
-
-pub file-counted : (Γ : Context) (file : List ℕ) (f : File) → FileSpelled Γ file f →
-    countEvidence file ≡ evidenceIn (joined (fileParts Γ f))
+from-next : (file : List ℕ) (at : ℕ) → at < length file →
+    from file at ≡ cond (isEvidence (numberAt file at)) (suc (from file (at + 1))) (from file (at + 1))
 unfolding countEvidence
-file-counted Γ file f h =
-    let all : AllInRange (joined (fileParts Γ f)) = parts-range Γ f (h .fits) in
-    let some : 0 < length file = omega (arith, h .whole) in
-    ap countEvidence (drop-cons file 0 0 some)
-    ∙ ap (λ t. cond t (suc (countEvidence (drop 1 file))) (countEvidence (drop 1 file)))
-    (ap isEvidence (h .count) ∙ first-none (wordCount file))
-    ∙ count-spelled file 1 (joined (fileParts Γ f)) (h .spelled) all (h .whole)
+from-next file at h = rw (drop-cons file at 0 h, add-one) refl
+
+pub count-words : (file : List ℕ) → countEvidence file ≤ length file
+unfolding countEvidence
+count-words [] = omega arith
+count-words (w ∷ l) = go (isEvidence w) (count-words l)
+  where
+    go : (t : Bool) → countEvidence l ≤ length l → cond t (suc (countEvidence l)) (countEvidence l) ≤ suc (length l)
+    go true h = omega arith
+    go false h = omega arith
+
+-- words that stand somewhere
+count-stands : (file : List ℕ) (at : ℕ) (l : List Word) (p : ℕ) → StandsTo file at l p → AllInRange l →
+    from file at ≡ evidenceIn l + from file p
+unfolding evidenceIn
+count-stands file at [] p s h = let e = ap (from file) s in omega (arith, e)
+count-stands file at (w ∷ l) p s h =
+    from-next file at (s .0)
+    ∙ go (isEvidence (numberAt file at)) (isEvidenceWord w)
+    (same-kind (numberAt file at) w (kind-at file at w (s .1) (h .0))) (count-stands file (at + 1) l p (s .2) (h .1))
+  where
+    go : (t u : Bool) → t ≡ u → from file (at + 1) ≡ evidenceIn l + from file p →
+        cond t (suc (from file (at + 1))) (from file (at + 1)) ≡ cond u (suc (evidenceIn l)) (evidenceIn l) + from file p
+    go true true e k = omega arith
+    go true false e k = clash refl e
+    go false true e k = clash e refl
+    go false false e k = k
+
+module _ (Γ : Context) (file : List ℕ) where
+  -- a program: its evidence has all of its count
+  program-count : (f : Program) → ProgramStands Γ file f → from file (f .start) ≡ tally (f .evidence) + from file (f .past)
+  program-count f h =
+      let d = Γ .limits .depth in
+      let l = programParts Γ f in
+      let s = chain-stands {file = file} l d (f .start) (f .past)
+      (f .preAt, h .command, (f .postAt, h .pre, (f .evidenceAt, h .post, (f .past, h .evidence, refl)))) in
+      let x = node-none d (commandNode Γ (f .command)) (h .command .fit) in
+      let y = node-none d (setNode Γ (f .pre)) (h .pre .fit) in
+      let z = node-none d (setNode Γ (f .post)) (h .post .fit) in
+      let e = joined-counts l in
+      let t = tree-tally Γ (f .evidence) d (f .evidenceAt) (h .evidence .fit) in
+      let k = count-stands file (f .start) (joined l) (f .past) (s .stand) (program-range Γ f (f .start) (s .fit)) in
+      omega (arith, x, y, z, e, t, k)
+
+-- past the last word there is none
+from-end : (file : List ℕ) → from file (wordCount file) ≡ 0
+unfolding countEvidence
+from-end file = ap countEvidence (drop-length file)
+
+programs-counted : (Γ : Context) (file : List ℕ) (l : List Program) (f : Program) (at : ℕ) →
+    ProgramsStand Γ file l f at (wordCount file) → Counts (judgePrograms Γ l f) (from file at)
+unfolding judgePrograms
+programs-counted Γ file [] f at h =
+    let x = program-count Γ file f (h .1) in
+    let y = ap (from file) (h .2) ∙ from-end file in
+    let z = ap (from file) (h .0) in
+    let k = flow-counts Γ (f .evidence) (f .pre) (f .command) (f .post) in
+    record { counted = λ n e. let u = k .counted n e in omega (arith, x, y, z, u) }
+programs-counted Γ file (g ∷ l) f at h =
+    let x = program-count Γ file g (h .1) in
+    let z = ap (from file) (h .0) in
+    let k = also-counts _ _ (flow-counts Γ (g .evidence) (g .pre) (g .command) (g .post))
+    (programs-counted (after Γ g) file l f (g .past) (h .2)) in
+    record { counted = λ n e. let u = k .counted n e in omega (arith, x, z, u) }
+
+-- words 63:n and 62:k are no evidence
+head-none : (k n : ℕ) → 35 < k → isEvidence (k * payloads + n) ≡ false
+head-none k n h =
+    let l : 35 < (k * payloads + n) / payloads = omega arith in
+    rw (lt-leb ((k * payloads + n) / payloads) 35 l)
+    (rw (le-leb 33 ((k * payloads + n) / payloads) (omega arith)) refl)
+
+past-head : (file : List ℕ) (at k n : ℕ) → at < length file → numberAt file at ≡ k * payloads + n → 35 < k →
+    from file at ≡ from file (at + 1)
+past-head file at k n h e l = from-next file at h ∙ rw (e, head-none k n l) refl
+
+past-table : (file : List ℕ) (l : List Program) → SpelledAt file 1 (tableWords l) →
+    from file 1 ≡ from file (1 + length (tableWords l))
+past-table file [] h = refl
+past-table file (g ∷ l) h = past-head file 1 62 (length (g ∷ l)) (h .0) (h .1) (omega arith)
+
+pub file-counted : (limits : Limits) (file : List ℕ) (f : File) → FileStands limits file f → 0 < length file →
+    Counts (judgePrograms (alone limits) (f .procedures) (f .main)) (countEvidence file)
+unfolding countEvidence
+file-counted limits file f h some =
+    let k = programs-counted (alone limits) file (f .procedures) (f .main) _ (h .programs) in
+    let x = past-head file 0 63 (wordCount file) some (h .count) (omega arith) in
+    let y = past-table file (f .procedures) (h .table) in
+    let z : from file 0 ≡ countEvidence file = refl in
+    record { counted = λ n e. let u = k .counted n e in omega (arith, x, y, z, u) }

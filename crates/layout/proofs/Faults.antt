@@ -35,8 +35,8 @@ past-bounds {A} {file} {at} {T} {r} h = record { bounds = go (r at) (h .past) }
 pub expression-bounds : (file : List ℕ) (d : ℕ) (j : Sort) (at : ℕ) → Bounds file at (expression file d j)
 expression-bounds file d j at = past-bounds (expression-past file d j at)
 
-pub command-bounds : (file : List ℕ) (d at : ℕ) → Bounds file at (command file d)
-command-bounds file d at = past-bounds (command-past file d at)
+pub command-bounds : (Γ : Context) (file : List ℕ) (d at : ℕ) → Bounds file at (command Γ file d)
+command-bounds Γ file d at = past-bounds (command-past file Γ d at)
 
 pub set-bounds : (Γ : Context) (file : List ℕ) (d at : ℕ) → Bounds file at (set Γ file d)
 set-bounds Γ file d at = past-bounds (set-past file Γ d at)

@@ -12,6 +12,8 @@
 --     BackEvidence       the same of evidence
 --     Faults             where readings end
 --     WholeFile          a whole file
+--     Resolved           calls that hold the bodies of their procedures
+--     Before             the context of a program that follows procedures
 --     Range              the words of evidence and of a file are in range
 --     Counted            the count of evidence words
 pub mod Words
@@ -25,5 +27,7 @@ pub mod Back
 pub mod BackEvidence
 pub mod Faults
 pub mod WholeFile
+pub mod Resolved
+pub mod Before
 pub mod Range
 pub mod Counted

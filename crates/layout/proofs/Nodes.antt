@@ -21,7 +21,7 @@ use lib.ListN.{length}
 use Rattle.language.specs.Syntax.{Operator, plus, minus, times, Comparison, equal, less, atMost}
 use Rattle.language.specs.Syntax.{constant, scalar, operation, select, compare, truth, and, or, neg}
 use Rattle.language.specs.Syntax.{array, zeros, update, toScalar, toArray}
-use Rattle.language.specs.Syntax.{skip, sequence, assert, assign, ifElse, while, for}
+use Rattle.language.specs.Syntax.{skip, sequence, assert, assign, ifElse, while, for, call}
 use Rattle.rules.specs.Words.{Word, word, forWord, words, commandWords}
 use Rattle.rules.specs.Words.{operatorPayload, comparisonPayload, truthPayload}
 use Rattle.rules.specs.Assertion.{Members}
@@ -134,14 +134,15 @@ node-law (expressionNode (neg b)) = one refl (λ d h. ((omega arith, refl, refl)
 node-law (expressionNode (array a)) = leaf-node refl (λ d h. (omega arith, refl, refl)) (λ d n h. h) refl
 node-law (expressionNode zeros) = leaf-node refl (λ d h. (omega arith, refl, refl)) (λ d n h. h) refl
 node-law (expressionNode (update a i b)) = three refl (λ d h. ((omega arith, refl, refl), h)) (λ n g. g) refl
-node-law (commandNode skip) = leaf-node refl (λ d h. (omega arith, refl, refl)) (λ d n h. h) refl
-node-law (commandNode (sequence c₁ c₂)) = two refl (λ d h. ((omega arith, refl, refl), h)) (λ n g. g) refl
-node-law (commandNode (assert b)) = one refl (λ d h. ((omega arith, refl, refl), h)) (λ d n h g. g) refl
-node-law (commandNode (assign (toScalar x e))) = one refl (λ d h. ((omega (arith, h .0), refl, refl), h .1)) (λ d n h g. (h .0, g)) refl
-node-law (commandNode (assign (toArray a e))) = one refl (λ d h. ((omega (arith, h .0), refl, refl), h .1)) (λ d n h g. (h .0, g)) refl
-node-law (commandNode (ifElse b c₁ c₂)) = three refl (λ d h. ((omega arith, refl, refl), h)) (λ n g. g) refl
-node-law (commandNode (while b c)) = two refl (λ d h. ((omega arith, refl, refl), h)) (λ n g. g) refl
-node-law (commandNode (for q m c)) = one refl (λ d h. h) (λ d n h g. (h .0, g)) refl
+node-law (commandNode Γ skip) = leaf-node refl (λ d h. (omega arith, refl, refl)) (λ d n h. h) refl
+node-law (commandNode Γ (sequence c₁ c₂)) = two refl (λ d h. ((omega arith, refl, refl), h)) (λ n g. g) refl
+node-law (commandNode Γ (assert b)) = one refl (λ d h. ((omega arith, refl, refl), h)) (λ d n h g. g) refl
+node-law (commandNode Γ (assign (toScalar x e))) = one refl (λ d h. ((omega (arith, h .0), refl, refl), h .1)) (λ d n h g. (h .0, g)) refl
+node-law (commandNode Γ (assign (toArray a e))) = one refl (λ d h. ((omega (arith, h .0), refl, refl), h .1)) (λ d n h g. (h .0, g)) refl
+node-law (commandNode Γ (ifElse b c₁ c₂)) = three refl (λ d h. ((omega arith, refl, refl), h)) (λ n g. g) refl
+node-law (commandNode Γ (while b c)) = two refl (λ d h. ((omega arith, refl, refl), h)) (λ n g. g) refl
+node-law (commandNode Γ (for q m c)) = one refl (λ d h. h) (λ d n h g. (h .0, g)) refl
+node-law (commandNode Γ (call n c)) = leaf-node refl (λ d h. (h .0, refl, refl)) (λ d n h. h) refl
 node-law (setNode Γ p) = record {
   spelling = ap (λ l. word 32 (pos (length p)) ∷ l) (members-words p);
   fits = λ d at h. ((h .0 .1, refl, refl), members-fit p d at (h .1));
@@ -153,7 +154,7 @@ node-law (setNode Γ p) = record {
 pub no-level : (x : Node) → FitsNode x zero → ⊥
 unfolding FitsExpression FitsCommand FitsSet
 no-level (expressionNode e) h = h
-no-level (commandNode c) h = h
+no-level (commandNode Γ c) h = h
 no-level (setNode Γ p) h = h
 
 -- what fits with some levels left fits with more

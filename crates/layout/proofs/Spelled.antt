@@ -66,8 +66,8 @@ module _ (file : List ℕ) where
   abbrev pub ExpressionSpelled : {j : Sort} → ℕ → ℕ → Expr j → ℕ → Type 0
   ExpressionSpelled d at e p = Stands file (words e) (FitsExpression e d) at p
 
-  abbrev pub CommandSpelled : ℕ → ℕ → Command → ℕ → Type 0
-  CommandSpelled d at c p = Stands file (commandWords c) (FitsCommand c d) at p
+  abbrev pub CommandSpelled : Context → ℕ → ℕ → Command → ℕ → Type 0
+  CommandSpelled Γ d at c p = Stands file (commandWords c) (FitsCommand Γ c d) at p
 
   -- a word's table: `part` reads operands, `a` is the law of `part`, and f is the word that was found
   module _ (d : ℕ) (part : (j : Sort) → Reader (Expr j))
@@ -114,8 +114,8 @@ module _ (file : List ℕ) where
     expression-word Boolean = boolean-word
     expression-word Array = array-word
 
-    module _ (body : Reader Command) (b : (q : ℕ) → Yields file q (CommandSpelled d q) body) where
-      command-word : Optional (λ r. Yields file (at + 1) (CommandSpelled (suc d) at) r) (commandWord part body k p)
+    module _ (Γ : Context) (body : Reader Command) (b : (q : ℕ) → Yields file q (CommandSpelled Γ d q) body) where
+      command-word : Optional (λ r. Yields file (at + 1) (CommandSpelled Γ (suc d) at) r) (commandWord Γ part body k p)
       unfolding commandWords FitsCommand
       command-word =
           entry k 24 (λ e. up-to 0 p _ λ h. start _ (after f e (none-left h) (alone tt)))
@@ -129,7 +129,8 @@ module _ (file : List ℕ) where
           start _ (λ _ _ s _ _ t. after f e (none-left h) (both s t)) ▹ a Boolean ▹ b)
           (entry k 31 (λ e. up-to 1023 p _ λ h.
           start _ (λ _ _ s. first (f .inside) (for-found f e) (too (for-range p h) s)) ▹ b)
-          nothing)))))))
+          (entry k 38 (λ e. something (start _ (after f e refl (alone (f .small, refl)))))
+          nothing))))))))
 
   pub expression-past : (d : ℕ) (j : Sort) (at : ℕ) → Past file at (ExpressionSpelled d at) (expression file d j)
   unfolding expression
@@ -138,13 +139,13 @@ module _ (file : List ℕ) where
       due-past at _ λ k p f.
       expression-word d (expression file d) (λ i q. past-yields (expression-past d i q)) at k p f j
 
-  pub command-past : (d at : ℕ) → Past file at (CommandSpelled d at) (command file d)
+  pub command-past : (Γ : Context) (d at : ℕ) → Past file at (CommandSpelled Γ d at) (command Γ file d)
   unfolding command
-  command-past zero at = level-past at _
-  command-past (suc d) at =
+  command-past Γ zero at = level-past at _
+  command-past Γ (suc d) at =
       due-past at _ λ k p f.
-      command-word d (expression file d) (λ i q. past-yields (expression-past d i q)) at k p f (command file d)
-      (λ q. past-yields (command-past d q))
+      command-word d (expression file d) (λ i q. past-yields (expression-past d i q)) at k p f Γ (command Γ file d)
+      (λ q. past-yields (command-past Γ d q))
 
   -- what a consequent makes of an antecedent
   abbrev ConsequentSpelled : ℕ → ℕ → (Expr Boolean → Member) → ℕ → Type 0

@@ -51,7 +51,7 @@ module _ (Γ : Context) (file : List ℕ) where
     item-yields : (x : Item) (q : ℕ) → Yields file q (TreeAt d q) (itemReader Γ file d child x)
     unfolding spelledTree FitsTree
     item-yields assertionItem q = start _ (λ φ p s. s) ▹ λ i. past-yields (expression-past file d Boolean i)
-    item-yields commandItem q = start _ (λ c p s. s) ▹ λ i. past-yields (command-past file d i)
+    item-yields commandItem q = start _ (λ c p s. s) ▹ λ i. past-yields (command-past file Γ d i)
     item-yields membersItem q = start _ (λ m p s. s) ▹ λ i. past-yields (set-past file Γ d i)
     item-yields (childItem j) q = start _ (λ k p s. s) ▹ known j
 

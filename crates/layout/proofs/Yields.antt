@@ -9,6 +9,7 @@
 --     past-yields, yields-map                             the weaker; of a weaker statement
 --     start, _▹_, several-yields, level-past, due-past    pure, _⊛_, several, noLevel, wordDue
 --     yields-here                                         the place at hand
+--     reach-here, then-yields                             a place reached from itself; a reading after another
 use mathlib.Core.Path.{_≡_, refl, ap}
 use mathlib.Core.Bool.{Bool, true, false, cond}
 use mathlib.Core.List.{List, [], _∷_}
@@ -20,8 +21,7 @@ use lib.Dec.{eqb, ltb, leb}
 use lib.ListN.{length}
 use Rattle.layout.specs.Bytes.{wordCount, kindAt, payloadAt}
 use Rattle.layout.specs.Reading.{Reading, read, fault, Reader, onRead, pure, _⊛_, several}
-use Rattle.layout.specs.Reading.{noLevel, allowed, wordDue, upTo, onOption}
-use Rattle.layout.specs.File.{here}
+use Rattle.layout.specs.Reading.{here, noLevel, allowed, wordDue, upTo, onOption}
 use Rattle.layout.proofs.Words.{WordFound, found-at}
 
 -- P holds of what is there
@@ -109,14 +109,14 @@ module _ {file : List ℕ} where
       let x = f (r .inside h) in
       record { least = x .least; most = x .most; from = omega (arith, r .from, x .from); inside = x .inside }
 
-  reach-here : (at : ℕ) → Reach file at at
+  pub reach-here : (at : ℕ) → Reach file at at
   reach-here at = record { from = omega arith; inside = λ k. k }
 
   pub start : {A : Type 0} {at : ℕ} {T : A → ℕ → Type 0} (a : A) → T a at → Yields file at T (pure a)
   start {at} a h = record { yields = (reach-here at, h) }
 
 -- a reading after another
-then-yields :
+pub then-yields :
     (file : List ℕ) {A B : Type 0} (U : A → ℕ → Type 0) (T : B → ℕ → Type 0) (at : ℕ) (x : Reading A)
     (f : A → ℕ → Reading B) →
     YieldsBy file at U x → ((a : A) (q : ℕ) → U a q → YieldsBy file q T (f a q)) → YieldsBy file at T (onRead x f)

@@ -26,9 +26,6 @@ pub record Part : Type 1 where
 abbrev pub expressionPart : {k : Sort} → Expr k → Part
 expressionPart e = record { spelling = words e; fits = λ d at. FitsExpression e d }
 
-abbrev pub commandPart : Command → Part
-commandPart c = record { spelling = commandWords c; fits = λ d at. FitsCommand c d }
-
 unfoldable pub joined : List Part → List Word
 joined [] = []
 joined (x ∷ l) = x .spelling ++ joined l
@@ -48,6 +45,9 @@ spelledTree done = []
 spelledTree (x & t) = spelledTree x ++ spelledTree t
 
 module _ (Γ : Context) where
+  abbrev pub commandPart : Command → Part
+  commandPart c = record { spelling = commandWords c; fits = λ d at. FitsCommand Γ c d }
+
   abbrev pub setPart : Members → Part
   setPart p = record { spelling = setWords p; fits = λ d at. FitsSet Γ p d }
 
@@ -56,7 +56,7 @@ module _ (Γ : Context) where
   FitsTree (by r i t) zero at = ⊥
   FitsTree (by r i t) (suc d) at = (i ≡ at) × FitsTree t d (at + 1)
   FitsTree (assertion φ) d at = FitsExpression φ d
-  FitsTree (command c) d at = FitsCommand c d
+  FitsTree (command c) d at = FitsCommand Γ c d
   FitsTree (members p) d at = FitsSet Γ p d
   FitsTree (child k) d at = FitsTree k d at
   FitsTree done d at = Unit {0}

@@ -2,11 +2,9 @@
 -- Trusted. Assumes nothing.
 --     steady                  a `for` that has neither, by its q, m and body
 --     unsteady, unsteadyAt    what was read is a `for` that has one of them; such a `for` stands at a place
---     firstUnsteady           the first place, of so many from a place on, where such a `for` stands
 use mathlib.Core.Bool.{Bool, true, false, not, _&&_}
 use mathlib.Core.List.{List}
-use mathlib.Core.Option.{Option, none, some}
-use Prim.Native.Nat.{ℕ, zero, suc}
+use Prim.Native.Nat.{ℕ}
 use lib.Dec.{eqb}
 use Rattle.language.specs.Syntax.{Command}
 use Rattle.language.specs.Modifies.{scalarOf, modifies}
@@ -25,12 +23,7 @@ abbrev pub unsteady : Reading Command → Bool
 unsteady (read c p) = onFor c false λ q m c₁. not (steady q m c₁)
 unsteady (fault n p) = false
 
--- in a file that was read, the words of kind 31 are its `for`s, those of its program and those that evidence carries
+-- in a file that was read, the words of kind 31 are its `for`s, those of its programs and those that evidence carries
 unfoldable pub unsteadyAt : Context → List ℕ → ℕ → Bool
 unsteadyAt Γ file at =
-    elim (eqb (kindAt file at) 31) [ true ↦ unsteady (command file (Γ .limits .depth) at) | false ↦ false ]
-
-unfoldable pub firstUnsteady : Context → List ℕ → ℕ → ℕ → Option ℕ
-firstUnsteady Γ file zero at = none
-firstUnsteady Γ file (suc n) at =
-    elim (unsteadyAt Γ file at) [ true ↦ some at | false ↦ firstUnsteady Γ file n (suc at) ]
+    elim (eqb (kindAt file at) 31) [ true ↦ unsteady (command Γ file (Γ .limits .depth) at) | false ↦ false ]

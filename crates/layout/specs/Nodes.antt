@@ -16,7 +16,7 @@ use lib.IntN.{ℤ, pos}
 use lib.ListN.{length}
 use Rattle.language.specs.Syntax.{Sort, Expr, constant, scalar, operation, select, compare, truth, and, or, neg}
 use Rattle.language.specs.Syntax.{array, zeros, update, toScalar, toArray}
-use Rattle.language.specs.Syntax.{Command, skip, sequence, assert, assign, ifElse, while, for}
+use Rattle.language.specs.Syntax.{Command, skip, sequence, assert, assign, ifElse, while, for, call}
 use Rattle.rules.specs.Words.{Word, word, forWord, words, commandWords}
 use Rattle.rules.specs.Words.{operatorPayload, comparisonPayload, truthPayload}
 use Rattle.rules.specs.Assertion.{Members}
@@ -27,17 +27,17 @@ use Rattle.layout.specs.EvidenceWords.{Part}
 
 pub data Node : Type 0 where
   expressionNode : {k : Sort} → Expr k → Node
-  commandNode : Command → Node
+  commandNode : Context → Command → Node
   setNode : Context → Members → Node
 
 abbrev pub nodeWords : Node → List Word
 nodeWords (expressionNode e) = words e
-nodeWords (commandNode c) = commandWords c
+nodeWords (commandNode Γ c) = commandWords c
 nodeWords (setNode Γ p) = setWords p
 
 abbrev pub FitsNode : Node → ℕ → Type 0
 FitsNode (expressionNode e) d = FitsExpression e d
-FitsNode (commandNode c) d = FitsCommand c d
+FitsNode (commandNode Γ c) d = FitsCommand Γ c d
 FitsNode (setNode Γ p) d = FitsSet Γ p d
 
 abbrev pub nodePart : Node → Part
@@ -61,14 +61,15 @@ shape (expressionNode (neg b)) = (word 12 (pos 0), expressionNode b ∷ [])
 shape (expressionNode (array a)) = (word 16 (pos a), [])
 shape (expressionNode zeros) = (word 17 (pos 0), [])
 shape (expressionNode (update h i a)) = (word 18 (pos 0), expressionNode h ∷ expressionNode i ∷ expressionNode a ∷ [])
-shape (commandNode skip) = (word 24 (pos 0), [])
-shape (commandNode (sequence c d)) = (word 25 (pos 0), commandNode c ∷ commandNode d ∷ [])
-shape (commandNode (assert b)) = (word 26 (pos 0), expressionNode b ∷ [])
-shape (commandNode (assign (toScalar x e))) = (word 27 (pos x), expressionNode e ∷ [])
-shape (commandNode (assign (toArray a e))) = (word 28 (pos a), expressionNode e ∷ [])
-shape (commandNode (ifElse b c d)) = (word 29 (pos 0), expressionNode b ∷ commandNode c ∷ commandNode d ∷ [])
-shape (commandNode (while b c)) = (word 30 (pos 0), expressionNode b ∷ commandNode c ∷ [])
-shape (commandNode (for q m c)) = (forWord q m, commandNode c ∷ [])
+shape (commandNode Γ skip) = (word 24 (pos 0), [])
+shape (commandNode Γ (sequence c d)) = (word 25 (pos 0), commandNode Γ c ∷ commandNode Γ d ∷ [])
+shape (commandNode Γ (assert b)) = (word 26 (pos 0), expressionNode b ∷ [])
+shape (commandNode Γ (assign (toScalar x e))) = (word 27 (pos x), expressionNode e ∷ [])
+shape (commandNode Γ (assign (toArray a e))) = (word 28 (pos a), expressionNode e ∷ [])
+shape (commandNode Γ (ifElse b c d)) = (word 29 (pos 0), expressionNode b ∷ commandNode Γ c ∷ commandNode Γ d ∷ [])
+shape (commandNode Γ (while b c)) = (word 30 (pos 0), expressionNode b ∷ commandNode Γ c ∷ [])
+shape (commandNode Γ (for q m c)) = (forWord q m, commandNode Γ c ∷ [])
+shape (commandNode Γ (call n c)) = (word 38 (pos n), [])
 shape (setNode Γ p) = (word 32 (pos (length p)), halves p)
 
 abbrev pub headOf : Node → Word

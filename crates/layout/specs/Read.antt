@@ -1,4 +1,4 @@
--- Expressions, commands and sets, read at a place with so many levels left (document 01, "Layout").
+-- Expressions, commands and sets, read at a place with so many levels left (document 01, "Layout"; document 02, request [3]).
 -- Trusted. Assumes nothing.
 --     operatorOf, comparisonOf, truthOf        payloads of kinds 3, 8 and 9
 --     arithmeticWord, booleanWord, arrayWord   the layout's lists, by kind and payload
@@ -15,7 +15,7 @@ use Rattle.language.specs.Syntax.{Sort, Arithmetic, Boolean, Array, Expr, const
 use Rattle.language.specs.Syntax.{compare, truth, and, or, neg, array, zeros, update, toScalar, toArray}
 use Rattle.language.specs.Syntax.{Command, skip, sequence, assert, assign, ifElse, while, for}
 use Rattle.rules.specs.Assertion.{Member, Members, member}
-use Rattle.rules.specs.Context.{Context}
+use Rattle.rules.specs.Context.{Context, called}
 use Rattle.layout.specs.Bytes.{kindAt, signed}
 use Rattle.layout.specs.Reading.{Reader, pure, _⊛_, several, noLevel, wordDue, allow, upTo, onOption}
 
@@ -63,10 +63,10 @@ unfoldable pub expression : List ℕ → ℕ → (j : Sort) → Reader (Expr j)
 expression file zero j at = noLevel file at
 expression file (suc d) j at = wordDue file (λ _ k p. expressionWord (λ i q. expression file d i q) j k p) at
 
--- `part j` reads an operand, `body` a command
+-- `part j` reads an operand, `body` a command; a call of any number is read
 abbrev pub commandWord :
-    ((j : Sort) → Reader (Expr j)) → Reader Command → ℕ → ℕ → Option (Reader Command)
-commandWord part body k p = allow k (
+    Context → ((j : Sort) → Reader (Expr j)) → Reader Command → ℕ → ℕ → Option (Reader Command)
+commandWord Γ part body k p = allow k (
     (24, upTo 0 p (pure skip))
     ∷ (25, upTo 0 p (pure sequence ⊛ body ⊛ body))
     ∷ (26, upTo 0 p (pure assert ⊛ part Boolean))
@@ -75,12 +75,13 @@ commandWord part body k p = allow k (
     ∷ (29, upTo 0 p (pure ifElse ⊛ part Boolean ⊛ body ⊛ body))
     ∷ (30, upTo 0 p (pure while ⊛ part Boolean ⊛ body))
     ∷ (31, upTo 1023 p (pure (for (p % 32) (p / 32)) ⊛ body))
+    ∷ (38, some (pure (called Γ p)))
     ∷ [])
 
-unfoldable pub command : List ℕ → ℕ → Reader Command
-command file zero at = noLevel file at
-command file (suc d) at =
-    wordDue file (λ _ k p. commandWord (expression file d) (λ q. command file d q) k p) at
+unfoldable pub command : Context → List ℕ → ℕ → Reader Command
+command Γ file zero at = noLevel file at
+command Γ file (suc d) at =
+    wordDue file (λ _ k p. commandWord Γ (expression file d) (λ q. command Γ file d q) k p) at
 
 -- the sort of an expression by its first word's kind; a word of no expression is refused as arithmetic refuses it
 abbrev pub sortOf : ℕ → Sort

@@ -30,7 +30,7 @@ ruleOf n (r ∷ l) = cond (eqb n (r .number)) (some r) (ruleOf n l)
 module _ (Γ : Context) (file : List ℕ) (d : ℕ) (child : (j : Judgement) → Reader (Evidence j)) where
   abbrev pub itemReader : (x : Item) → Reader (Tree (item x))
   itemReader assertionItem = pure tree.assertion ⊛ expression file d Boolean
-  itemReader commandItem = pure tree.command ⊛ command file d
+  itemReader commandItem = pure tree.command ⊛ command Γ file d
   itemReader membersItem = pure tree.members ⊛ set Γ file d
   itemReader (childItem j) = pure tree.child ⊛ child j
 

@@ -2,11 +2,13 @@
 -- Trusted. Assumes nothing.
 --     Reading, Reader      what was read with the place after it, or a refusal's number and place
 --     onRead, pure, _⊛_    going on from what was read; what takes no word; a reader, and then the next part
+--     here                 the place at hand, read as a part
 --     several              the same part so many times
 --     noLevel, wordDue     a word that is due too deep; a word that is due
 --     allowed, allow       a word that may stand there; the entry of a table
 --     upTo, onOption       a payload up to a bound; an entry made of another
-use mathlib.Core.Bool.{true, false, cond}
+--     firstPlace           the first place, of so many from a place on, that passes a test
+use mathlib.Core.Bool.{Bool, true, false, cond}
 use mathlib.Core.List.{List, [], _∷_}
 use mathlib.Core.Option.{Option, none, some}
 use Prim.Native.Nat.{ℕ, zero, suc, _+_}
@@ -26,6 +28,10 @@ onRead (fault n p) f = fault n p
 
 abbrev pub pure : {A : Type 0} → A → Reader A
 pure a at = read a at
+
+-- the place at hand
+abbrev pub here : Reader ℕ
+here at = read at at
 
 infixl 50 _⊛_
 unfoldable pub _⊛_ : {A B : Type 0} → Reader (A → B) → Reader A → Reader B
@@ -62,3 +68,7 @@ upTo n p a = cond (leb p n) (some a) none
 abbrev pub onOption : {A B : Type 0} → Option A → (A → B) → Option B
 onOption none f = none
 onOption (some a) f = some (f a)
+
+unfoldable pub firstPlace : (ℕ → Bool) → ℕ → ℕ → Option ℕ
+firstPlace test zero at = none
+firstPlace test (suc n) at = elim (test at) [ true ↦ some at | false ↦ firstPlace test n (suc at) ]

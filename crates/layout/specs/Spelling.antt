@@ -13,10 +13,10 @@ use lib.IntN.{ℤ, pos, negsuc}
 use lib.ListN.{length}
 use Rattle.language.specs.Syntax.{Sort, Expr, constant, scalar, operation, select, compare, truth, and, or, neg}
 use Rattle.language.specs.Syntax.{array, zeros, update, toScalar, toArray}
-use Rattle.language.specs.Syntax.{Command, skip, sequence, assert, assign, ifElse, while, for}
+use Rattle.language.specs.Syntax.{Command, skip, sequence, assert, assign, ifElse, while, for, call}
 use Rattle.rules.specs.Words.{Word, word, forWord, words}
 use Rattle.rules.specs.Assertion.{Member, Members}
-use Rattle.rules.specs.Context.{Context}
+use Rattle.rules.specs.Context.{Context, itemAt, bodyOf}
 use Rattle.layout.specs.Bytes.{wordCount, numberAt, payloads}
 
 -- two's complement in 26 bits
@@ -52,16 +52,17 @@ FitsExpression (array a) (suc d) = a ≤ 31
 FitsExpression zeros (suc d) = Unit {0}
 FitsExpression (update h i a) (suc d) = FitsExpression h d × (FitsExpression i d × FitsExpression a d)
 
-unfoldable pub FitsCommand : Command → ℕ → Type 0
-FitsCommand c zero = ⊥
-FitsCommand skip (suc d) = Unit {0}
-FitsCommand (sequence c₁ c₂) (suc d) = FitsCommand c₁ d × FitsCommand c₂ d
-FitsCommand (assert b) (suc d) = FitsExpression b d
-FitsCommand (assign (toScalar x e)) (suc d) = (x ≤ 31) × FitsExpression e d
-FitsCommand (assign (toArray a e)) (suc d) = (a ≤ 31) × FitsExpression e d
-FitsCommand (ifElse b c₁ c₂) (suc d) = FitsExpression b d × (FitsCommand c₁ d × FitsCommand c₂ d)
-FitsCommand (while b c) (suc d) = FitsExpression b d × FitsCommand c d
-FitsCommand (for q m c) (suc d) = ((q ≤ 31) × (m ≤ 31)) × FitsCommand c d
+unfoldable pub FitsCommand : Context → Command → ℕ → Type 0
+FitsCommand Γ c zero = ⊥
+FitsCommand Γ skip (suc d) = Unit {0}
+FitsCommand Γ (sequence c₁ c₂) (suc d) = FitsCommand Γ c₁ d × FitsCommand Γ c₂ d
+FitsCommand Γ (assert b) (suc d) = FitsExpression b d
+FitsCommand Γ (assign (toScalar x e)) (suc d) = (x ≤ 31) × FitsExpression e d
+FitsCommand Γ (assign (toArray a e)) (suc d) = (a ≤ 31) × FitsExpression e d
+FitsCommand Γ (ifElse b c₁ c₂) (suc d) = FitsExpression b d × (FitsCommand Γ c₁ d × FitsCommand Γ c₂ d)
+FitsCommand Γ (while b c) (suc d) = FitsExpression b d × FitsCommand Γ c d
+FitsCommand Γ (for q m c) (suc d) = ((q ≤ 31) × (m ≤ 31)) × FitsCommand Γ c d
+FitsCommand Γ (call p c) (suc d) = (p < payloads) × (c ≡ bodyOf (itemAt (Γ .procedures) p))
 
 abbrev pub memberWords : Member → List Word
 memberWords m = words (m .antecedent) ++ words (m .consequent)

@@ -35,7 +35,7 @@ carried-known Γ file ends d at end o (assertion φ₁ & assertion φ₂ & t) (a
 module _ {file ends : List ℕ} {Γ : Context} {f c g at : ℕ} (can : CanTry file ends Γ 20 (Pre f c g) at) where
   pub if-fails : (kindAt file c ≡ 29 → ⊥) → StepOf file ends Γ (Pre f c g) at Fails
   unfolding preRule
-  if-fails h = misfit-rule can pre20 λ φ φ′ e t y. other-than-if misfit e _ (other-kind y h)
+  if-fails h = misfit-rule can pre20 λ φ φ′ e t y. other-than-if Γ misfit e _ (other-kind y h)
 
   module _ (h : kindAt file c ≡ 29) {q : ℕ} (i : q ≡ endAt ends (at + 1)) where
     pub can-split : CanSplit file ends f (c + 1) (at + 1) q

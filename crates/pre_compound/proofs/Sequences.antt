@@ -20,7 +20,7 @@ use Rattle.pre_compound.proofs.Goal.{misfit-rule}
 module _ {file ends : List ℕ} {Γ : Context} {f c g at : ℕ} (can : CanTry file ends Γ 23 (Pre f c g) at) where
   pub sequence-fails : (kindAt file c ≡ 25 → ⊥) → StepOf file ends Γ (Pre f c g) at Fails
   unfolding preRule
-  sequence-fails h = misfit-rule can pre23 λ φ φ′ e t y. other-than-sequence misfit e _ (other-kind y h)
+  sequence-fails h = misfit-rule can pre23 λ φ φ′ e t y. other-than-sequence Γ misfit e _ (other-kind y h)
 
   pub sequence-rule : kindAt file c ≡ 25 → StepOf file ends Γ (Pre f c g) at Passes
   unfolding preRule judge byForm

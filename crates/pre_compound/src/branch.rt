@@ -8,7 +8,7 @@ use words::kinds::IF;
 use words::kinds::KIND;
 ghost use mathlib.Core.Path.{_≡_};
 ghost use Prim.Native.Nat.{_<_};
-ghost use Rattle.context.specs.Contexts.{contextOf};
+ghost use Rattle.context.specs.Contexts.{contextIn};
 ghost use Rattle.goals.specs.Children.{childAt};
 ghost use Rattle.goals.specs.Goals.{CanTry, StepOf};
 ghost use Rattle.goals.specs.declared.Goal.the-variants.{Pre};
@@ -23,8 +23,8 @@ pub fn rule_20(
     c: usize,
     g: usize,
 ) -> Condition
-    requires { ⌜ CanTry (now w) (now ends) (contextOf context) 20 (Pre f c g) «at» ⌝ }
-    ensures { λ r. ⌜ StepOf (now (w .entry)) (now (ends .entry)) (contextOf context) (Pre f c g) «at» r ⌝ }
+    requires { ⌜ CanTry (now w) (now ends) (contextIn context (now w)) 20 (Pre f c g) «at» ⌝ }
+    ensures { λ r. ⌜ StepOf (now (w .entry)) (now (ends .entry)) (contextIn context (now (w .entry))) (Pre f c g) «at» r ⌝ }
 {
     if w[c] / KIND != IF {
         return Condition::Fails;
@@ -35,9 +35,9 @@ pub fn rule_20(
 }
 
 // Its children: (φ1, C1, φ'), (φ2, C2, φ').
-pub fn child_20(ends: &[u32], at: usize, f: usize, c: usize, g: usize, k: usize) -> Goal
+pub fn child_20(w: &[u32], ends: &[u32], at: usize, f: usize, c: usize, g: usize, k: usize) -> Goal
     requires { ⌜ («at» < 8192) × (c < 8192) × (k < 2) ⌝ }
-    ensures { λ r. ⌜ r ≡ childAt (now (ends .entry)) (Pre f c g) 20 «at» k ⌝ }
+    ensures { λ r. ⌜ r ≡ childAt (now (w .entry)) (now (ends .entry)) (Pre f c g) 20 «at» k ⌝ }
 {
     let first = end_or_zero(ends, c + 1);
     if k == 0 {

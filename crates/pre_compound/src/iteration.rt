@@ -12,7 +12,7 @@ use words::kinds::KIND;
 use words::kinds::WHILE;
 ghost use mathlib.Core.Path.{_≡_};
 ghost use Prim.Native.Nat.{_<_};
-ghost use Rattle.context.specs.Contexts.{contextOf};
+ghost use Rattle.context.specs.Contexts.{contextIn};
 ghost use Rattle.goals.specs.Children.{childAt};
 ghost use Rattle.goals.specs.Goals.{CanTry, StepOf};
 ghost use Rattle.goals.specs.declared.Goal.the-variants.{Pre};
@@ -55,8 +55,8 @@ pub fn rule_21(
     c: usize,
     g: usize,
 ) -> Condition
-    requires { ⌜ CanTry (now w) (now ends) (contextOf context) 21 (Pre f c g) «at» ⌝ }
-    ensures { λ r. ⌜ StepOf (now (w .entry)) (now (ends .entry)) (contextOf context) (Pre f c g) «at» r ⌝ }
+    requires { ⌜ CanTry (now w) (now ends) (contextIn context (now w)) 21 (Pre f c g) «at» ⌝ }
+    ensures { λ r. ⌜ StepOf (now (w .entry)) (now (ends .entry)) (contextIn context (now (w .entry))) (Pre f c g) «at» r ⌝ }
 {
     if w[c] / KIND != WHILE {
         return Condition::Fails;
@@ -65,9 +65,9 @@ pub fn rule_21(
 }
 
 // Its child: (φ0, C1, φ).
-pub fn child_21(ends: &[u32], at: usize, f: usize, c: usize, g: usize, k: usize) -> Goal
+pub fn child_21(w: &[u32], ends: &[u32], at: usize, f: usize, c: usize, g: usize, k: usize) -> Goal
     requires { ⌜ («at» < 8192) × (c < 8192) × (k < 1) ⌝ }
-    ensures { λ r. ⌜ r ≡ childAt (now (ends .entry)) (Pre f c g) 21 «at» k ⌝ }
+    ensures { λ r. ⌜ r ≡ childAt (now (w .entry)) (now (ends .entry)) (Pre f c g) 21 «at» k ⌝ }
 {
     let body = end_or_zero(ends, c + 1);
     Goal::Pre(at + 1, body, f)
@@ -83,8 +83,8 @@ pub fn rule_30(
     c: usize,
     g: usize,
 ) -> Condition
-    requires { ⌜ CanTry (now w) (now ends) (contextOf context) 30 (Pre f c g) «at» ⌝ }
-    ensures { λ r. ⌜ StepOf (now (w .entry)) (now (ends .entry)) (contextOf context) (Pre f c g) «at» r ⌝ }
+    requires { ⌜ CanTry (now w) (now ends) (contextIn context (now w)) 30 (Pre f c g) «at» ⌝ }
+    ensures { λ r. ⌜ StepOf (now (w .entry)) (now (ends .entry)) (contextIn context (now (w .entry))) (Pre f c g) «at» r ⌝ }
 {
     if w[c] / KIND != FOR {
         return Condition::Fails;
@@ -93,9 +93,9 @@ pub fn rule_30(
 }
 
 // Its child: (φ, D, φ').
-pub fn child_30(ends: &[u32], at: usize, f: usize, c: usize, g: usize, k: usize) -> Goal
+pub fn child_30(w: &[u32], ends: &[u32], at: usize, f: usize, c: usize, g: usize, k: usize) -> Goal
     requires { ⌜ («at» < 8192) × (k < 1) ⌝ }
-    ensures { λ r. ⌜ r ≡ childAt (now (ends .entry)) (Pre f c g) 30 «at» k ⌝ }
+    ensures { λ r. ⌜ r ≡ childAt (now (w .entry)) (now (ends .entry)) (Pre f c g) 30 «at» k ⌝ }
 {
     Goal::Pre(f, at + 1, g)
 }

@@ -6,7 +6,7 @@ use words::kinds::KIND;
 use words::kinds::SEQUENCE;
 ghost use mathlib.Core.Path.{_≡_};
 ghost use Prim.Native.Nat.{_<_};
-ghost use Rattle.context.specs.Contexts.{contextOf};
+ghost use Rattle.context.specs.Contexts.{contextIn};
 ghost use Rattle.goals.specs.Children.{childAt};
 ghost use Rattle.goals.specs.Goals.{CanTry, StepOf};
 ghost use Rattle.goals.specs.declared.Goal.the-variants.{Pre};
@@ -21,8 +21,8 @@ pub fn rule_23(
     c: usize,
     g: usize,
 ) -> Condition
-    requires { ⌜ CanTry (now w) (now ends) (contextOf context) 23 (Pre f c g) «at» ⌝ }
-    ensures { λ r. ⌜ StepOf (now (w .entry)) (now (ends .entry)) (contextOf context) (Pre f c g) «at» r ⌝ }
+    requires { ⌜ CanTry (now w) (now ends) (contextIn context (now w)) 23 (Pre f c g) «at» ⌝ }
+    ensures { λ r. ⌜ StepOf (now (w .entry)) (now (ends .entry)) (contextIn context (now (w .entry))) (Pre f c g) «at» r ⌝ }
 {
     if w[c] / KIND != SEQUENCE {
         return Condition::Fails;
@@ -31,9 +31,9 @@ pub fn rule_23(
 }
 
 // Its children: (φ, C1, φ1), (φ1, C2, φ').
-pub fn child_23(ends: &[u32], at: usize, f: usize, c: usize, g: usize, k: usize) -> Goal
+pub fn child_23(w: &[u32], ends: &[u32], at: usize, f: usize, c: usize, g: usize, k: usize) -> Goal
     requires { ⌜ («at» < 8192) × (c < 8192) × (k < 2) ⌝ }
-    ensures { λ r. ⌜ r ≡ childAt (now (ends .entry)) (Pre f c g) 23 «at» k ⌝ }
+    ensures { λ r. ⌜ r ≡ childAt (now (w .entry)) (now (ends .entry)) (Pre f c g) 23 «at» k ⌝ }
 {
     let middle = at + 1;
     if k == 0 {

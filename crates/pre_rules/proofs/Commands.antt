@@ -32,7 +32,7 @@ module _ {file ends : List ℕ} {Γ : Context} {f c g at : ℕ} where
   module _ (can : CanTry file ends Γ 22 (Pre f c g) at) where
     pub skip-fails : (kindAt file c ≡ 24 → ⊥) → StepOf file ends Γ (Pre f c g) at Fails
     unfolding preRule
-    skip-fails h = leaf-rule can pre22 refl λ φ φ′ e x y z. other-than-skip misfit e _ (other-kind y h)
+    skip-fails h = leaf-rule can pre22 refl λ φ φ′ e x y z. other-than-skip Γ misfit e _ (other-kind y h)
 
     pub skip-rule : kindAt file c ≡ 24 → {b : Bool} → SameAssertionAt file ends f g b → {r : Condition} → r ≡ conditionOf b →
         StepOf file ends Γ (Pre f c g) at r
@@ -53,7 +53,7 @@ module _ {file ends : List ℕ} {Γ : Context} {f c g at : ℕ} where
   module _ (can : CanTry file ends Γ 24 (Pre f c g) at) where
     pub scalar-fails : (kindAt file c ≡ 27 → ⊥) → StepOf file ends Γ (Pre f c g) at Fails
     unfolding preRule
-    scalar-fails h = leaf-rule can pre24 refl λ φ φ′ e x y z. other-than-scalar misfit e _ (other-kind y h)
+    scalar-fails h = leaf-rule can pre24 refl λ φ φ′ e x y z. other-than-scalar Γ misfit e _ (other-kind y h)
 
     module _ (h : kindAt file c ≡ 27) where
       pub can-scalar : CanReplace file ends f g (c + 1)
@@ -75,7 +75,7 @@ module _ {file ends : List ℕ} {Γ : Context} {f c g at : ℕ} where
   module _ (can : CanTry file ends Γ 25 (Pre f c g) at) where
     pub array-fails : (kindAt file c ≡ 28 → ⊥) → StepOf file ends Γ (Pre f c g) at Fails
     unfolding preRule
-    array-fails h = leaf-rule can pre25 refl λ φ φ′ e x y z. other-than-array misfit e _ (other-kind y h)
+    array-fails h = leaf-rule can pre25 refl λ φ φ′ e x y z. other-than-array Γ misfit e _ (other-kind y h)
 
     module _ (h : kindAt file c ≡ 28) where
       pub can-array : CanReplace file ends f g (c + 1)
@@ -97,7 +97,7 @@ module _ {file ends : List ℕ} {Γ : Context} {f c g at : ℕ} where
   module _ (can : CanTry file ends Γ 26 (Pre f c g) at) where
     pub assert-fails : (kindAt file c ≡ 26 → ⊥) → StepOf file ends Γ (Pre f c g) at Fails
     unfolding preRule
-    assert-fails h = leaf-rule can pre26 refl λ φ φ′ e x y z. other-than-assert misfit e _ (other-kind y h)
+    assert-fails h = leaf-rule can pre26 refl λ φ φ′ e x y z. other-than-assert Γ misfit e _ (other-kind y h)
 
     module _ (h : kindAt file c ≡ 26) where
       pub can-join : CanJoin file ends f g (c + 1)

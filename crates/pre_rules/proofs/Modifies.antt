@@ -28,4 +28,4 @@ module _ {file ends : List ℕ} {Γ : Context} {f c g at : ℕ} (can : CanTry fi
       StepOf file ends Γ (Pre f c g) at r
   unfolding preRule
   kept-rule h kept i = leaf-rule can pre27 refl λ φ φ′ e x y z.
-      ap childless (then-passes _ (sym (same .is φ φ′ x z) ∙ h) ∙ sym (tested i (kept .expression φ e x y)))
+      ap childless (then-passes _ (sym (same .is φ φ′ x z) ∙ h) ∙ sym (tested i (kept .expression Γ (can .can .procedures) φ e x y)))

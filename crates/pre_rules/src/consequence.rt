@@ -6,7 +6,7 @@ use pre_compound::condition::is_true;
 use rule_laws::imply::implies_at;
 ghost use mathlib.Core.Path.{_≡_};
 ghost use Prim.Native.Nat.{_<_};
-ghost use Rattle.context.specs.Contexts.{contextOf};
+ghost use Rattle.context.specs.Contexts.{contextIn};
 ghost use Rattle.goals.specs.Children.{childAt};
 ghost use Rattle.goals.specs.Goals.{CanTry, StepOf};
 ghost use Rattle.goals.specs.declared.Goal.the-variants.{Pre};
@@ -21,16 +21,16 @@ pub fn rule_28(
     c: usize,
     g: usize,
 ) -> Condition
-    requires { ⌜ CanTry (now w) (now ends) (contextOf context) 28 (Pre f c g) «at» ⌝ }
-    ensures { λ r. ⌜ StepOf (now (w .entry)) (now (ends .entry)) (contextOf context) (Pre f c g) «at» r ⌝ }
+    requires { ⌜ CanTry (now w) (now ends) (contextIn context (now w)) 28 (Pre f c g) «at» ⌝ }
+    ensures { λ r. ⌜ StepOf (now (w .entry)) (now (ends .entry)) (contextIn context (now (w .entry))) (Pre f c g) «at» r ⌝ }
 {
     implies_at(w, ends, context, at + 1, f)
 }
 
 // Its child: (φ1, C, φ').
-pub fn child_28(ends: &[u32], at: usize, f: usize, c: usize, g: usize, k: usize) -> Goal
+pub fn child_28(w: &[u32], ends: &[u32], at: usize, f: usize, c: usize, g: usize, k: usize) -> Goal
     requires { ⌜ («at» < 8192) × (k < 1) ⌝ }
-    ensures { λ r. ⌜ r ≡ childAt (now (ends .entry)) (Pre f c g) 28 «at» k ⌝ }
+    ensures { λ r. ⌜ r ≡ childAt (now (w .entry)) (now (ends .entry)) (Pre f c g) 28 «at» k ⌝ }
 {
     Goal::Pre(at + 1, c, g)
 }
@@ -45,8 +45,8 @@ pub fn rule_29(
     c: usize,
     g: usize,
 ) -> Condition
-    requires { ⌜ CanTry (now w) (now ends) (contextOf context) 29 (Pre f c g) «at» ⌝ }
-    ensures { λ r. ⌜ StepOf (now (w .entry)) (now (ends .entry)) (contextOf context) (Pre f c g) «at» r ⌝ }
+    requires { ⌜ CanTry (now w) (now ends) (contextIn context (now w)) 29 (Pre f c g) «at» ⌝ }
+    ensures { λ r. ⌜ StepOf (now (w .entry)) (now (ends .entry)) (contextIn context (now (w .entry))) (Pre f c g) «at» r ⌝ }
 {
     condition(is_true(w, ends, f))
 }

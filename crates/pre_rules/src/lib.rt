@@ -1,11 +1,14 @@
-// The rules of necessary preconditions (document 01, rules 20 to 30), tried at an evidence word of kind 35; those of
+// The rules of necessary preconditions (document 01, rules 20 to 30; document 02, rule 32), tried at an evidence word of kind 35; those of
 // compound commands are in `pre_compound`. All take the same, also what a rule does not ask for: the file, its ends,
 // the context, the place of the evidence word, and the places f, c and g of the assertion, the command and the other
 // assertion.
 pub mod command; // rules 22, 24, 25 and 26: commands of one step
 pub mod unmodified; // rule 27: what a command does not modify
 pub mod consequence; // rules 28 and 29: a stronger assertion, and true
+pub mod call; // rule 32
 
+use call::child_32;
+use call::rule_32;
 use command::rule_22;
 use command::rule_24;
 use command::rule_25;
@@ -27,12 +30,11 @@ use pre_compound::sequence::rule_23;
 use unmodified::rule_27;
 use words::kinds::KIND;
 ghost use mathlib.Core.Path.{_≡_};
-ghost use Prim.Native.Nat.{_<_};
-ghost use lib.ListN.{length};
-ghost use Rattle.context.specs.Contexts.{contextOf};
-ghost use Rattle.goals.specs.Children.{childrenAt, childAt};
+ghost use Rattle.context.specs.Contexts.{contextIn};
+ghost use Rattle.goals.specs.Children.{childAt};
 ghost use Rattle.goals.specs.Goals.{CanStep, StepOf};
 ghost use Rattle.goals.specs.declared.Goal.the-variants.{Pre};
+ghost use Rattle.pre_compound.specs.Children.{CanPreChild};
 
 // What the conditions of the rule of the evidence word at `at` come to.
 pub fn pre_condition(
@@ -44,8 +46,8 @@ pub fn pre_condition(
     c: usize,
     g: usize,
 ) -> Condition
-    requires { ⌜ CanStep (now w) (now ends) (contextOf context) (Pre f c g) «at» ⌝ }
-    ensures { λ r. ⌜ StepOf (now (w .entry)) (now (ends .entry)) (contextOf context) (Pre f c g) «at» r ⌝ }
+    requires { ⌜ CanStep (now w) (now ends) (contextIn context (now w)) (Pre f c g) «at» ⌝ }
+    ensures { λ r. ⌜ StepOf (now (w .entry)) (now (ends .entry)) (contextIn context (now (w .entry))) (Pre f c g) «at» r ⌝ }
 {
     let rule = w[at] % KIND;
     match rule {
@@ -59,21 +61,32 @@ pub fn pre_condition(
         27 => rule_27(w, ends, context, at, f, c, g),
         28 => rule_28(w, ends, context, at, f, c, g),
         29 => rule_29(w, ends, context, at, f, c, g),
+        30 => rule_30(w, ends, context, at, f, c, g),
         // a reader lets no other rule pass
-        _ => rule_30(w, ends, context, at, f, c, g),
+        _ => rule_32(w, ends, context, at, f, c, g),
     }
 }
 
 // The goal of child k of a rule that has children.
-pub fn pre_child(ends: &[u32], rule: u32, at: usize, f: usize, c: usize, g: usize, k: usize) -> Goal
-    requires { ⌜ («at» < 8192) × (c < 8192) × (k < length (childrenAt (now ends) (Pre f c g) rule «at»)) ⌝ }
-    ensures { λ r. ⌜ r ≡ childAt (now (ends .entry)) (Pre f c g) rule «at» k ⌝ }
+pub fn pre_child(
+    w: &[u32],
+    ends: &[u32],
+    rule: u32,
+    at: usize,
+    f: usize,
+    c: usize,
+    g: usize,
+    k: usize,
+) -> Goal
+    requires { ⌜ CanPreChild (now w) (now ends) rule f c g «at» k ⌝ }
+    ensures { λ r. ⌜ r ≡ childAt (now (w .entry)) (now (ends .entry)) (Pre f c g) rule «at» k ⌝ }
 {
     match rule {
-        20 => child_20(ends, at, f, c, g, k),
-        21 => child_21(ends, at, f, c, g, k),
-        23 => child_23(ends, at, f, c, g, k),
-        28 => child_28(ends, at, f, c, g, k),
-        _ => child_30(ends, at, f, c, g, k),
+        20 => child_20(w, ends, at, f, c, g, k),
+        21 => child_21(w, ends, at, f, c, g, k),
+        23 => child_23(w, ends, at, f, c, g, k),
+        28 => child_28(w, ends, at, f, c, g, k),
+        30 => child_30(w, ends, at, f, c, g, k),
+        _ => child_32(w, ends, at, f, c, g, k),
     }
 }

@@ -3,7 +3,7 @@ use goals::condition;
 use implication::Condition;
 use rule_laws::kept::is_kept;
 use rule_laws::same::is_same_assertion;
-ghost use Rattle.context.specs.Contexts.{contextOf};
+ghost use Rattle.context.specs.Contexts.{contextIn};
 ghost use Rattle.goals.specs.Goals.{CanTry, StepOf};
 ghost use Rattle.goals.specs.declared.Goal.the-variants.{Pre};
 
@@ -17,8 +17,8 @@ pub fn rule_27(
     c: usize,
     g: usize,
 ) -> Condition
-    requires { ⌜ CanTry (now w) (now ends) (contextOf context) 27 (Pre f c g) «at» ⌝ }
-    ensures { λ r. ⌜ StepOf (now (w .entry)) (now (ends .entry)) (contextOf context) (Pre f c g) «at» r ⌝ }
+    requires { ⌜ CanTry (now w) (now ends) (contextIn context (now w)) 27 (Pre f c g) «at» ⌝ }
+    ensures { λ r. ⌜ StepOf (now (w .entry)) (now (ends .entry)) (contextIn context (now (w .entry))) (Pre f c g) «at» r ⌝ }
 {
     if !is_same_assertion(w, ends, f, g) {
         return Condition::Fails;

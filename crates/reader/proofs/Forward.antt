@@ -8,14 +8,14 @@ use mathlib.Core.List.{List}
 use Prim.Native.Nat.{ℕ, _-_, _<_, _≤_}
 use native.Mathlib.Omega.{arith}
 use Rattle.language.specs.Syntax.{Sort}
-use Rattle.rules.specs.Context.{Context}
+use Rattle.rules.specs.Context.{Context, alone, standard}
 use Rattle.rules.specs.Evidence.{Item, assertionItem, commandItem, membersItem, childItem}
 use Rattle.layout.specs.Bytes.{wordCount}
 use Rattle.layout.specs.Reading.{Reading, read, fault, Reader}
-use Rattle.layout.specs.Read.{expression, command}
+use Rattle.layout.specs.Read.{expression}
 use Rattle.layout.proofs.Faults.{Bounds, BoundsBy, expression-bounds, command-bounds, set-bounds}
 use Rattle.layout.proofs.Faults.{evidence-bounds}
-use Rattle.reader.specs.Walk.{walkOf, onward, dueOf}
+use Rattle.reader.specs.Walk.{walkOf, onward, commandWalk, dueOf}
 use Rattle.reader.specs.Items.{itemWalk}
 use Rattle.reader.specs.declared.Walk.{Walk}
 use Rattle.reader.specs.declared.Walk.the-variants.{Next, Refused}
@@ -41,7 +41,7 @@ walk-left {A} {file} {at} {r} h = go (r at) (h .bounds)
 pub item-left : (Γ : Context) (file : List ℕ) (d : ℕ) (x : Item) (p : ℕ) →
     wordsLeft file (itemWalk Γ file d x p) ≤ wordCount file - p
 item-left Γ file d assertionItem p = walk-left (expression-bounds file d _ p)
-item-left Γ file d commandItem p = walk-left (command-bounds file d p)
+item-left Γ file d commandItem p = walk-left (command-bounds Γ file d p)
 item-left Γ file d membersItem p = walk-left (set-bounds Γ file d p)
 item-left Γ file d (childItem j) p = walk-left (evidence-bounds Γ file d j p)
 
@@ -64,5 +64,5 @@ module _ {file : List ℕ} {n : ℕ} {r s : Walk} (h : Fewer file s n) (d : ℕ)
   pub expression-left : (j : Sort) → r ≡ onward s (λ p. walkOf (expression file d j p)) → Fewer file r n
   expression-left j e = rw e (onward-left _ (λ p. walk-left (expression-bounds file d j p)) s h)
 
-  pub command-left : r ≡ onward s (λ p. walkOf (command file d p)) → Fewer file r n
-  command-left e = rw e (onward-left _ (λ p. walk-left (command-bounds file d p)) s h)
+  pub command-left : r ≡ onward s (λ p. commandWalk file d p) → Fewer file r n
+  command-left e = rw e (onward-left _ (λ p. walk-left (command-bounds (alone standard) file d p)) s h)

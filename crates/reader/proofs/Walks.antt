@@ -19,7 +19,8 @@ use borrow.Author.Tests.{ltb-true, lt-ltb, le-ltb}
 use lib.Dec.{eqb, ltb}
 use Rattle.language.specs.Syntax.{Arithmetic, Boolean, Array, Expr, Command}
 use Rattle.rules.specs.Assertion.{Members}
-use Rattle.rules.specs.Context.{Context}
+use Rattle.rules.specs.Context as context
+use Rattle.rules.specs.Context.{Context, standard}
 use Rattle.rules.specs.Evidence.{Judgement, Row, rules, by, Evidence}
 use Rattle.layout.specs.Bytes.{wordCount, kindAt, payloadAt}
 use Rattle.layout.specs.Reading.{Reading, read, fault, Reader, onRead, pure, _⊛_, several, noLevel, allowed}
@@ -32,7 +33,7 @@ use Rattle.words.specs.Rows.{ruleDue}
 use Rattle.words.proofs.Tables.{arithmetic-of, boolean-of, array-of, command-of}
 use Rattle.context.specs.Contexts.{refusal}
 use Rattle.context.specs.declared.Refusal.{Refusal}
-use Rattle.reader.specs.Walk.{walkOf, onward, dueOf, onDue, after}
+use Rattle.reader.specs.Walk.{walkOf, onward, commandWalk, dueOf, onDue, after}
 use Rattle.reader.specs.declared.Walk.{Walk}
 use Rattle.reader.specs.declared.Walk.the-variants.{Next, Refused}
 use Rattle.reader.specs.declared.FirstWord.{FirstWord}
@@ -175,14 +176,16 @@ module _ (file : List ℕ) where
   }
 
   pub command-goes : (d at : ℕ) →
-      GoesBy (walkOf (command file d at)) file d at commandOf
-      (λ b w. commandMeaning (expression file b) (command file b) w)
+      GoesBy (commandWalk file d at) file d at commandOf
+      (λ b w. commandMeaning (context.alone standard) (expression file b) (command (context.alone standard) file b) w)
   unfolding command
   command-goes zero at = record { goes = level-walk Command file at _ }
   command-goes (suc d) at = record {
     goes =
-        due-walk file d at _ commandOf (λ b w. commandMeaning (expression file b) (command file b) w)
-        (command-of (expression file d) (kindAt file at) (payloadAt file at) (command file d));
+        due-walk file d at _ commandOf
+        (λ b w. commandMeaning (context.alone standard) (expression file b) (command (context.alone standard) file b) w)
+        (command-of (expression file d) (kindAt file at) (payloadAt file at) (context.alone standard)
+        (command (context.alone standard) file d));
   }
 
   module _ (Γ : Context) where

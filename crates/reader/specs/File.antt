@@ -1,47 +1,50 @@
--- The places of a file's parts, and refusals 2 to 6 (document 01, "Judging order").
--- Working: `words-read` of proofs/Whole says that the layout's `wordsRead` is `readOf`, then refusal 7.
---     placesOf                           the places of a file that was read
---     fromPre, fromPost, fromEvidence    the parts from there on
---     ended, endOf                       6, of a file and of its places
---     headed, readOf                     2; 2 to 6
+-- The places of a file's parts, and refusals 2 to 6 (document 01, "Judging order"; document 02, request [3]).
+-- Working: `words-read` of proofs/Whole says that the layout's `wordsRead` is `readOf`, then refusals 16 and 7.
+--     placesOf                the places of the main program, of a file that was read
+--     startsFrom, startsOf    where procedures and a main program start
+--     StartsRoom, Located     room for the starts; what the reader answers, and leaves in that room
+--     ended, endOf            6, of a file and of its places
+--     headed, readOf          2; 2 to 6
+--     Headed                  what is asked of word 0
+use mathlib.Core.Path.{_≡_}
 use mathlib.Core.Bool.{Bool, true, false, cond}
-use mathlib.Core.List.{List}
-use Prim.Native.Nat.{ℕ, _+_, _*_}
+use mathlib.Core.List.{List, [], _∷_}
+use Prim.Native.Nat.{ℕ, _+_, _*_, _<_, _≤_}
 use lib.Dec.{eqb, ltb}
-use Rattle.rules.specs.Context.{Context}
-use Rattle.rules.specs.Evidence.{flow}
+use lib.ListN.{length, take}
+use Rattle.rules.specs.Context.{Limits}
 use Rattle.layout.specs.Bytes.{wordCount, numberAt, payloads}
 use Rattle.layout.specs.Reading.{Reading, read, fault, onRead}
-use Rattle.layout.specs.Read.{set}
-use Rattle.layout.specs.ReadEvidence.{evidence}
+use Rattle.layout.specs.Program.{Program}
 use Rattle.layout.specs.File as file
 use Rattle.context.specs.Contexts.{refusal}
-use Rattle.reader.specs.Walk.{walkOf}
-use Rattle.reader.specs.declared.Walk.{Walk}
-use Rattle.reader.specs.declared.Walk.the-variants as Walk
-use Rattle.reader.specs.declared.Places.{Places}
+use Rattle.reader.specs.Program.{places}
 use Rattle.reader.specs.declared.Layout.{Layout}
 use Rattle.reader.specs.declared.Layout.the-variants.{Found, Refused}
 
-abbrev pub places : ℕ → ℕ → ℕ → ℕ → Places
-places a b c d = record { pre = a; post = b; evidence = c; end = d }
-
 abbrev pub placesOf : Reading file.File → Layout
-placesOf (read f p) = Found (places (f .preAt) (f .postAt) (f .evidenceAt) p)
+placesOf (read f p) = Found (places (f .main .start) (f .main .preAt) (f .main .postAt) (f .main .evidenceAt) p)
 placesOf (fault n p) = Refused (refusal n p)
 
-abbrev pub byWalk : Walk → (ℕ → Layout) → Layout
-byWalk (Walk.Next p) f = f p
-byWalk (Walk.Refused x) f = Refused x
+abbrev pub startsFrom : List Program → Program → List ℕ
+startsFrom [] f = f .start ∷ []
+startsFrom (g ∷ l) f = g .start ∷ startsFrom l f
 
-abbrev pub fromEvidence : Context → List ℕ → ℕ → ℕ → ℕ → Layout
-fromEvidence Γ w a b c = byWalk (walkOf (evidence Γ w (Γ .limits .depth) flow c)) λ d. Found (places a b c d)
+-- the procedures in their order, then the main program
+abbrev pub startsOf : file.File → List ℕ
+startsOf f = startsFrom (f .procedures) (f .main)
 
-abbrev pub fromPost : Context → List ℕ → ℕ → ℕ → Layout
-fromPost Γ w a b = byWalk (walkOf (set Γ w (Γ .limits .depth) b)) λ c. fromEvidence Γ w a b c
+-- of so many procedures and the main program, from `at` on
+pub record StartsRoom (w starts : List ℕ) (count at : ℕ) : Type 0 where
+  pub inside : at ≤ wordCount w
+  pub few : wordCount w < payloads
+  pub room : count < length starts
 
-abbrev pub fromPre : Context → List ℕ → ℕ → Layout
-fromPre Γ w a = byWalk (walkOf (set Γ w (Γ .limits .depth) a)) λ b. fromPost Γ w a b
+-- x is what is read; `before` and `after` are the room that was lent for the starts
+pub record Located (x : Reading file.File) (before after : List ℕ) (r : Layout) : Type 0 where
+  pub places : r ≡ placesOf x
+  pub size : length after ≡ length before
+  pub starts : (f : file.File) (p : ℕ) → x ≡ read f p → take (length (startsOf f)) after ≡ startsOf f
 
 unfoldable pub ended : List ℕ → file.File → ℕ → Reading file.File
 ended w f p = elim (ltb p (wordCount w)) [ true ↦ fault 6 p | false ↦ read f p ]
@@ -55,9 +58,15 @@ endOf w (Refused x) = Refused x
 abbrev pub headed : List ℕ → Bool
 headed w = eqb (numberAt w 0) (63 * payloads + wordCount w)
 
-unfoldable pub readOf : Context → List ℕ → Reading file.File
-readOf Γ w =
+unfoldable pub readOf : Limits → List ℕ → Reading file.File
+readOf limits w =
     elim (headed w) [
-      | true ↦ onRead (file.parts Γ w) (ended w)
+      | true ↦ onRead (file.parts limits w) (ended w)
       | false ↦ fault 2 0
     ]
+
+-- 63:n is a number of 32 bits, so there are fewer words than payloads
+pub record Headed (w : List ℕ) (r : Bool) : Type 0 where
+  pub is : r ≡ headed w
+  pub few : r ≡ true → wordCount w < payloads
+  pub some : r ≡ true → 0 < wordCount w

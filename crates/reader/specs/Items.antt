@@ -16,7 +16,7 @@ use Rattle.reader.specs.declared.Walk.{Walk}
 
 abbrev pub itemWalk : Context → List ℕ → ℕ → Item → ℕ → Walk
 itemWalk Γ file d assertionItem p = walkOf (expression file d Boolean p)
-itemWalk Γ file d commandItem p = walkOf (command file d p)
+itemWalk Γ file d commandItem p = walkOf (command Γ file d p)
 itemWalk Γ file d membersItem p = walkOf (set Γ file d p)
 itemWalk Γ file d (childItem j) p = walkOf (evidence Γ file d j p)
 

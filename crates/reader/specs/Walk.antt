@@ -3,6 +3,7 @@
 -- tie them to the layout's readers.
 --     sortMeant              the definitions' sorts
 --     walkOf, onward         the place past what was read; a walk from where another goes on
+--     commandWalk            of a command, under any context: `command-walk` of proofs/Contexts
 --     dueOf, onDue           the word that is due, with refusals 3 and 4; a walk by it
 --     after                  what a table gives at the word, with refusal 5
 use mathlib.Core.Bool.{cond}
@@ -11,8 +12,10 @@ use mathlib.Core.Option.{Option, none, some}
 use Prim.Native.Nat.{ℕ, zero, suc, _+_}
 use lib.Dec.{ltb}
 use Rattle.language.specs.Syntax as syntax
+use Rattle.rules.specs.Context.{alone, standard}
 use Rattle.layout.specs.Bytes.{wordCount, kindAt, payloadAt}
 use Rattle.layout.specs.Reading.{Reading, read, fault, Reader}
+use Rattle.layout.specs.Read.{command}
 use Rattle.context.specs.Contexts.{refusal}
 use Rattle.reader.specs.declared.Walk.{Walk}
 use Rattle.reader.specs.declared.Walk.the-variants.{Next, Refused}
@@ -33,6 +36,9 @@ walkOf (fault n p) = Refused (refusal n p)
 abbrev pub onward : Walk → (ℕ → Walk) → Walk
 onward (Next p) f = f p
 onward (Refused x) f = Refused x
+
+abbrev pub commandWalk : List ℕ → ℕ → ℕ → Walk
+commandWalk file d at = walkOf (command (alone standard) file d at)
 
 unfoldable pub dueOf : List ℕ → ℕ → ℕ → FirstWord
 dueOf file zero at = cond (ltb at (wordCount file)) (Stop (refusal 4 at)) (Stop (refusal 3 (wordCount file)))

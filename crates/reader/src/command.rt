@@ -10,11 +10,10 @@ use context::Refusal;
 use words::CommandWord;
 use words::decode::command_word;
 ghost use mathlib.Core.Path.{_≡_};
-ghost use Rattle.layout.specs.Read.{command};
-ghost use Rattle.reader.specs.Walk.{walkOf, onward};
+ghost use Rattle.reader.specs.Walk.{onward, commandWalk};
 
 pub fn read_command(w: &[u32], at: usize, left: usize) -> Walk
-    ensures { λ r. ⌜ r ≡ walkOf (command (now (w .entry)) left at) ⌝ }
+    ensures { λ r. ⌜ r ≡ commandWalk (now (w .entry)) left at ⌝ }
 {
     let d = word_due(w, at, left);
     match d {
@@ -37,6 +36,7 @@ pub fn read_command(w: &[u32], at: usize, left: usize) -> Walk
                     read_body(w, test, below)
                 }
                 CommandWord::For(_, _) => read_body(w, from, below),
+                CommandWord::Call(_) => from,
                 CommandWord::Other => Walk::Refused(Refusal {
                     number: 5,
                     place: at,
@@ -48,7 +48,7 @@ pub fn read_command(w: &[u32], at: usize, left: usize) -> Walk
 
 // A command that is a part, from where the walk so far goes on.
 fn read_body(w: &[u32], from: Walk, left: usize) -> Walk
-    ensures { λ r. ⌜ r ≡ onward from (λ p. walkOf (command (now (w .entry)) left p)) ⌝ }
+    ensures { λ r. ⌜ r ≡ onward from (λ p. commandWalk (now (w .entry)) left p) ⌝ }
 {
     match from {
         Walk::Next(at) => read_command(w, at, left),

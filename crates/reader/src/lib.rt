@@ -1,4 +1,4 @@
-// Refusals 2 to 6 (document 01, "Judging order"), over the words of a file.
+// Refusals 2 to 6 (document 01, "Judging order"; document 02, request [3]), over the words of a file.
 use context::Refusal;
 
 pub mod word; // word.rt: the word that is due at a place
@@ -7,6 +7,7 @@ pub mod expression; // expression.rt: the three sorts of expressions
 pub mod command; // command.rt: commands
 pub mod set; // set.rt: members and sets
 pub mod evidence; // evidence.rt: evidence
+pub mod program; // program.rt: a program, with its contract and evidence
 pub mod file; // file.rt: a whole file
 
 // Where a walk goes on, or the refusal.
@@ -28,15 +29,16 @@ pub enum Sort {
     Array,
 }
 
-// The places of a file's parts: its command is at 1, and the evidence ends at `end`.
+// The places of a program's parts, those of a file's main program too: its command is at `start`, and the evidence ends at `end`.
 pub struct Places {
+    pub start: usize,
     pub pre: usize,
     pub post: usize,
     pub evidence: usize,
     pub end: usize,
 }
 
-// The places of a file that was read, or the refusal.
+// The places of a program that was read, or the refusal.
 pub enum Layout {
     Found(Places),
     Refused(Refusal),

@@ -3,6 +3,7 @@ use super::FirstWord;
 use super::Sort;
 use super::Walk;
 use super::expression::read_operand;
+use super::word::kind_at;
 use super::word::word_due;
 use context::Context;
 use context::Refusal;
@@ -37,11 +38,7 @@ fn sort_of(kind: u32) -> Sort
 fn sort_at(w: &[u32], at: usize) -> Sort
     ensures { λ r. ⌜ sortMeant r ≡ sortOf (kindAt (now (w .entry)) at) ⌝ }
 {
-    if at < w.len() {
-        sort_of(words::decode::kind(w[at]))
-    } else {
-        sort_of(0)
-    }
+    sort_of(kind_at(w, at))
 }
 
 // An expression of any sort.

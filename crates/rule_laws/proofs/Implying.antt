@@ -4,7 +4,7 @@
 --     assertion-known        an assertion's place is in the list of ends
 --     can-imply              a call of `implies` for two assertions
 --     implies-at             what it answers
-use mathlib.Core.Path.{_≡_, refl, sym, subst}
+use mathlib.Core.Path.{_≡_, sym, subst}
 use mathlib.Core.List.{List}
 use Prim.Native.Nat.{ℕ}
 use native.Mathlib.Omega.{arith}
@@ -34,9 +34,9 @@ module _ {file ends : List ℕ} where
   pub assertion-known : {at : ℕ} → EndsOf file ends → ExpressionAt file ends Boolean at → PartKnown file ends at
   assertion-known o x = node-known o (x .there)
 
-  module _ {Γ : Context} {a b p q : ℕ} (e : p ≡ endAt ends a) (h : q ≡ endAt ends b) where
-    pub can-imply : CanImplyAt file ends Γ a b →
-        CanImply file (One a p) (One b q) (Γ .limits .comparisons)
+  module _ {Γ : Context} {a b p q limit : ℕ} (l : Γ .limits .comparisons ≡ limit) (e : p ≡ endAt ends a)
+      (h : q ≡ endAt ends b) where
+    pub can-imply : CanImplyAt file ends Γ a b → CanImply file (One a p) (One b q) limit
     can-imply c = record {
       φ = c .left .tree;
       ψ = c .right .tree;
@@ -45,9 +45,8 @@ module _ {file ends : List ℕ} where
       leftStands = deep e (c .left .there);
       rightStands = deep h (c .right .there);
       size = c .size;
-      few = c .few;
+      few = omega (arith, c .few);
     }
 
-    pub implies-at : {r : Condition} → Implied file (One a p) (One b q) (Γ .limits .comparisons) r →
-        ImpliesAt file ends Γ a b r
-    implies-at i = record { is = λ φ ψ x y. i .is φ ψ 256 256 (deep e x) (deep h y) Γ refl }
+    pub implies-at : {r : Condition} → Implied file (One a p) (One b q) limit r → ImpliesAt file ends Γ a b r
+    implies-at i = record { is = λ φ ψ x y. i .is φ ψ 256 256 (deep e x) (deep h y) Γ l }

@@ -5,16 +5,23 @@ use mathlib.Core.Path.{_≡_, subst}
 use mathlib.Core.Bool.{Bool}
 use mathlib.Core.List.{List}
 use Prim.Native.Nat.{ℕ}
-use Rattle.scan.specs.Scan.{Modified, Unmarked}
+use Rattle.language.specs.Syntax.{Command}
+use Rattle.rules.specs.Context.{Context}
+use Rattle.ends.specs.Mask.{ModifiedBy}
 use Rattle.ends.specs.Places.{endAt}
+use Rattle.ends.specs.Procedures.{Procedures}
+use Rattle.scan.specs.Scan.{Modified, Unmarked}
+use Rattle.goals.specs.Resolved.{ResolvedAt}
 use Rattle.rule_laws.specs.Sameness.{KeptAt}
 
-pub kept-at : {file ends : List ℕ} {e c past to mask : ℕ} {r : Bool} → past ≡ endAt ends c → Modified file c past mask →
+pub kept-at : {file ends : List ℕ} {e c past to mask : ℕ} {r : Bool} → past ≡ endAt ends c → Modified file ends c past mask →
     to ≡ endAt ends e → Unmarked file e to mask r → KeptAt file ends e c r
 kept-at {file} {ends} {e} {c} {past} {to} {mask} {r} f m g u =
-    let marks = subst (λ p. Modified file c p mask) f m in
+    let marks = subst (λ p. Modified file ends c p mask) f m in
     let test = subst (λ p. Unmarked file e p mask r) g u in
+    let modifies : (Γ : Context) → Procedures file ends Γ → (p : Command) → ResolvedAt file ends Γ p c → ModifiedBy p mask =
+    λ Γ k p y. marks .command Γ k p (y .there .levels) (y .there .stands) (y .resolved) in
     record {
-      expression = λ d p x y. test .expression d (x .levels) (x .stands) p (marks .command p (y .levels) (y .stands));
-      set = λ Γ q p x y. test .set Γ q (x .levels) (x .stands) p (marks .command p (y .levels) (y .stands));
+      expression = λ Γ k d p x y. test .expression d (x .levels) (x .stands) p (modifies Γ k p y);
+      set = λ Γ k q p x y. test .set Γ q (x .levels) (x .stands) p (modifies Γ k p y);
     }

@@ -10,6 +10,7 @@ use native.Mathlib.Omega.{arith}
 use lib.IntN.{pos}
 use Rattle.language.specs.Syntax.{Command}
 use Rattle.language.specs.Runs.{meaning}
+use Rattle.rules.specs.Context.{Context}
 use Rattle.rules.specs.Words.{Word, word, words, commandWords}
 use Rattle.layout.specs.Bytes.{payloadAt, wordOf}
 use Rattle.layout.specs.Nodes.{commandNode, InRange, AllInRange}
@@ -82,14 +83,14 @@ next-in-range : (q : ℕ) → q ≤ 31 → AllInRange (nextWords q)
 next-in-range q g =
     ((omega arith, refl, refl), ((omega arith, refl, refl), ((omega arith, refl, refl), ((omega arith, refl, refl), tt))))
 
-in-range : {file ends : List ℕ} {c : ℕ} (q m : ℕ) (e : Command) → ForParts file ends c q m e →
+in-range : {file ends : List ℕ} {Γ : Context} {c : ℕ} (q m : ℕ) (e : Command) → ForParts file ends Γ c q m e →
     AllInRange (commandWords (meaning q m e))
-in-range q m e x =
+in-range {Γ = Γ} q m e x =
     let y = x .body-at in
     rw meaning-words
     (in-range-append (startWords q m) (commandWords e ++ nextWords q)
     (start-in-range q m (x .counter-small) (x .bound-small))
-    (in-range-append (commandWords e) (nextWords q) (node-range (y .levels) (commandNode e) (y .stands .fit))
+    (in-range-append (commandWords e) (nextWords q) (node-range (y .levels) (commandNode Γ e) (y .stands .fit))
     (next-in-range q (x .counter-small))))
 
 module _ {file ends : List ℕ} {d c : ℕ} (o : EndsOf file ends) where
@@ -97,7 +98,7 @@ module _ {file ends : List ℕ} {d c : ℕ} (o : EndsOf file ends) where
       (s : start ≡ matched file (cursor true d) (startNumbers (payloadAt file c % 32) (payloadAt file c / 32)))
       (b : body ≡ matched file start (part file ends (c + 1)))
       (n : next ≡ matched file body (nextNumbers (payloadAt file c % 32))) where
-    means : (q m : ℕ) (e : Command) → ForParts file ends c q m e →
+    means : {Γ : Context} (q m : ℕ) (e : Command) → ForParts file ends Γ c q m e →
         WordsMatched file (cursor true d) (commandWords (meaning q m e)) next
     means q m e x =
         let i = ap (λ n. n % 32) (x .payload) ∙ for-first q m (x .counter-small) in
@@ -115,7 +116,7 @@ module _ {file ends : List ℕ} {d c : ℕ} (o : EndsOf file ends) where
 
     pub meaning-at : {r : Bool} → r ≡ came next (endAt ends d) → MeaningAt file ends d c r
     meaning-at h = record {
-      is = λ e q m a x y.
+      is = λ Γ e q m a x y.
           let parts = parts-of-for o y in
           h ∙ same-command x (in-range q m a parts) (means q m a parts);
     }

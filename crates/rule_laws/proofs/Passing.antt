@@ -10,6 +10,7 @@ use mathlib.Core.List.{List, _++_}
 use Prim.Native.Nat.{ℕ}
 use native.Mathlib.Omega.{arith}
 use Rattle.language.specs.Syntax.{Command}
+use Rattle.rules.specs.Context.{Context}
 use Rattle.rules.specs.Words.{Word, commandWords, sameWords}
 use Rattle.layout.specs.Nodes.{commandNode, AllInRange}
 use Rattle.layout.proofs.Nodes.{node-range}
@@ -42,22 +43,22 @@ module _ {file : List ℕ} where
         ∙ ap (matched file m) (sym (numbers-append k l));
   }
 
-  pub passes-command : {ends : List ℕ} {m n : Match} {c : Command} {a : ℕ} → n ≡ matched file m (part file ends a) →
-      CommandAt file ends c a → WordsMatched file m (commandWords c) n
-  passes-command {ends} {m} {c = c} {a} h x = record {
+  pub passes-command : {ends : List ℕ} {Γ : Context} {m n : Match} {c : Command} {a : ℕ} → n ≡ matched file m (part file ends a) →
+      CommandAt file ends Γ c a → WordsMatched file m (commandWords c) n
+  passes-command {ends} {m = m} {c = c} {a} h x = record {
     is = h ∙ ap (matched file m) (stands-between file a (commandWords c) (endAt ends a) (x .stands .stand));
   }
 
 module _ {file ends : List ℕ} where
-  pub same-command : {c : Command} {at : ℕ} {l : List Word} {m : Match} → CommandAt file ends c at →
+  pub same-command : {Γ : Context} {c : Command} {at : ℕ} {l : List Word} {m : Match} → CommandAt file ends Γ c at →
       AllInRange l → WordsMatched file (cursor true at) l m → came m (endAt ends at) ≡ sameWords (commandWords c) l
-  same-command {c} {at} {l} {m} x f p =
+  same-command {Γ} {c} {at} {l} {m} x f p =
       let i = node-inside x in
       let s = i .start in
       came-same file m (numbers l) at (endAt ends at) (omega arith) (i .within) (p .is)
       ∙ ap (λ k. sameNumbers k (numbers l)) (stands-between file at (commandWords c) (endAt ends at) (x .stands .stand))
       ∙ numbers-same (commandWords c) l
-      (numbers-tell (commandWords c) l (node-range (x .levels) (commandNode c) (x .stands .fit)) f)
+      (numbers-tell (commandWords c) l (node-range (x .levels) (commandNode Γ c) (x .stands .fit)) f)
 
   module _ {f g : ℕ} where
     pub can-assertion : CanSame file ends f g → CanAntecedent file ends f (Written g)

@@ -23,6 +23,8 @@ use Rattle.rules.specs.Words.{commandWords, sameWords}
 use Rattle.layout.specs.Bytes.{wordOf}
 use Rattle.ends.specs.Ends.{EndsOf}
 use Rattle.ends.specs.Places.{WrittenAt, CommandAt, SetAt, PartKnown}
+use Rattle.ends.specs.Procedures.{Procedures}
+use Rattle.goals.specs.Resolved.{ResolvedAt}
 
 -- 25:0 27:q 1:1 30:0 8:2 2:q 2:m 25:0
 unfoldable pub startNumbers : ℕ → ℕ → List ℕ
@@ -54,8 +56,8 @@ module _ (file ends : List ℕ) where
     pub body : PartKnown file ends (c + 1)
 
   pub record MeaningAt (d c : ℕ) (r : Bool) : Type 0 where
-    pub is : (e : Command) (q m : ℕ) (body : Command) → CommandAt file ends e d → CommandAt file ends (for q m body) c →
-        r ≡ sameWords (commandWords e) (commandWords (meaning q m body))
+    pub is : (Γ : Context) (e : Command) (q m : ℕ) (body : Command) → CommandAt file ends Γ e d →
+        CommandAt file ends Γ (for q m body) c → r ≡ sameWords (commandWords e) (commandWords (meaning q m body))
 
   pub record CanKeep (e c : ℕ) : Type 0 where
     pub ends-of : EndsOf file ends
@@ -63,7 +65,7 @@ module _ (file ends : List ℕ) where
     pub command : PartKnown file ends c
 
   pub record KeptAt (e c : ℕ) (r : Bool) : Type 0 where
-    pub expression : {k : Sort} (d : Expr k) (p : Command) → WrittenAt file ends d e → CommandAt file ends p c →
-        r ≡ unmodified (identifiers d) p
-    pub set : (Γ : Context) (q : Members) (p : Command) → SetAt file ends Γ q e → CommandAt file ends p c →
-        r ≡ unmodified (setIdentifiers q) p
+    pub expression : (Γ : Context) → Procedures file ends Γ → {k : Sort} (d : Expr k) (p : Command) → WrittenAt file ends d e →
+        ResolvedAt file ends Γ p c → r ≡ unmodified (identifiers d) p
+    pub set : (Γ : Context) → Procedures file ends Γ → (q : Members) (p : Command) → SetAt file ends Γ q e →
+        ResolvedAt file ends Γ p c → r ≡ unmodified (setIdentifiers q) p

@@ -3,3 +3,4 @@
 pub mod same; // sameness of what stands at two places
 pub mod kept; // what a command does not modify
 pub mod imply; // implications between written assertions
+pub mod called; // the procedure that a call names

@@ -9,19 +9,19 @@ use mathlib.Core.Option.{Option, none, some}
 use Prim.Native.Nat.{ℕ, suc, _+_}
 use native.Mathlib.Omega.{arith}
 use Rattle.language.specs.Syntax.{Arithmetic, Boolean, Array, Expr, toScalar, toArray}
-use Rattle.language.specs.Syntax.{Command, skip, sequence, assert, assign, ifElse, while, for}
+use Rattle.language.specs.Syntax.{Command, skip, sequence, assert, assign, ifElse, while, for, call}
 use Rattle.rules.specs.Assertion.{Member, Members}
-use Rattle.rules.specs.Context.{Context}
+use Rattle.rules.specs.Context.{Context, itemAt}
 use Rattle.rules.specs.Sets.{operands}
 use Rattle.rules.specs.Evidence.{Judgement, flow, implication, precondition, Item, assertionItem, commandItem}
 use Rattle.rules.specs.Evidence.{membersItem, childItem, Rule, Standing, evidence, item, items, Tree, by}
 use Rattle.rules.specs.Evidence.{assertion, command, members, child, done, _&_, Parts, FlowEvidence, SetEvidence}
 use Rattle.rules.specs.Evidence.{PreEvidence, flow1, flow2, flow3, flow4, flow5, flow6, flow7, flow8, flow9}
-use Rattle.rules.specs.Evidence.{flow10, flow11, flow12, flow13, flow14, set13, set14, set15, set16, set17, set18}
+use Rattle.rules.specs.Evidence.{flow10, flow11, flow12, flow13, flow14, flow31, set13, set14, set15, set16, set17, set18}
 use Rattle.rules.specs.Evidence.{set19, pre20, pre21, pre22, pre23, pre24, pre25, pre26, pre27, pre28, pre29}
-use Rattle.rules.specs.Evidence.{pre30}
+use Rattle.rules.specs.Evidence.{pre30, pre32}
 use Rattle.rules.specs.Condition.{Result, passes, fails, tooLarge, byForm, onSkip, onSequence, onAssert, onScalar}
-use Rattle.rules.specs.Condition.{onArray, onIf, onWhile, onFor, onEmpty, onOne, onSome}
+use Rattle.rules.specs.Condition.{onArray, onIf, onWhile, onFor, onCall, onEmpty, onOne, onSome}
 use Rattle.rules.specs.Judge.{Verdict, accepted, refused, oneMore, _also_, RuleStep, step, misfit, childless, judgeWord}
 use Rattle.rules.specs.Judge.{Judge, GivenItem, GivenItems, Given, applied, preRule, setRule, flowRule, judge}
 
@@ -113,56 +113,61 @@ module _ {H : ℕ → Type 0} {P : Verdict → ℕ → Type 0} (holding : Holdin
     form-holds : (c : Command) {s : RuleStep} {q : Command → Command → RuleStep} {t : Expr Boolean → RuleStep}
         {x : ℕ → Expr Arithmetic → RuleStep} {a : ℕ → Expr Array → RuleStep}
         {f : Expr Boolean → Command → Command → RuleStep} {w : Expr Boolean → Command → RuleStep}
-        {o : ℕ → ℕ → Command → RuleStep} → StepHolds s m → ((c d : Command) → StepHolds (q c d) m) →
+        {o : ℕ → ℕ → Command → RuleStep} {l : ℕ → Command → RuleStep} → StepHolds s m → ((c d : Command) → StepHolds (q c d) m) →
         ((b : Expr Boolean) → StepHolds (t b) m) → ((y : ℕ) (e : Expr Arithmetic) → StepHolds (x y e) m) →
         ((y : ℕ) (e : Expr Array) → StepHolds (a y e) m) →
         ((b : Expr Boolean) (c d : Command) → StepHolds (f b c d) m) →
         ((b : Expr Boolean) (c : Command) → StepHolds (w b c) m) → ((y n : ℕ) (c : Command) → StepHolds (o y n c) m) →
-        StepHolds (byForm s q t x a f w o c) m
+        ((y : ℕ) (c : Command) → StepHolds (l y c) m) → StepHolds (byForm s q t x a f w o l c) m
     unfolding byForm
-    form-holds skip s q t x a f w o = s
-    form-holds (sequence c d) s q t x a f w o = q c d
-    form-holds (assert b) s q t x a f w o = t b
-    form-holds (assign (toScalar y e)) s q t x a f w o = x y e
-    form-holds (assign (toArray y e)) s q t x a f w o = a y e
-    form-holds (ifElse b c d) s q t x a f w o = f b c d
-    form-holds (while b c) s q t x a f w o = w b c
-    form-holds (for y n c) s q t x a f w o = o y n c
+    form-holds skip s q t x a f w o l = s
+    form-holds (sequence c d) s q t x a f w o l = q c d
+    form-holds (assert b) s q t x a f w o l = t b
+    form-holds (assign (toScalar y e)) s q t x a f w o l = x y e
+    form-holds (assign (toArray y e)) s q t x a f w o l = a y e
+    form-holds (ifElse b c d) s q t x a f w o l = f b c d
+    form-holds (while b c) s q t x a f w o l = w b c
+    form-holds (for y n c) s q t x a f w o l = o y n c
+    form-holds (call y c) s q t x a f w o l = l y c
 
     no : StepHolds misfit m
     no = record { children = tt }
 
     skip-holds : (c : Command) {f : RuleStep} → StepHolds f m →
         StepHolds (onSkip c misfit f) m
-    skip-holds c h = form-holds c h (λ c d. no) (λ b. no) (λ y e. no) (λ y e. no) (λ b c d. no) (λ b c. no) (λ y n c. no)
+    skip-holds c h = form-holds c h (λ c d. no) (λ b. no) (λ y e. no) (λ y e. no) (λ b c d. no) (λ b c. no) (λ y n c. no) (λ y c. no)
 
     sequence-holds : (c : Command) {f : Command → Command → RuleStep} → ((c₁ c₂ : Command) → StepHolds (f c₁ c₂) m) →
         StepHolds (onSequence c misfit f) m
-    sequence-holds c h = form-holds c no h (λ b. no) (λ y e. no) (λ y e. no) (λ b c d. no) (λ b c. no) (λ y n c. no)
+    sequence-holds c h = form-holds c no h (λ b. no) (λ y e. no) (λ y e. no) (λ b c d. no) (λ b c. no) (λ y n c. no) (λ y c. no)
 
     assert-holds : (c : Command) {f : Expr Boolean → RuleStep} → ((b : Expr Boolean) → StepHolds (f b) m) →
         StepHolds (onAssert c misfit f) m
-    assert-holds c h = form-holds c no (λ c d. no) h (λ y e. no) (λ y e. no) (λ b c d. no) (λ b c. no) (λ y n c. no)
+    assert-holds c h = form-holds c no (λ c d. no) h (λ y e. no) (λ y e. no) (λ b c d. no) (λ b c. no) (λ y n c. no) (λ y c. no)
 
     scalar-holds : (c : Command) {f : ℕ → Expr Arithmetic → RuleStep} → ((x : ℕ) (e : Expr Arithmetic) → StepHolds (f x e) m) →
         StepHolds (onScalar c misfit f) m
-    scalar-holds c h = form-holds c no (λ c d. no) (λ b. no) h (λ y e. no) (λ b c d. no) (λ b c. no) (λ y n c. no)
+    scalar-holds c h = form-holds c no (λ c d. no) (λ b. no) h (λ y e. no) (λ b c d. no) (λ b c. no) (λ y n c. no) (λ y c. no)
 
     array-holds : (c : Command) {f : ℕ → Expr Array → RuleStep} → ((a : ℕ) (e : Expr Array) → StepHolds (f a e) m) →
         StepHolds (onArray c misfit f) m
-    array-holds c h = form-holds c no (λ c d. no) (λ b. no) (λ y e. no) h (λ b c d. no) (λ b c. no) (λ y n c. no)
+    array-holds c h = form-holds c no (λ c d. no) (λ b. no) (λ y e. no) h (λ b c d. no) (λ b c. no) (λ y n c. no) (λ y c. no)
 
     if-holds : (c : Command) {f : Expr Boolean → Command → Command → RuleStep} → ((b : Expr Boolean) (c₁ c₂ : Command) → StepHolds (f b c₁ c₂) m) →
         StepHolds (onIf c misfit f) m
-    if-holds c h = form-holds c no (λ c d. no) (λ b. no) (λ y e. no) (λ y e. no) h (λ b c. no) (λ y n c. no)
+    if-holds c h = form-holds c no (λ c d. no) (λ b. no) (λ y e. no) (λ y e. no) h (λ b c. no) (λ y n c. no) (λ y c. no)
 
     while-holds : (c : Command) {f : Expr Boolean → Command → RuleStep} → ((b : Expr Boolean) (c₁ : Command) → StepHolds (f b c₁) m) →
         StepHolds (onWhile c misfit f) m
-    while-holds c h = form-holds c no (λ c d. no) (λ b. no) (λ y e. no) (λ y e. no) (λ b c d. no) h (λ y n c. no)
+    while-holds c h = form-holds c no (λ c d. no) (λ b. no) (λ y e. no) (λ y e. no) (λ b c d. no) h (λ y n c. no) (λ y c. no)
 
     for-holds : (c : Command) {f : ℕ → ℕ → Command → RuleStep} → ((q n : ℕ) (c₁ : Command) → StepHolds (f q n c₁) m) →
         StepHolds (onFor c misfit f) m
-    for-holds c h = form-holds c no (λ c d. no) (λ b. no) (λ y e. no) (λ y e. no) (λ b c d. no) (λ b c. no) h
+    for-holds c h = form-holds c no (λ c d. no) (λ b. no) (λ y e. no) (λ y e. no) (λ b c d. no) (λ b c. no) h (λ y c. no)
+
+    call-holds : (c : Command) {f : ℕ → Command → RuleStep} → ((n : ℕ) (c₁ : Command) → StepHolds (f n c₁) m) →
+        StepHolds (onCall c misfit f) m
+    call-holds c h = form-holds c no (λ c d. no) (λ b. no) (λ y e. no) (λ y e. no) (λ b c d. no) (λ b c. no) (λ y n c. no) h
 
     empty-holds : (p : Members) {v : RuleStep} → StepHolds v m → StepHolds (onEmpty p misfit v) m
     unfolding onEmpty
@@ -176,7 +181,7 @@ module _ {H : ℕ → Type 0} {P : Verdict → ℕ → Type 0} (holding : Holdin
     one-holds (x ∷ []) h = h x
     one-holds (x ∷ (y ∷ p)) h = no
 
-    some-holds : (o : Option Members) {f : Members → RuleStep} → ((r : Members) → StepHolds (f r) m) →
+    some-holds : {B : Type 0} (o : Option B) {f : B → RuleStep} → ((r : B) → StepHolds (f r) m) →
         StepHolds (onSome o misfit f) m
     unfolding onSome
     some-holds none h = no
@@ -220,6 +225,7 @@ module _ {H : ℕ → Type 0} {P : Verdict → ℕ → Type 0} (holding : Holdin
     pre-rule pre28 (φ₁, _) m (_, (k, _)) φ c φ′ = passing _ (k φ₁ c φ′)
     pre-rule pre29 g m h φ c φ′ = leaf-holds _
     pre-rule pre30 (d, _) m (_, (k, _)) φ c φ′ = for-holds _ c λ q n c₁. passing _ (k φ d φ′)
+    pre-rule pre32 g m (k, _) φ c φ′ = call-holds _ c λ n d. passing _ (k φ d φ′)
 
     set-rule : {n : ℕ} {l : List Item} (r : Rule implication n l) (g : GivenItems l) (m : PartCounts l) → PartsHold l g m →
         (p q : Members) → StepHolds (applied l (setRule Γ r) g p q) (total l m)
@@ -253,6 +259,7 @@ module _ {H : ℕ → Type 0} {P : Verdict → ℕ → Type 0} (holding : Holdin
     flow-rule flow12 (s, (s′, (φ, (φ′, _)))) m (_, (_, (_, (_, (k, (n, _)))))) p c q = passing _ (also-holds (k s c s′) (n φ c φ′))
     flow-rule flow13 g m (k, _) p c q = while-holds _ c λ b c₁. passing _ (k p c₁ q)
     flow-rule flow14 (d, _) m (_, (k, _)) p c q = for-holds _ c λ v n c₁. passing _ (k p d q)
+    flow-rule flow31 g m h p c q = call-holds _ c λ n d. some-holds _ (itemAt (Γ .procedures) n) λ k. leaf-holds _
 
     tree-holds : {s : Standing} (t : Tree s) → Everywhere H t → TreeHolds s (judge Γ t) t
     unfolding judge

@@ -1,6 +1,7 @@
 -- The judge accepts exactly the derivations: evidence is accepted for a goal when, and only when, it derives the goal.
 -- Assumes nothing.
 --     Accepts                                          a verdict that is an acceptance
+--     also-is, also-accepts                            two verdicts that are
 --     Exact                                            accepted exactly when a statement holds
 --     necessary-judged, follows-judged, flow-judged    accepted exactly when derived
 use mathlib.Core.Path.{_≡_, refl, sym, subst}
@@ -9,19 +10,19 @@ use Prim.Native.Nat.{ℕ}
 use Rattle.language.specs.Syntax.{Boolean, Expr, Command, ifElse}
 use Rattle.language.specs.Modifies.{identifiers}
 use Rattle.rules.specs.Assertion.{Members}
-use Rattle.rules.specs.Context.{Context}
+use Rattle.rules.specs.Context.{Context, itemAt}
 use Rattle.rules.specs.Sets.{operands, setIdentifiers}
 use Rattle.rules.specs.Tests.{same}
 use Rattle.rules.specs.Evidence.{FlowEvidence, SetEvidence, PreEvidence, by, assertion, command, members, child}
 use Rattle.rules.specs.Evidence.{done, _&_, flow1, flow2, flow3, flow4, flow5, flow6, flow7, flow8, flow9, flow10}
-use Rattle.rules.specs.Evidence.{flow11, flow12, flow13, flow14, set13, set14, set15, set16, set17, set18, set19}
-use Rattle.rules.specs.Evidence.{pre20, pre21, pre22, pre23, pre24, pre25, pre26, pre27, pre28, pre29, pre30}
+use Rattle.rules.specs.Evidence.{flow11, flow12, flow13, flow14, flow31, set13, set14, set15, set16, set17, set18, set19}
+use Rattle.rules.specs.Evidence.{pre20, pre21, pre22, pre23, pre24, pre25, pre26, pre27, pre28, pre29, pre30, pre32}
 use Rattle.rules.specs.Derivation.{Necessary, rule-20, rule-21, rule-22, rule-23, rule-24, rule-25, rule-26}
-use Rattle.rules.specs.Derivation.{rule-27, rule-28, rule-29, rule-30, Follows, set-rule-13, set-rule-14}
+use Rattle.rules.specs.Derivation.{rule-27, rule-28, rule-29, rule-30, rule-32, Follows, set-rule-13, set-rule-14}
 use Rattle.rules.specs.Derivation.{set-rule-15, set-rule-16, set-rule-17, set-rule-18, set-rule-19, Flow}
 use Rattle.rules.specs.Derivation.{rule-1, rule-2, rule-3, rule-4, rule-5, rule-6, rule-7, rule-8, rule-9}
-use Rattle.rules.specs.Derivation.{rule-10, rule-11, rule-12, rule-13, rule-14}
-use Rattle.rules.specs.Condition.{Result, passes, fails, tooLarge, test, byForm, onEmpty, onOne, onSome}
+use Rattle.rules.specs.Derivation.{rule-10, rule-11, rule-12, rule-13, rule-14, rule-31}
+use Rattle.rules.specs.Condition.{Result, passes, fails, tooLarge, test, _then_, byForm, onEmpty, onOne, onSome}
 use Rattle.rules.specs.Judge.{Verdict, accepted, refused, oneMore, _also_, RuleStep, step, childless, misfit, judgeWord}
 use Rattle.rules.specs.Judge.{preRule, setRule, flowRule, judge}
 use Rattle.rules.proofs.Decides.{sameWords-decides, sameAntecedent-decides, sameConsequent-decides}
@@ -30,7 +31,7 @@ use Rattle.rules.proofs.Decides.{isEmpty-decides}
 use Rattle.rules.proofs.Passes.{Passes, test-passes, then-passes}
 use Rattle.rules.proofs.Implication.{implication-passes, eachImpliesFalse-passes}
 use Rattle.rules.proofs.Forms.{skip-is, sequence-is, assert-is, scalar-is, array-is, if-is, while-is, for-is}
-use Rattle.rules.proofs.Forms.{empty-is, one-is, some-is}
+use Rattle.rules.proofs.Forms.{call-is, empty-is, one-is, some-is}
 
 abbrev pub Accepts : Verdict → Type 0
 Accepts (accepted n) = Unit {0}
@@ -53,7 +54,7 @@ module _ {R : Type 0} where
   word-is i fails v h k = absurd h
   word-is i tooLarge v h k = absurd h
 
-  also-is : (v w : Verdict) → Accepts (v also w) → (Accepts v → Accepts w → R) → R
+  pub also-is : (v w : Verdict) → Accepts (v also w) → (Accepts v → Accepts w → R) → R
   unfolding _also_
   also-is (accepted m) (accepted n) h k = k tt tt
   also-is (accepted m) (refused j l) h k = absurd h
@@ -69,7 +70,7 @@ word-accepts i tooLarge v g h = g
 leaf-accepts : (i : ℕ) (r : Result) → Passes r → Accepts (judgeWord i (childless r))
 leaf-accepts i r h = word-accepts i r (accepted 0) h tt
 
-also-accepts : (v w : Verdict) → Accepts v → Accepts w → Accepts (v also w)
+pub also-accepts : (v w : Verdict) → Accepts v → Accepts w → Accepts (v also w)
 unfolding _also_
 also-accepts (accepted m) (accepted n) g h = tt
 also-accepts (accepted m) (refused j l) g h = h
@@ -116,6 +117,9 @@ module _ (Γ : Context) where
   necessary-sound (by pre30 i (command d & child k & done)) φ c φ′ h =
       for-is (WordAccepted i) _ (misfits i) (λ c. Necessary Γ (by pre30 i (command d & child k & done)) φ c φ′) c _ h λ q m c₁ h.
       word-is i _ _ h λ g u. rule-30 (test-passes (sameWords-decides _ _) .sound g) (necessary-sound k φ d φ′ u)
+  necessary-sound (by pre32 i (child k & done)) φ c φ′ h =
+      call-is (WordAccepted i) _ (misfits i) (λ c. Necessary Γ (by pre32 i (child k & done)) φ c φ′) c _ h λ n d h.
+      word-is i _ _ h λ g u. rule-32 (necessary-sound k φ d φ′ u)
 
   necessary-complete : {k : PreEvidence} {φ : Expr Boolean} {c : Command} {φ′ : Expr Boolean} →
       Necessary Γ k φ c φ′ → Accepts (judge Γ k φ c φ′)
@@ -141,6 +145,7 @@ module _ (Γ : Context) where
   necessary-complete (rule-29 {i = i} g) = leaf-accepts i _ (test-passes (sameAntecedent-decides _ _) .complete g)
   necessary-complete (rule-30 {i = i} g u) =
       word-accepts i _ _ (test-passes (sameWords-decides _ _) .complete g) (necessary-complete u)
+  necessary-complete (rule-32 {i = i} u) = word-accepts i _ _ tt (necessary-complete u)
 
   follows-sound : (k : SetEvidence) (p q : Members) → Accepts (judge Γ k p q) → Follows Γ k p q
   unfolding judge setRule
@@ -248,10 +253,16 @@ module _ (Γ : Context) where
   flow-sound (by flow14 i (command d & child k & done)) p c q h =
       for-is (WordAccepted i) _ (misfits i) (λ c. Flow Γ (by flow14 i (command d & child k & done)) p c q) c _ h λ v m c₁ h.
       word-is i _ _ h λ g u. rule-14 (test-passes (sameWords-decides _ _) .sound g) (flow-sound k p d q u)
+  flow-sound (by flow31 i done) p c q h =
+      call-is (WordAccepted i) _ (misfits i) (λ c. Flow Γ (by flow31 i done) p c q) c _ h λ n d h.
+      some-is (WordAccepted i) _ (misfits i) (itemAt (Γ .procedures) n) _ h λ k e h.
+      word-is i _ _ h λ g u.
+      let both = then-passes (test-passes (same-decides p _)) (test-passes (same-decides q _)) .sound g in
+      rule-31 e (both .0) (both .1)
 
   flow-complete : {k : FlowEvidence} {p q : Members} {c : Command} →
       Flow Γ k p c q → Accepts (judge Γ k p c q)
-  unfolding judge flowRule byForm onOne
+  unfolding judge flowRule byForm onOne onSome
   flow-complete (rule-1 {i = i} g) = leaf-accepts i _ (test-passes (same-decides _ _) .complete g)
   flow-complete (rule-2 {i = i} u v) = word-accepts i _ _ tt (also-accepts _ _ (flow-complete u) (flow-complete v))
   flow-complete (rule-3 {i = i} g) = leaf-accepts i _ (test-passes (same-decides _ _) .complete g)
@@ -285,6 +296,9 @@ module _ (Γ : Context) where
       (flow-complete u)
   flow-complete (rule-14 {i = i} g u) =
       word-accepts i _ _ (test-passes (sameWords-decides _ _) .complete g) (flow-complete u)
+  flow-complete (rule-31 {i = i} {p = p} {q = q} e g h) =
+      subst (λ o. WordAccepted i (onSome o misfit (λ k. childless (test (same p (k .pre)) then test (same q (k .post)))))) (sym e)
+      (leaf-accepts i _ (then-passes (test-passes (same-decides _ _)) (test-passes (same-decides _ _)) .complete (g, h)))
 
 -- evidence of each kind is accepted for a goal exactly when it derives the goal
 pub record Exact (v : Verdict) (P : Type 0) : Type 0 where

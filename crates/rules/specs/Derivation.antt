@@ -1,28 +1,28 @@
--- The rules of document 01, a constructor each. `Flow Γ k p c q` says that the evidence k derives the goal (p, c, q).
+-- The rules of document 01 and of request [3] of document 02, a constructor each. `Flow Γ k p c q` says that the evidence k derives the goal (p, c, q).
 -- Trusted. Assumes nothing.
---     Necessary    rules 20 to 30: φ is a necessary precondition of φ' for C
+--     Necessary    rules 20 to 30 and 32: φ is a necessary precondition of φ' for C
 --     Follows      rules 13 to 19 of sets: P implies Q
---     Flow         rules 1 to 14
+--     Flow         rules 1 to 14 and 31
 use mathlib.Core.Path.{_≡_}
 use mathlib.Core.Bool.{true}
 use mathlib.Core.List.{[], _++_}
 use mathlib.Core.Option.{some}
 use Prim.Native.Nat.{ℕ}
 use Rattle.language.specs.Syntax.{Sort, Arithmetic, Boolean, Array, Expr, truth, and, or, neg}
-use Rattle.language.specs.Syntax.{toScalar, toArray, Command, skip, sequence, assert, assign, ifElse, while, for}
+use Rattle.language.specs.Syntax.{toScalar, toArray, Command, skip, sequence, assert, assign, ifElse, while, for, call}
 use Rattle.language.specs.Runs.{meaning}
 use Rattle.language.specs.Modifies.{identifiers}
 use Rattle.rules.specs.Words.{commandWords}
 use Rattle.rules.specs.Assertion.{Members, member, one}
-use Rattle.rules.specs.Context.{Context}
+use Rattle.rules.specs.Context.{Procedure, Context, itemAt}
 use Rattle.rules.specs.Replace.{replacement, replace, replaceMembers}
 use Rattle.rules.specs.Sets.{SameAntecedent, SameConsequent, StandsIn, Within, Same, under, without, operands}
 use Rattle.rules.specs.Sets.{setIdentifiers, Unmodified}
 use Rattle.rules.specs.Implies.{Implies, EachImpliesFalse}
 use Rattle.rules.specs.Evidence.{FlowEvidence, SetEvidence, PreEvidence, by, assertion, command, members, child}
 use Rattle.rules.specs.Evidence.{done, _&_, flow1, flow2, flow3, flow4, flow5, flow6, flow7, flow8, flow9, flow10}
-use Rattle.rules.specs.Evidence.{flow11, flow12, flow13, flow14, set13, set14, set15, set16, set17, set18, set19}
-use Rattle.rules.specs.Evidence.{pre20, pre21, pre22, pre23, pre24, pre25, pre26, pre27, pre28, pre29, pre30}
+use Rattle.rules.specs.Evidence.{flow11, flow12, flow13, flow14, flow31, set13, set14, set15, set16, set17, set18, set19}
+use Rattle.rules.specs.Evidence.{pre20, pre21, pre22, pre23, pre24, pre25, pre26, pre27, pre28, pre29, pre30, pre32}
 
 -- goal (φ, C, φ')
 pub data Necessary (Γ : Context) : PreEvidence → Expr Boolean → Command → Expr Boolean → Type 0 where
@@ -61,6 +61,9 @@ pub data Necessary (Γ : Context) : PreEvidence → Expr Boolean → Command →
   rule-30 : {i q m : ℕ} {φ φ′ : Expr Boolean} {c₁ d : Command} {k : PreEvidence} →
       commandWords d ≡ commandWords (meaning q m c₁) →
       Necessary Γ k φ d φ′ → Necessary Γ (by pre30 i (command d & child k & done)) φ (for q m c₁) φ′
+  -- 32 the one child is (φ, body, φ')
+  rule-32 : {i n : ℕ} {φ φ′ : Expr Boolean} {d : Command} {k : PreEvidence} →
+      Necessary Γ k φ d φ′ → Necessary Γ (by pre32 i (child k & done)) φ (call n d) φ′
 
 -- goal (P, Q)
 pub data Follows (Γ : Context) : SetEvidence → Members → Members → Type 0 where
@@ -131,6 +134,10 @@ pub data Flow (Γ : Context) : FlowEvidence → Members → Command → Members 
   -- 13 while: P same as Q; true ⇒ B stands in P; (P, C1, Q)
   rule-13 : {i : ℕ} {p q : Members} {b : Expr Boolean} {c₁ : Command} {k : FlowEvidence} →
       Same p q → StandsIn (member (truth true) b) p → Flow Γ k p c₁ q → Flow Γ (by flow13 i (child k & done)) p (while b c₁) q
-  -- 14 for; carries the command D that the `for` means; (P, D, Q)
+  -- 14 for; carries the command D that the `for` means; (P, D, Q). D is compared by words: a call's word does not spell its body, so
+  -- the words tell the command for one table of procedures (`Resolved`), and what is read is such
   rule-14 : {i v m : ℕ} {p q : Members} {c₁ d : Command} {k : FlowEvidence} →
       commandWords d ≡ commandWords (meaning v m c₁) → Flow Γ k p d q → Flow Γ (by flow14 i (command d & child k & done)) p (for v m c₁) q
+  -- 31 C calls procedure n, P is the same as its precondition, Q as its postcondition
+  rule-31 : {i n : ℕ} {p q : Members} {d : Command} {k : Procedure} →
+      itemAt (Γ .procedures) n ≡ some k → Same p (k .pre) → Same q (k .post) → Flow Γ (by flow31 i done) p (call n d) q

@@ -1,4 +1,4 @@
--- Evidence as trees (document 01, "Layout" and "Rules"): an evidence word has its rule and its place in the file; what
+-- Evidence as trees (document 01, "Layout" and "Rules"; document 02, request [3]): an evidence word has its rule and its place in the file; what
 -- the rule carries and its children stand after it.
 -- Trusted. Assumes nothing.
 --     Judgement, Item      the three kinds of evidence; what may stand after an evidence word
@@ -40,6 +40,7 @@ pub data Rule : Judgement → ℕ → List Item → Type 0 where
       (membersItem ∷ membersItem ∷ assertionItem ∷ assertionItem ∷ childItem flow ∷ childItem precondition ∷ [])
   flow13 : Rule flow 13 (childItem flow ∷ [])
   flow14 : Rule flow 14 (commandItem ∷ childItem flow ∷ [])
+  flow31 : Rule flow 31 []
   set13 : Rule implication 13 []
   set14 : Rule implication 14 []
   set15 : Rule implication 15 []
@@ -62,6 +63,7 @@ pub data Rule : Judgement → ℕ → List Item → Type 0 where
   pre28 : Rule precondition 28 (assertionItem ∷ childItem precondition ∷ [])
   pre29 : Rule precondition 29 []
   pre30 : Rule precondition 30 (commandItem ∷ childItem precondition ∷ [])
+  pre32 : Rule precondition 32 (childItem precondition ∷ [])
 
 -- every rule of a judgement
 pub record Row (j : Judgement) : Type 0 where
@@ -75,12 +77,12 @@ row {n = n} {l = l} r = record { number = n; after = l; rule = r }
 abbrev pub rules : (j : Judgement) → List (Row j)
 rules flow =
     row flow1 ∷ row flow2 ∷ row flow3 ∷ row flow4 ∷ row flow5 ∷ row flow6 ∷ row flow7 ∷ row flow8 ∷ row flow9
-    ∷ row flow10 ∷ row flow11 ∷ row flow12 ∷ row flow13 ∷ row flow14 ∷ []
+    ∷ row flow10 ∷ row flow11 ∷ row flow12 ∷ row flow13 ∷ row flow14 ∷ row flow31 ∷ []
 rules implication =
     row set13 ∷ row set14 ∷ row set15 ∷ row set16 ∷ row set17 ∷ row set18 ∷ row set19 ∷ []
 rules precondition =
     row pre20 ∷ row pre21 ∷ row pre22 ∷ row pre23 ∷ row pre24 ∷ row pre25 ∷ row pre26 ∷ row pre27 ∷ row pre28
-    ∷ row pre29 ∷ row pre30 ∷ []
+    ∷ row pre29 ∷ row pre30 ∷ row pre32 ∷ []
 
 pub data Standing : Type 0 where
   evidence : Judgement → Standing

@@ -1,8 +1,8 @@
--- Evidence judged in file order (document 01, "Judging order" 8 and 9). Each clause is a rule of "Rules": its conditions
+-- Evidence judged in file order (document 01, "Judging order" 8 and 9). Each clause is a rule of "Rules" or of request [3]: its conditions
 -- as they are tried, and its children against their goals.
 -- Trusted. Assumes nothing.
 --     Verdict                         accepted, with a count of evidence words; or refused, with number and place
---     _also_                          children in order
+--     _also_                          one after the other: children, and programs of a file
 --     RuleStep, misfit, childless     what a rule comes to: its conditions' result, and its children's verdict
 --     oneMore, judgeWord              an evidence word by what its rule comes to: the one place of 8 and 9
 --     Judge, GivenItem, GivenItems    how evidence is judged against a goal; what a rule is given of its parts
@@ -18,7 +18,7 @@ use Rattle.language.specs.Runs.{meaning}
 use Rattle.language.specs.Modifies.{identifiers}
 use Rattle.rules.specs.Words.{commandWords, sameWords}
 use Rattle.rules.specs.Assertion.{Members, member, one}
-use Rattle.rules.specs.Context.{Context}
+use Rattle.rules.specs.Context.{Context, itemAt}
 use Rattle.rules.specs.Replace.{replacement, replace, replaceMembers}
 use Rattle.rules.specs.Sets.{under, without, operands, setIdentifiers}
 use Rattle.rules.specs.Tests.{sameAntecedent, sameConsequent, stands, within, same, unmodified, isEmpty}
@@ -26,11 +26,11 @@ use Rattle.rules.specs.Evidence as evidence
 use Rattle.rules.specs.Evidence.{Judgement, Item, assertionItem, commandItem, membersItem, childItem, Rule}
 use Rattle.rules.specs.Evidence.{Standing, item, items, Tree, by, assertion, command, members, child, done, _&_}
 use Rattle.rules.specs.Evidence.{flow1, flow2, flow3, flow4, flow5, flow6}
-use Rattle.rules.specs.Evidence.{flow7, flow8, flow9, flow10, flow11, flow12, flow13, flow14, set13, set14, set15}
+use Rattle.rules.specs.Evidence.{flow7, flow8, flow9, flow10, flow11, flow12, flow13, flow14, flow31, set13, set14, set15}
 use Rattle.rules.specs.Evidence.{set16, set17, set18, set19, pre20, pre21, pre22, pre23, pre24, pre25, pre26}
-use Rattle.rules.specs.Evidence.{pre27, pre28, pre29, pre30}
+use Rattle.rules.specs.Evidence.{pre27, pre28, pre29, pre30, pre32}
 use Rattle.rules.specs.Condition.{Result, passes, fails, tooLarge, test, _then_, implication, eachImpliesFalse}
-use Rattle.rules.specs.Condition.{onSkip, onSequence, onAssert, onScalar, onArray, onIf, onWhile, onFor}
+use Rattle.rules.specs.Condition.{onSkip, onSequence, onAssert, onScalar, onArray, onIf, onWhile, onFor, onCall}
 use Rattle.rules.specs.Condition.{onEmpty, onOne, onSome}
 
 pub data Verdict : Type 0 where
@@ -115,6 +115,7 @@ preRule Γ pre28 = λ φ₁ k φ c φ′. step (implication Γ φ₁ φ) (k φ�
 preRule Γ pre29 = λ φ c φ′. childless (test (sameAntecedent φ (truth true)))
 preRule Γ pre30 = λ d k φ c φ′. onFor c misfit λ q m c₁.
     step (test (sameWords (commandWords d) (commandWords (meaning q m c₁)))) (k φ d φ′)
+preRule Γ pre32 = λ k φ c φ′. onCall c misfit λ n d. step passes (k φ d φ′)
 
 unfoldable pub setRule : Context → {n : ℕ} {l : List Item} → Rule evidence.implication n l → Takes l (Members → Members → RuleStep)
 setRule Γ set13 = λ p q. childless (test (within q p))
@@ -161,6 +162,8 @@ flowRule Γ flow13 = λ k p c q. onWhile c misfit λ b c₁.
     step (test (same p q) then test (stands (member (truth true) b) p)) (k p c₁ q)
 flowRule Γ flow14 = λ d k p c q. onFor c misfit λ v m c₁.
     step (test (sameWords (commandWords d) (commandWords (meaning v m c₁)))) (k p d q)
+flowRule Γ flow31 = λ p c q. onCall c misfit λ n d. onSome (itemAt (Γ .procedures) n) misfit λ k.
+    childless (test (same p (k .pre)) then test (same q (k .post)))
 
 unfoldable pub judge : Context → {s : Standing} → Tree s → Given s
 judge Γ (by {j = evidence.flow} {l = l} r i t) = λ p c q. judgeWord i (applied l (flowRule Γ r) (judge Γ t) p c q)

@@ -1,7 +1,7 @@
 -- Assertions, sets and rules of document 01.
 --     Words         the words of an expression and of a command, and sameness by words
 --     Assertion     members, and agreement of two stores
---     Context       the limits, and what a file is judged under
+--     Context       the limits, and what a program is judged under
 --     Replace       substitution
 --     Sets          sets compared and made
 --     Implies       the implication over distinct comparisons
@@ -10,6 +10,7 @@
 --     Derivation    the rules, a constructor each
 --     Condition     conditions as tests, with three results
 --     Judge         the judging of evidence in file order
+--     Resolved      calls that hold the bodies of their procedures
 pub mod Words
 pub mod Assertion
 pub mod Context
@@ -21,3 +22,4 @@ pub mod Evidence
 pub mod Derivation
 pub mod Condition
 pub mod Judge
+pub mod Resolved

@@ -1,4 +1,4 @@
--- The words of expressions and commands in prefix order, and sameness by words (document 01, "Layout").
+-- The words of expressions and commands in prefix order, and sameness by words (document 01, "Layout"; document 02, request [3]).
 -- Trusted. Assumes nothing.
 --     Word                     a word by its kind and payload
 --     operatorPayload, comparisonPayload, truthPayload
@@ -15,7 +15,7 @@ use lib.IntN.{ℤ, pos}
 use Rattle.language.specs.Syntax.{Operator, plus, minus, times, Comparison, equal, less, atMost}
 use Rattle.language.specs.Syntax.{Sort, Expr, constant, scalar, operation, select, compare, truth, and, or, neg}
 use Rattle.language.specs.Syntax.{array, zeros, update, Assignment, toScalar, toArray}
-use Rattle.language.specs.Syntax.{Command, skip, sequence, assert, assign, ifElse, while, for}
+use Rattle.language.specs.Syntax.{Command, skip, sequence, assert, assign, ifElse, while, for, call}
 use Rattle.language.specs.Store.{sameInteger}
 
 -- `word k p` is k:p, where a constant's payload stands as its integer; `forWord q m` is 31:(q + 32 × m)
@@ -55,6 +55,7 @@ abbrev pub assignmentWords : Assignment → List Word
 assignmentWords (toScalar x e) = word 27 (pos x) ∷ words e
 assignmentWords (toArray a e) = word 28 (pos a) ∷ words e
 
+-- a call is its word alone: the body stands elsewhere in the file
 unfoldable pub commandWords : Command → List Word
 commandWords skip = word 24 (pos 0) ∷ []
 commandWords (sequence c d) = word 25 (pos 0) ∷ (commandWords c ++ commandWords d)
@@ -63,6 +64,7 @@ commandWords (assign a) = assignmentWords a
 commandWords (ifElse b c d) = word 29 (pos 0) ∷ (words b ++ (commandWords c ++ commandWords d))
 commandWords (while b c) = word 30 (pos 0) ∷ (words b ++ commandWords c)
 commandWords (for q m c) = forWord q m ∷ commandWords c
+commandWords (call p c) = word 38 (pos p) ∷ []
 
 abbrev pub sameWord : Word → Word → Bool
 sameWord (word j y) (word k z) = eqb j k && sameInteger y z

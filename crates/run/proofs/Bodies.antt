@@ -7,6 +7,7 @@
 --     assert-can, scalar-can, array-can, if-can, while-can    what is worked out
 --     sequence-first, sequence-second, if-then, if-else       what is run
 --     for-small, loop-next, loop-body, loop-counts, by-kind   of a loop
+--     call-body                                               of a call
 use mathlib.Core.Path.{_≡_, sym, subst, _∙_}
 use mathlib.Core.List.{List}
 use Prim.Native.Nat.{ℕ, _+_, _<_}
@@ -14,13 +15,14 @@ use native.Mathlib.Omega.{arith}
 use lib.ListN.{length, getD}
 use Rattle.language.specs.Syntax as syntax
 use Rattle.language.specs.Syntax.{Sort, Expr}
-use Rattle.layout.specs.EvidenceWords.{Part, expressionPart, commandPart}
+use Rattle.rules.specs.Context.{Context}
+use Rattle.layout.specs.EvidenceWords.{Part, expressionPart}
 use Rattle.layout.proofs.Stands.{stands-end}
 use Rattle.words.specs.declared.CommandWord.{CommandWord}
 use Rattle.words.specs.declared.CommandWord.the-variants.{Sequence, Assert, AssignScalar, AssignArray, If, While}
-use Rattle.words.specs.declared.CommandWord.the-variants.{For}
-use Rattle.heads.specs.Stands.{PartAt, commandAt, ExpressionStands, CommandStands}
-use Rattle.heads.proofs.Parts.{expression-inside, command-inside, command-parts}
+use Rattle.words.specs.declared.CommandWord.the-variants.{For, Call}
+use Rattle.heads.specs.Stands.{PartAt, commandAt, resolvedPart, startPlace, Runnable, ExpressionStands, CommandStands}
+use Rattle.heads.proofs.Parts.{expression-inside, resolved-inside, unresolved, runnable, command-parts}
 use Rattle.evaluate.specs.Evaluated.{number}
 use Rattle.evaluate.proofs.Places.{end-is, moved}
 use Rattle.run.specs.Places.{CanRun, CanRunAt}
@@ -29,8 +31,10 @@ use Rattle.run.specs.declared.Loop.{Loop}
 use Rattle.run.specs.declared.Loop.the-variants.{Test, Count}
 
 module _ {w ends : List ℕ} where
-  pub command-end-is : (c : syntax.Command) {at p : ℕ} → PartAt w ends (commandPart c) at p → p ≡ getD ends at 0
-  command-end-is c {at} {p} s = sym (s .ends-of .command-end c (s .levels) at p (s .stands))
+  pub command-end-is : (Γ : Context) (c : syntax.Command) {at p : ℕ} → PartAt w ends (resolvedPart Γ c) at p →
+      p ≡ getD ends at 0
+  command-end-is Γ c {at} {p} s =
+      sym (s .ends-of .command-end Γ c (s .levels) at p (unresolved Γ c (s .levels) (s .stands)))
 
   pub part-end : (x : Part) {at p : ℕ} → PartAt w ends x at p → p ≡ at + length (x .spelling)
   part-end x {at} {p} s = stands-end (s .file) at (x .spelling) p (s .stands .stand)
@@ -39,9 +43,9 @@ module _ {w ends : List ℕ} where
   pub placed : {x : Part} {at q p : ℕ} → at ≡ q → PartAt w ends x at p → PartAt w ends x q p
   placed {x} {p = p} e s = subst (λ z. PartAt w ends x z p) e s
 
-  pub moved-command : (c : syntax.Command) {x : Part} {at m q p : ℕ} → q ≡ getD ends at 0 →
-      PartAt w ends (commandPart c) at m → PartAt w ends x m p → PartAt w ends x q p
-  moved-command c next s t = placed (command-end-is c s ∙ sym next) t
+  pub moved-command : (Γ : Context) (c : syntax.Command) {x : Part} {at m q p : ℕ} → q ≡ getD ends at 0 →
+      PartAt w ends (resolvedPart Γ c) at m → PartAt w ends x m p → PartAt w ends x q p
+  moved-command Γ c next s t = placed (command-end-is Γ c s ∙ sym next) t
 
 can-evaluate : {w ends : List ℕ} {k : Sort} (e : Expr k) {q p : ℕ} → PartAt w ends (expressionPart e) q p →
     ExpressionStands w ends k q
@@ -50,7 +54,7 @@ can-evaluate e {p = p} s = record { tree = e; past = p; there = s }
 -- a part at q, of what stands before it at `at`
 pub record Later (w ends : List ℕ) (at q : ℕ) : Type 0 where
   pub later : at < q
-  pub inside : q < length w
+  pub inside : q < 8192
   pub listed : q < length ends
 
 -- a command, later than what has it
@@ -64,11 +68,13 @@ module _ {w ends : List ℕ} {at : ℕ} where
       let x = expression-inside e s in
       record { later = h; inside = omega arith; listed = omega arith }
 
-  body : (d : syntax.Command) {q p : ℕ} → PartAt w ends (commandPart d) q p → at < q → Body w ends at q
-  body d {p = p} s h =
-      let x = command-inside d s in
+  -- of a command that can be run
+  body : {c : syntax.Command} {p : ℕ} (x : Runnable w ends c at p) (d : syntax.Command) {q r : ℕ} →
+      PartAt w ends (resolvedPart (x .context) d) q r → at < q → Body w ends at q
+  body x d {r = r} s h =
+      let i = resolved-inside (x .context) d s in
       record {
-        stands = record { tree = d; past = p; there = s };
+        stands = record { tree = d; past = r; there = runnable x d s };
         place = record { later = h; inside = omega arith; listed = omega arith };
       }
 
@@ -104,14 +110,14 @@ module _ {w ends : List ℕ} {at : ℕ} where
     pub sequence-first : CanRunAt w ends s at Sequence → Body w ends at (at + 1)
     sequence-first x =
         let t = command-parts (x .can .command .tree) (x .can .command .there) (x .head) in
-        body (t .first) (t .first-at) (omega arith)
+        body (x .can .command .there) (t .first) (t .first-at) (omega arith)
 
     pub sequence-second : CanRunAt w ends s at Sequence → {q : ℕ} → q ≡ getD ends (at + 1) 0 → Body w ends at q
     sequence-second x e =
         let t = command-parts (x .can .command .tree) (x .can .command .there) (x .head) in
-        let i = command-inside (t .first) (t .first-at) in
-        let same = command-end-is (t .first) (t .first-at) in
-        body (t .second) (moved-command (t .first) e (t .first-at) (t .second-at)) (omega arith)
+        let i = resolved-inside (x .can .command .there .context) (t .first) (t .first-at) in
+        let same = command-end-is (x .can .command .there .context) (t .first) (t .first-at) in
+        body (x .can .command .there) (t .second) (moved-command (x .can .command .there .context) (t .first) e (t .first-at) (t .second-at)) (omega arith)
 
     pub if-can : CanRunAt w ends s at If → ExpressionStands w ends syntax.Boolean (at + 1) × Later w ends at (at + 1)
     if-can x =
@@ -123,17 +129,17 @@ module _ {w ends : List ℕ} {at : ℕ} where
         let t = command-parts (x .can .command .tree) (x .can .command .there) (x .head) in
         let i = expression-inside (t .first) (t .first-at) in
         let same = end-is (t .first) (t .first-at) in
-        body (t .second) (moved (t .first) e (t .first-at) (t .second-at)) (omega arith)
+        body (x .can .command .there) (t .second) (moved (t .first) e (t .first-at) (t .second-at)) (omega arith)
 
     pub if-else : CanRunAt w ends s at If → {q r : ℕ} → q ≡ getD ends (at + 1) 0 → r ≡ getD ends q 0 → Body w ends at r
     if-else x e f =
         let t = command-parts (x .can .command .tree) (x .can .command .there) (x .head) in
         let second = moved (t .first) e (t .first-at) (t .second-at) in
         let i = expression-inside (t .first) (t .first-at) in
-        let j = command-inside (t .second) second in
+        let j = resolved-inside (x .can .command .there .context) (t .second) second in
         let same = end-is (t .first) (t .first-at) in
-        let last = command-end-is (t .second) second in
-        body (t .third) (moved-command (t .second) f second (t .third-at)) (omega arith)
+        let last = command-end-is (x .can .command .there .context) (t .second) second in
+        body (x .can .command .there) (t .third) (moved-command (x .can .command .there .context) (t .second) f second (t .third-at)) (omega arith)
 
     pub while-can : CanRunAt w ends s at While → ExpressionStands w ends syntax.Boolean (at + 1)
     while-can x =
@@ -154,7 +160,7 @@ module _ {w ends : List ℕ} {at : ℕ} where
         later-expression (t .first) (t .first-at) (omega arith) .listed
     loop-next (Count q r) x =
         let t = command-parts (x .can .command .tree) (x .can .command .there) (x .head) in
-        body (t .0 .first) (t .0 .first-at) (omega arith) .place .listed
+        body (x .can .command .there) (t .0 .first) (t .0 .first-at) (omega arith) .place .listed
 
     pub loop-body : (kind : Loop) → CanRunAt w ends s at (loopWord kind) → {q : ℕ} → q ≡ bodyPlace ends at kind →
         Body w ends at q
@@ -162,14 +168,25 @@ module _ {w ends : List ℕ} {at : ℕ} where
         let t = command-parts (x .can .command .tree) (x .can .command .there) (x .head) in
         let i = expression-inside (t .first) (t .first-at) in
         let same = end-is (t .first) (t .first-at) in
-        body (t .second) (moved (t .first) e (t .first-at) (t .second-at)) (omega arith)
+        body (x .can .command .there) (t .second) (moved (t .first) e (t .first-at) (t .second-at)) (omega arith)
     loop-body (Count z r) x e =
         let t = command-parts (x .can .command .tree) (x .can .command .there) (x .head) in
-        body (t .0 .first) (placed (sym e) (t .0 .first-at)) (omega arith)
+        body (x .can .command .there) (t .0 .first) (placed (sym e) (t .0 .first-at)) (omega arith)
 
     pub loop-counts : (kind : Loop) → CanRunAt w ends s at (loopWord kind) → CountsIn kind
     loop-counts Test x = tt
     loop-counts (Count q r) x = for-small x .0
+
+    -- of a call
+    pub call-body : {n : ℕ} → CanRunAt w ends s at (Call n) → {q : ℕ} → q ≡ getD ends (startPlace w n) 0 → CommandStands w ends q
+    call-body {n} x e =
+        let t = command-parts (x .can .command .tree) (x .can .command .there) (x .head) in
+        let b = x .can .command .there .bodies .known n (t .procedure) (t .listed) in
+        record {
+          tree = t .procedure .body;
+          past = b .past;
+          there = runnable (x .can .command .there) (t .procedure .body) (placed (sym (e ∙ b .start)) (b .there));
+        }
 
 -- a loop whose kind is known
 pub by-kind : {w ends s : List ℕ} {at : ℕ} {kind k : Loop} → CanRunAt w ends s at (loopWord kind) → kind ≡ k →

@@ -22,15 +22,15 @@ use mir.Val.{SFits, toZ, ofZ}
 use Rattle.language.specs.Syntax as syntax
 use Rattle.language.specs.Runs.{start, increment}
 use Rattle.rules.specs.Words.{words, commandWords}
-use Rattle.layout.specs.EvidenceWords.{expressionPart, commandPart}
+use Rattle.layout.specs.EvidenceWords.{expressionPart}
 use Rattle.execution.specs.Lent.{Lent, lent, storeOf, elements}
 use Rattle.execution.specs.Evaluate.{worked, onWorked, evaluate}
 use Rattle.execution.specs.Run as definition
 use Rattle.execution.specs.Run.{ended, stopped, onEnded, step, assigns, turns, run}
 use Rattle.words.specs.declared.CommandWord.the-variants.{Skip, Sequence, Assert, AssignScalar, AssignArray, If, While}
 use Rattle.words.specs.declared.CommandWord.the-variants.{For}
-use Rattle.heads.specs.Stands.{commandAt, PartAt}
-use Rattle.heads.proofs.Parts.{command-parts}
+use Rattle.heads.specs.Stands.{commandAt, resolvedPart, Runnable}
+use Rattle.heads.proofs.Parts.{runnable, command-parts}
 use Rattle.arithmetic.specs.Worked.{checked}
 use Rattle.arithmetic.proofs.Signed.{back, held-two}
 use Rattle.evaluate.specs.Evaluated.{number, answer, Answered, Evaluates, Fills}
@@ -111,7 +111,7 @@ module _ {w ends : List ℕ} {at : ℕ} {s : List ℕ} where
       RunsAs w ends at m s s′ m
   unfolding run
   skip-runs {m} t h e f = record {
-    is = λ c p x. stepped-skip t m e f ∙ sym (ap (λ y. run y at (stepsLeft s) m) (command-parts c x h));
+    is = λ c p x. stepped-skip t m e f ∙ sym (ap (λ y. run (x .bodyAt) y at (stepsLeft s) m) (command-parts c x h));
   }
 
   module _ {ss vs : List ℤ} {s₁ s₂ : List ℕ} (z : number s ≡ 0) where
@@ -127,7 +127,7 @@ module _ {w ends : List ℕ} {at : ℕ} {s : List ℕ} where
           ∙ ap (λ n. step at (stepsLeft s₁) m (answer t (number s₁)) λ v l. cond v (ended l m) (stopped 12 at n m))
           (left-kept a)
           ∙ due a z (λ n x. step at n m x λ v l. cond v (ended l m) (stopped 12 at (stepsLeft s) m))
-          ∙ sym (ap (λ x. run x at (stepsLeft s) m) (y .is));
+          ∙ sym (ap (λ y. run (x .bodyAt) y at (stepsLeft s) m) (y .is));
     }
 
     pub scalar-runs : {x : ℕ} {v : ℤ} {after : List ℤ} → commandAt w at ≡ AssignScalar x →
@@ -143,7 +143,7 @@ module _ {w ends : List ℕ} {at : ℕ} {s : List ℕ} where
           ∙ ap (λ y. step at (stepsLeft s₁) m (answer y (number s₁)) λ z l. ended l (to z)) (back b)
           ∙ due (f .is (t .first) p (t .first-at)) z (λ n x. step at n m x λ z l. ended l (to z))
           ∙ given-step at (stepsLeft s) m (evaluate (t .first) (storeOf m)) to
-          ∙ sym (ap (λ y. run y at (stepsLeft s) m) (t .is));
+          ∙ sym (ap (λ y. run (i .bodyAt) y at (stepsLeft s) m) (t .is));
     }
 
     pub array-runs : {a : ℕ} {l after : List ℤ} → commandAt w at ≡ AssignArray a →
@@ -161,7 +161,7 @@ module _ {w ends : List ℕ} {at : ℕ} {s : List ℕ} where
           ∙ given-step at (stepsLeft s) m (onWorked o λ f. worked (elements f)) to
           ∙ ap (λ y. step at (stepsLeft s) m y λ m l. ended l m)
           (after-both o (λ f. worked (elements f)) (λ l. worked (to l)))
-          ∙ sym (ap (λ y. run y at (stepsLeft s) m) (t .is));
+          ∙ sym (ap (λ y. run (i .bodyAt) y at (stepsLeft s) m) (t .is));
     }
 
   -- the start of a `for`
@@ -174,11 +174,11 @@ module _ {w ends : List ℕ} {at : ℕ} {s : List ℕ} where
       is = λ c p x.
           let t = command-parts c x h .0 in
           let go : ℕ → Lent → definition.End = λ l m. turns l (loopTest (syntax.for q r (t .first)))
-          (loopBody (syntax.for q r (t .first)) at) at l m in
+          (loopBody (x .bodyAt) (syntax.for q r (t .first)) at) at l m in
           f .is c p x
-          ∙ ap (λ y. turns (stepsLeft s₁) (loopTest y) (loopBody y at) at (stepsLeft s₁) (lent after vs)) (t .is)
+          ∙ ap (λ y. turns (stepsLeft s₁) (loopTest y) (loopBody (x .bodyAt) y at) at (stepsLeft s₁) (lent after vs)) (t .is)
           ∙ sym (ended-on s₁ e (lent after vs) go) ∙ ap (λ y. onEnded y go) (started at s s₁ vs z g)
-          ∙ sym (ap (λ y. run y at (stepsLeft s) (lent ss vs)) (t .is));
+          ∙ sym (ap (λ y. run (x .bodyAt) y at (stepsLeft s) (lent ss vs)) (t .is));
     }
 
     pub for-stopped : (number s₁ ≡ 0 → ⊥) → RunsAs w ends at (lent ss vs) s s₁ (lent after vs)
@@ -187,9 +187,9 @@ module _ {w ends : List ℕ} {at : ℕ} {s : List ℕ} where
       is = λ c p x.
           let t = command-parts c x h .0 in
           let go : ℕ → Lent → definition.End = λ l m. turns l (loopTest (syntax.for q r (t .first)))
-          (loopBody (syntax.for q r (t .first)) at) at l m in
+          (loopBody (x .bodyAt) (syntax.for q r (t .first)) at) at l m in
           sym (stopped-on s₁ e (lent after vs) go) ∙ ap (λ y. onEnded y go) (started at s s₁ vs z g)
-          ∙ sym (ap (λ y. run y at (stepsLeft s) (lent ss vs)) (t .is));
+          ∙ sym (ap (λ y. run (x .bodyAt) y at (stepsLeft s) (lent ss vs)) (t .is));
     }
 
   pub while-runs : {m m′ : Lent} {s′ : List ℕ} → commandAt w at ≡ While → TurnsAs w ends at m s s′ m′ →
@@ -198,8 +198,8 @@ module _ {w ends : List ℕ} {at : ℕ} {s : List ℕ} where
   while-runs {m} h f = record {
     is = λ c p x.
         let t = command-parts c x h in
-        f .is c p x ∙ ap (λ y. turns (stepsLeft s) (loopTest y) (loopBody y at) at (stepsLeft s) m) (t .is)
-        ∙ sym (ap (λ y. run y at (stepsLeft s) m) (t .is));
+        f .is c p x ∙ ap (λ y. turns (stepsLeft s) (loopTest y) (loopBody (x .bodyAt) y at) at (stepsLeft s) m) (t .is)
+        ∙ sym (ap (λ y. run (x .bodyAt) y at (stepsLeft s) m) (t .is));
   }
 
   module _ {m m₁ : Lent} {s₁ : List ℕ} (h : commandAt w at ≡ Sequence) (f : RunsAs w ends (at + 1) m s s₁ m₁) where
@@ -209,13 +209,13 @@ module _ {w ends : List ℕ} {at : ℕ} {s : List ℕ} where
     sequence-ended {q} e j z = record {
       is = λ c p x.
           let t = command-parts c x h in
-          let same : t .middle ≡ q = command-end-is (t .first) (t .first-at) ∙ sym j in
-          let n = part-end (commandPart (t .first)) (t .first-at) in
-          let go = run (t .second) (at + 1 + length (commandWords (t .first))) in
-          z .is (t .second) p (placed same (t .second-at))
-          ∙ ap (λ y. run (t .second) y (stepsLeft s₁) m₁) (sym same ∙ n)
-          ∙ sym (ended-on s₁ e m₁ go) ∙ ap (λ y. onEnded y go) (f .is (t .first) (t .middle) (t .first-at))
-          ∙ sym (ap (λ y. run y at (stepsLeft s) m) (t .is));
+          let same : t .middle ≡ q = command-end-is (x .context) (t .first) (t .first-at) ∙ sym j in
+          let n = part-end (resolvedPart (x .context) (t .first)) (t .first-at) in
+          let go = run (x .bodyAt) (t .second) (at + 1 + length (commandWords (t .first))) in
+          z .is (t .second) p (runnable x (t .second) (placed same (t .second-at)))
+          ∙ ap (λ y. run (x .bodyAt) (t .second) y (stepsLeft s₁) m₁) (sym same ∙ n)
+          ∙ sym (ended-on s₁ e m₁ go) ∙ ap (λ y. onEnded y go) (f .is (t .first) (t .middle) (runnable x (t .first) (t .first-at)))
+          ∙ sym (ap (λ y. run (x .bodyAt) y at (stepsLeft s) m) (t .is));
     }
 
     pub sequence-stopped : (number s₁ ≡ 0 → ⊥) → RunsAs w ends at m s s₁ m₁
@@ -223,9 +223,9 @@ module _ {w ends : List ℕ} {at : ℕ} {s : List ℕ} where
     sequence-stopped e = record {
       is = λ c p x.
           let t = command-parts c x h in
-          let go = run (t .second) (at + 1 + length (commandWords (t .first))) in
-          sym (stopped-on s₁ e m₁ go) ∙ ap (λ y. onEnded y go) (f .is (t .first) (t .middle) (t .first-at))
-          ∙ sym (ap (λ y. run y at (stepsLeft s) m) (t .is));
+          let go = run (x .bodyAt) (t .second) (at + 1 + length (commandWords (t .first))) in
+          sym (stopped-on s₁ e m₁ go) ∙ ap (λ y. onEnded y go) (f .is (t .first) (t .middle) (runnable x (t .first) (t .first-at)))
+          ∙ sym (ap (λ y. run (x .bodyAt) y at (stepsLeft s) m) (t .is));
     }
 
   module _ {ss vs : List ℤ} {s₁ s₂ : List ℕ} {v : Bool} (z : number s ≡ 0) (h : commandAt w at ≡ If)
@@ -240,14 +240,14 @@ module _ {w ends : List ℕ} {at : ℕ} {s : List ℕ} where
           let same : t .middle ≡ q = end-is (t .first) (t .first-at) ∙ sym j in
           let n = part-end (expressionPart (t .first)) (t .first-at) in
           let go : Bool → ℕ → definition.End = λ y l. elim y [
-            | true ↦ run (t .second) (at + 1 + length (words (t .first))) l m
-            | false ↦ run (t .third) (at + 1 + length (words (t .first)) + length (commandWords (t .second))) l m
+            | true ↦ run (x .bodyAt) (t .second) (at + 1 + length (words (t .first))) l m
+            | false ↦ run (x .bodyAt) (t .third) (at + 1 + length (words (t .first)) + length (commandWords (t .second))) l m
           ] in
-          r .is (t .second) (t .last) (placed same (t .second-at))
-          ∙ ap (λ y. run (t .second) y (stepsLeft s₂) m) (sym same ∙ n)
+          r .is (t .second) (t .last) (runnable x (t .second) (placed same (t .second-at)))
+          ∙ ap (λ y. run (x .bodyAt) (t .second) y (stepsLeft s₂) m) (sym same ∙ n)
           ∙ ap (λ y. go y (stepsLeft s₂)) (sym e)
           ∙ step-taken at m v go g ∙ due (f .is (t .first) (t .middle) (t .first-at)) z (λ n x. step at n m x go)
-          ∙ sym (ap (λ y. run y at (stepsLeft s) m) (t .is));
+          ∙ sym (ap (λ y. run (x .bodyAt) y at (stepsLeft s) m) (t .is));
     }
 
     pub else-runs : {q o : ℕ} {s₃ : List ℕ} {m′ : Lent} → Stepped at s₁ s₂ true → v ≡ false →
@@ -260,19 +260,19 @@ module _ {w ends : List ℕ} {at : ℕ} {s : List ℕ} where
           let m = lent ss vs in
           let same : t .middle ≡ q = end-is (t .first) (t .first-at) ∙ sym j in
           let last : t .last ≡ o =
-          command-end-is (t .second) (t .second-at) ∙ ap (λ z. getD ends z 0) same ∙ sym u in
+          command-end-is (x .context) (t .second) (t .second-at) ∙ ap (λ z. getD ends z 0) same ∙ sym u in
           let n = part-end (expressionPart (t .first)) (t .first-at) in
-          let k = part-end (commandPart (t .second)) (t .second-at) in
+          let k = part-end (resolvedPart (x .context) (t .second)) (t .second-at) in
           let go : Bool → ℕ → definition.End = λ y l. elim y [
-            | true ↦ run (t .second) (at + 1 + length (words (t .first))) l m
-            | false ↦ run (t .third) (at + 1 + length (words (t .first)) + length (commandWords (t .second))) l m
+            | true ↦ run (x .bodyAt) (t .second) (at + 1 + length (words (t .first))) l m
+            | false ↦ run (x .bodyAt) (t .third) (at + 1 + length (words (t .first)) + length (commandWords (t .second))) l m
           ] in
-          r .is (t .third) p (placed last (t .third-at))
-          ∙ ap (λ y. run (t .third) y (stepsLeft s₂) m)
+          r .is (t .third) p (runnable x (t .third) (placed last (t .third-at)))
+          ∙ ap (λ y. run (x .bodyAt) (t .third) y (stepsLeft s₂) m)
           (sym last ∙ k ∙ ap (λ y. y + length (commandWords (t .second))) n)
           ∙ ap (λ y. go y (stepsLeft s₂)) (sym e)
           ∙ step-taken at m v go g ∙ due (f .is (t .first) (t .middle) (t .first-at)) z (λ n x. step at n m x go)
-          ∙ sym (ap (λ y. run y at (stepsLeft s) m) (t .is));
+          ∙ sym (ap (λ y. run (x .bodyAt) y at (stepsLeft s) m) (t .is));
     }
 
     pub if-stopped : Stepped at s₁ s₂ false → RunsAs w ends at (lent ss vs) s s₂ (lent ss vs)
@@ -282,11 +282,11 @@ module _ {w ends : List ℕ} {at : ℕ} {s : List ℕ} where
           let t = command-parts d x h in
           let m = lent ss vs in
           let go : Bool → ℕ → definition.End = λ y l. elim y [
-            | true ↦ run (t .second) (at + 1 + length (words (t .first))) l m
-            | false ↦ run (t .third) (at + 1 + length (words (t .first)) + length (commandWords (t .second))) l m
+            | true ↦ run (x .bodyAt) (t .second) (at + 1 + length (words (t .first))) l m
+            | false ↦ run (x .bodyAt) (t .third) (at + 1 + length (words (t .first)) + length (commandWords (t .second))) l m
           ] in
           step-refused at m v go g ∙ due (f .is (t .first) (t .middle) (t .first-at)) z (λ n x. step at n m x go)
-          ∙ sym (ap (λ y. run y at (stepsLeft s) m) (t .is));
+          ∙ sym (ap (λ y. run (x .bodyAt) y at (stepsLeft s) m) (t .is));
     }
 
   -- one turn, by its test
@@ -296,39 +296,39 @@ module _ {w ends : List ℕ} {at : ℕ} {s : List ℕ} where
     turn-pass g e r = record {
       running = r .running;
       is = λ d p x.
-          r .is d p x ∙ turn-goes at m (loopBody d at) g e ∙ due (f .is d p x) z (λ n o. turnBy at n o m (loopBody d at));
+          r .is d p x ∙ turn-goes at m (loopBody (x .bodyAt) d at) g e ∙ due (f .is d p x) z (λ n o. turnBy at n o m (loopBody (x .bodyAt) d at));
     }
 
     pub turn-else : Stepped at s₁ s₂ true → v ≡ false → TurnAs w ends at m s false s₂ m
     turn-else g e = record {
       running = λ i. never-true i;
-      is = λ d p x. turn-ends at m (loopBody d at) g e ∙ due (f .is d p x) z (λ n o. turnBy at n o m (loopBody d at));
+      is = λ d p x. turn-ends at m (loopBody (x .bodyAt) d at) g e ∙ due (f .is d p x) z (λ n o. turnBy at n o m (loopBody (x .bodyAt) d at));
     }
 
     pub turn-stopped : Stepped at s₁ s₂ false → TurnAs w ends at m s false s₂ m
     turn-stopped g = record {
       running = λ i. never-true i;
-      is = λ d p x. turn-stops at m (loopBody d at) v g ∙ due (f .is d p x) z (λ n o. turnBy at n o m (loopBody d at));
+      is = λ d p x. turn-stops at m (loopBody (x .bodyAt) d at) v g ∙ due (f .is d p x) z (λ n o. turnBy at n o m (loopBody (x .bodyAt) d at));
     }
 
   -- the body of a loop, and what follows it
   body-runs : {m : Lent} (kind : Loop) → commandAt w at ≡ loopWord kind → {q : ℕ} {ss vs : List ℤ} {s₁ : List ℕ} →
       q ≡ bodyPlace ends at kind → RunsAs w ends q m s s₁ (lent ss vs) →
-      {s₂ : List ℕ} {after : List ℤ} → EndsPass ss at kind s₁ s₂ after → (c : syntax.Command) (p : ℕ) →
-      PartAt w ends (commandPart c) at p → endAt s₂ (lent after vs) ≡ loopBody c at (stepsLeft s) m
+      {s₂ : List ℕ} {after : List ℤ} → EndsPass ss at kind s₁ s₂ after → (c : syntax.Command) (p : ℕ)
+      (x : Runnable w ends c at p) → endAt s₂ (lent after vs) ≡ loopBody (x .bodyAt) c at (stepsLeft s) m
   body-runs {m} Test h {q} {vs = vs} j f g c p x =
       let t = command-parts c x h in
       let same : t .middle ≡ q = end-is (t .first) (t .first-at) ∙ sym j in
       let n = part-end (expressionPart (t .first)) (t .first-at) in
-      g .is vs ∙ ended-same _ ∙ f .is (t .second) p (placed same (t .second-at))
-      ∙ ap (λ y. run (t .second) y (stepsLeft s) m) (sym same ∙ n)
-      ∙ sym (ap (λ y. loopBody y at (stepsLeft s) m) (t .is))
+      g .is vs ∙ ended-same _ ∙ f .is (t .second) p (runnable x (t .second) (placed same (t .second-at)))
+      ∙ ap (λ y. run (x .bodyAt) (t .second) y (stepsLeft s) m) (sym same ∙ n)
+      ∙ sym (ap (λ y. loopBody (x .bodyAt) y at (stepsLeft s) m) (t .is))
   body-runs {m} (Count z o) h {q} {vs = vs} j f g c p x =
       let t = command-parts c x h .0 in
       g .is vs
       ∙ ap (λ y. onEnded y (λ l k. assigns (increment z) at l k))
-      (f .is (t .first) p (placed (sym j) (t .first-at)) ∙ ap (λ y. run (t .first) y (stepsLeft s) m) j)
-      ∙ sym (ap (λ y. loopBody y at (stepsLeft s) m) (t .is))
+      (f .is (t .first) p (runnable x (t .first) (placed (sym j) (t .first-at))) ∙ ap (λ y. run (x .bodyAt) (t .first) y (stepsLeft s) m) j)
+      ∙ sym (ap (λ y. loopBody (x .bodyAt) y at (stepsLeft s) m) (t .is))
 
   pub pass-runs : {m : Lent} (kind : Loop) → commandAt w at ≡ loopWord kind → {q : ℕ} {ss vs : List ℤ} {s₁ : List ℕ} →
       q ≡ bodyPlace ends at kind → RunsAs w ends q m s s₁ (lent ss vs) →

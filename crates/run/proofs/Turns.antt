@@ -8,18 +8,15 @@
 use mathlib.Core.Path.{_≡_, refl, sym, ap, _∙_}
 use mathlib.Core.Bool.{Bool, true, false}
 use mathlib.Core.List.{List}
-use Prim.Native.Nat.{ℕ, zero, suc, _+_, _<_, _≤_}
+use Prim.Native.Nat.{ℕ, zero, suc, _<_, _≤_}
 use native.Mathlib.Omega.{arith}
-use lib.ListN.{length}
 use Rattle.language.specs.Syntax as syntax
 use Rattle.language.specs.Syntax.{Expr}
-use Rattle.rules.specs.Words.{commandWords}
-use Rattle.layout.specs.EvidenceWords.{commandPart}
 use Rattle.execution.specs.Lent.{Lent, storeOf}
 use Rattle.execution.specs.Evaluate.{Evaluation, worked, stops, evaluate}
 use Rattle.execution.specs.Run as definition
 use Rattle.execution.specs.Run.{ended, stopped, onEnded, step, turns}
-use Rattle.heads.specs.Stands.{PartAt, CommandStands}
+use Rattle.heads.specs.Stands.{Runnable, CommandStands}
 use Rattle.evaluate.specs.Evaluated.{number}
 use Rattle.run.specs.Steps.{stepsLeft}
 use Rattle.run.specs.Turns.{loopTest, loopBody, Turned, again, over, turnedAt, goOn, turnBy, turnOf, TurnsAs}
@@ -109,33 +106,36 @@ module _ (b : Expr syntax.Boolean) (body : ℕ → Lent → definition.End) (at 
 -- from m₀ with the progress s₀, a loop has come to m with the progress s, and nothing stopped it
 pub record LoopGoing (w ends : List ℕ) (at : ℕ) (m₀ : Lent) (s₀ : List ℕ) (m : Lent) (s : List ℕ) : Type 0 where
   pub running : number s ≡ 0
-  pub same : (c : syntax.Command) (p : ℕ) → PartAt w ends (commandPart c) at p →
-      turns (stepsLeft s₀) (loopTest c) (loopBody c at) at (stepsLeft s₀) m₀
-      ≡ turns (stepsLeft s) (loopTest c) (loopBody c at) at (stepsLeft s) m
+  pub within : stepsLeft s ≤ stepsLeft s₀
+  pub same : (c : syntax.Command) (p : ℕ) (x : Runnable w ends c at p) →
+      turns (stepsLeft s₀) (loopTest c) (loopBody (x .bodyAt) c at) at (stepsLeft s₀) m₀
+      ≡ turns (stepsLeft s) (loopTest c) (loopBody (x .bodyAt) c at) at (stepsLeft s) m
 
 pub going-none : (w ends : List ℕ) (at : ℕ) (m : Lent) (s : List ℕ) → number s ≡ 0 → LoopGoing w ends at m s m s
-going-none w ends at m s e = record { running = e; same = λ c p x. refl }
+going-none w ends at m s e = record { running = e; within = omega arith; same = λ c p x. refl }
 
 module _ {w ends : List ℕ} {at : ℕ} {m m′ : Lent} {s s′ : List ℕ} {r : Bool} where
   pub falls : CommandStands w ends at → TurnAs w ends at m s r s′ m′ → r ≡ true → stepsLeft s′ < stepsLeft s
   falls x f e =
       let c = x .tree in
-      turn-less (loopTest c) (loopBody c at) at (at + length (commandWords c)) (body-bounded c at) (stepsLeft s) m
+      turn-less (loopTest c) (loopBody (x .there .bodyAt) c at) at 8192 (body-bounded c (x .there)) (stepsLeft s) m
       (ap (λ y. turnedAt y s′ m′) (sym e) ∙ f .is c (x .past) (x .there))
 
   module _ {m₀ : Lent} {s₀ : List ℕ} (g : LoopGoing w ends at m₀ s₀ m s) (f : TurnAs w ends at m s r s′ m′) where
-    pub going-on : r ≡ true → LoopGoing w ends at m₀ s₀ m′ s′
-    going-on e = record {
+    pub going-on : CommandStands w ends at → r ≡ true → LoopGoing w ends at m₀ s₀ m′ s′
+    going-on y e = record {
       running = f .running e;
+      within = omega (arith, g .within, falls y f e);
       same = λ c p x.
           g .same c p x
-          ∙ turns-again (loopTest c) (loopBody c at) at (at + length (commandWords c)) (body-bounded c at) (stepsLeft s) m
+          ∙ turns-again (loopTest c) (loopBody (x .bodyAt) c at) at 8192 (body-bounded c x) (stepsLeft s) m
           (ap (λ y. turnedAt y s′ m′) (sym e) ∙ f .is c p x);
     }
 
     pub going-over : r ≡ false → TurnsAs w ends at m₀ s₀ s′ m′
     going-over e = record {
       is = λ c p x.
-          turns-over (loopTest c) (loopBody c at) at (stepsLeft s) m (ap (λ y. turnedAt y s′ m′) (sym e) ∙ f .is c p x)
+          turns-over (loopTest c) (loopBody (x .bodyAt) c at) at (stepsLeft s) m
+          (ap (λ y. turnedAt y s′ m′) (sym e) ∙ f .is c p x)
           ∙ sym (g .same c p x);
     }

@@ -6,11 +6,10 @@ use mathlib.Core.Path.{_≡_}
 use mathlib.Core.List.{List}
 use Prim.Native.Nat.{ℕ}
 use Rattle.language.specs.Syntax as syntax
-use Rattle.layout.specs.EvidenceWords.{commandPart}
 use Rattle.execution.specs.Lent.{Lent}
 use Rattle.execution.specs.Run.{run}
 use Rattle.words.specs.declared.CommandWord.{CommandWord}
-use Rattle.heads.specs.Stands.{commandAt, PartAt, CommandStands}
+use Rattle.heads.specs.Stands.{commandAt, Runnable, CommandStands}
 use Rattle.evaluate.specs.Evaluated.{number}
 use Rattle.run.specs.Steps.{stepsLeft, endAt}
 
@@ -24,5 +23,4 @@ pub record CanRunAt (w ends s : List ℕ) (at : ℕ) (h : CommandWord) : Type 0 
 
 -- from m with the progress s, the progress s′ and the store m′
 pub record RunsAs (w ends : List ℕ) (at : ℕ) (m : Lent) (s s′ : List ℕ) (m′ : Lent) : Type 0 where
-  pub is : (c : syntax.Command) (p : ℕ) → PartAt w ends (commandPart c) at p →
-      endAt s′ m′ ≡ run c at (stepsLeft s) m
+  pub is : (c : syntax.Command) (p : ℕ) (x : Runnable w ends c at p) → endAt s′ m′ ≡ run (x .bodyAt) c at (stepsLeft s) m

@@ -15,17 +15,16 @@ use lib.IntN.{ℤ}
 use lib.ListN.{length, getD}
 use Rattle.language.specs.Syntax as syntax
 use Rattle.language.specs.Syntax.{Expr, scalar, compare, truth, atMost}
-use Rattle.language.specs.Syntax.{skip, sequence, assert, assign, ifElse, while, for}
+use Rattle.language.specs.Syntax.{skip, sequence, assert, assign, ifElse, while, for, call}
 use Rattle.language.specs.Runs.{increment}
 use Rattle.rules.specs.Words.{words}
-use Rattle.layout.specs.EvidenceWords.{commandPart}
 use Rattle.execution.specs.Lent.{Lent, lent, storeOf}
 use Rattle.execution.specs.Evaluate.{Evaluation, worked, stops, evaluate}
 use Rattle.execution.specs.Run as definition
 use Rattle.execution.specs.Run.{ended, stopped, onEnded, assigns, turns, run}
 use Rattle.words.specs.declared.CommandWord.{CommandWord}
 use Rattle.words.specs.declared.CommandWord.the-variants.{While, For}
-use Rattle.heads.specs.Stands.{PartAt}
+use Rattle.heads.specs.Stands.{Runnable}
 use Rattle.evaluate.specs.Evaluated.{number, Answered}
 use Rattle.run.specs.Steps.{stepsLeft, endAt}
 use Rattle.run.specs.declared.Loop.{Loop}
@@ -44,15 +43,17 @@ loopTest (assign a) = truth false
 loopTest (ifElse b c d) = truth false
 loopTest (while b c) = b
 loopTest (for q r c) = compare atMost (scalar q) (scalar r)
+loopTest (call n c) = truth false
 
-abbrev pub loopBody : syntax.Command → ℕ → ℕ → Lent → definition.End
-loopBody skip at n m = ended n m
-loopBody (sequence c d) at n m = ended n m
-loopBody (assert b) at n m = ended n m
-loopBody (assign a) at n m = ended n m
-loopBody (ifElse b c d) at n m = ended n m
-loopBody (while b c) at n m = run c (at + 1 + length (words b)) n m
-loopBody (for q r c) at n m = onEnded (run c (at + 1) n m) (assigns (increment q) at)
+abbrev pub loopBody : (ℕ → ℕ) → syntax.Command → ℕ → ℕ → Lent → definition.End
+loopBody bodyAt skip at n m = ended n m
+loopBody bodyAt (sequence c d) at n m = ended n m
+loopBody bodyAt (assert b) at n m = ended n m
+loopBody bodyAt (assign a) at n m = ended n m
+loopBody bodyAt (ifElse b c d) at n m = ended n m
+loopBody bodyAt (while b c) at n m = run bodyAt c (at + 1 + length (words b)) n m
+loopBody bodyAt (for q r c) at n m = onEnded (run bodyAt c (at + 1) n m) (assigns (increment q) at)
+loopBody bodyAt (call p c) at n m = ended n m
 
 abbrev pub bodyPlace : List ℕ → ℕ → Loop → ℕ
 bodyPlace ends at Test = getD ends (at + 1) 0
@@ -91,7 +92,7 @@ afterBody Test at n m = ended n m
 afterBody (Count q r) at n m = assigns (increment q) at n m
 
 pub record TestsLoop (w ends : List ℕ) (at : ℕ) (m : Lent) (s : List ℕ) (r : Bool) (s′ : List ℕ) : Type 0 where
-  pub is : (c : syntax.Command) (p : ℕ) → PartAt w ends (commandPart c) at p →
+  pub is : (c : syntax.Command) (p : ℕ) (x : Runnable w ends c at p) →
       Answered s (evaluate (loopTest c) (storeOf m)) r s′
 
 pub record CanIncrement (q at : ℕ) (s : List ℕ) : Type 0 where
@@ -107,16 +108,16 @@ pub record EndsPass (ss : List ℤ) (at : ℕ) (kind : Loop) (s s′ : List ℕ)
 
 module _ (w ends : List ℕ) (at : ℕ) (m : Lent) (s : List ℕ) where
   pub record TurnsAs (s′ : List ℕ) (m′ : Lent) : Type 0 where
-    pub is : (c : syntax.Command) (p : ℕ) → PartAt w ends (commandPart c) at p →
-        endAt s′ m′ ≡ turns (stepsLeft s) (loopTest c) (loopBody c at) at (stepsLeft s) m
+    pub is : (c : syntax.Command) (p : ℕ) (x : Runnable w ends c at p) →
+        endAt s′ m′ ≡ turns (stepsLeft s) (loopTest c) (loopBody (x .bodyAt) c at) at (stepsLeft s) m
 
   -- another turn is due only if nothing stopped the run
   pub record TurnAs (r : Bool) (s′ : List ℕ) (m′ : Lent) : Type 0 where
     pub running : r ≡ true → number s′ ≡ 0
-    pub is : (c : syntax.Command) (p : ℕ) → PartAt w ends (commandPart c) at p →
-        turnedAt r s′ m′ ≡ turnOf (loopTest c) (loopBody c at) at (stepsLeft s) m
+    pub is : (c : syntax.Command) (p : ℕ) (x : Runnable w ends c at p) →
+        turnedAt r s′ m′ ≡ turnOf (loopTest c) (loopBody (x .bodyAt) c at) at (stepsLeft s) m
 
   pub record PassAs (r : Bool) (s′ : List ℕ) (m′ : Lent) : Type 0 where
     pub running : r ≡ true → number s′ ≡ 0
-    pub is : (c : syntax.Command) (p : ℕ) → PartAt w ends (commandPart c) at p →
-        turnedAt r s′ m′ ≡ goOn (loopBody c at (stepsLeft s) m)
+    pub is : (c : syntax.Command) (p : ℕ) (x : Runnable w ends c at p) →
+        turnedAt r s′ m′ ≡ goOn (loopBody (x .bodyAt) c at (stepsLeft s) m)

@@ -1,5 +1,6 @@
 // Commands.
 use super::Loop;
+use super::called::called_at;
 use super::repeat::body_at;
 use super::repeat::end_pass;
 use super::repeat::loop_test;
@@ -19,7 +20,7 @@ ghost use Rattle.run.specs.Turns.{loopWord, TurnsAs, TurnAs, PassAs};
 
 pub fn run_command(
     w: &[u32; 8192],
-    ends: &[u32; 8704],
+    ends: &[u32; 8753],
     at: usize,
     scalars: &mut [i64; 32],
     values: &mut [i64; 2048],
@@ -41,6 +42,7 @@ pub fn run_command(
         CommandWord::If => run_if(w, ends, at, scalars, values, progress),
         CommandWord::While => run_turns(w, ends, at, Loop::Test, scalars, values, progress),
         CommandWord::For(q, m) => run_for(w, ends, at, q, m, scalars, values, progress),
+        CommandWord::Call(p) => run_call(w, ends, at, p, scalars, values, progress),
         CommandWord::Other => {}
     }
 }
@@ -48,7 +50,7 @@ pub fn run_command(
 // The first command, then the second from where the first ended.
 fn run_sequence(
     w: &[u32; 8192],
-    ends: &[u32; 8704],
+    ends: &[u32; 8753],
     at: usize,
     scalars: &mut [i64; 32],
     values: &mut [i64; 2048],
@@ -67,7 +69,7 @@ fn run_sequence(
 
 fn run_if(
     w: &[u32; 8192],
-    ends: &[u32; 8704],
+    ends: &[u32; 8753],
     at: usize,
     scalars: &mut [i64; 32],
     values: &mut [i64; 2048],
@@ -89,10 +91,31 @@ fn run_if(
     }
 }
 
+// A call, which is one step, then the body of procedure p from the store at hand.
+fn run_call(
+    w: &[u32; 8192],
+    ends: &[u32; 8753],
+    at: usize,
+    p: u32,
+    scalars: &mut [i64; 32],
+    values: &mut [i64; 2048],
+    progress: &mut Progress,
+)
+    requires { ⌜ CanRunAt (now w) (now ends) (now progress) «at» (CommandWord.Call p) ⌝ }
+    ensures { λ _. ⌜ RunsAs (now (w .entry)) (now (ends .entry)) «at» (lent (now (scalars .entry)) (now (values .entry)))
+        (now (progress .entry)) (now (progress .exit)) (lent (now (scalars .exit)) (now (values .exit))) ⌝ }
+{
+    let taken = take_step(progress, at);
+    if taken {
+        let body = called_at(w, ends, p);
+        run_command(w, ends, body, scalars, values, progress);
+    }
+}
+
 // The start of a `for`, which is one step, then its turns.
 fn run_for(
     w: &[u32; 8192],
-    ends: &[u32; 8704],
+    ends: &[u32; 8753],
     at: usize,
     q: u32,
     m: u32,
@@ -113,7 +136,7 @@ fn run_for(
 // A while, or a `for` from its test on. Each turn takes a step, so the steps left fall.
 fn run_turns(
     w: &[u32; 8192],
-    ends: &[u32; 8704],
+    ends: &[u32; 8753],
     at: usize,
     kind: Loop,
     scalars: &mut [i64; 32],
@@ -130,7 +153,7 @@ fn run_turns(
 // The test, and one turn if it is due: whether another may be.
 fn run_turn(
     w: &[u32; 8192],
-    ends: &[u32; 8704],
+    ends: &[u32; 8753],
     at: usize,
     kind: Loop,
     scalars: &mut [i64; 32],
@@ -153,7 +176,7 @@ fn run_turn(
 // The body, and what follows it: whether the run goes on.
 fn run_pass(
     w: &[u32; 8192],
-    ends: &[u32; 8704],
+    ends: &[u32; 8753],
     at: usize,
     kind: Loop,
     scalars: &mut [i64; 32],

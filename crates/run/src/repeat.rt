@@ -18,7 +18,7 @@ ghost use Rattle.run.specs.Turns.{loopWord, bodyPlace, CountsIn, CanIncr
 // Whether a turn is due.
 pub fn loop_test(
     w: &[u32; 8192],
-    ends: &[u32; 8704],
+    ends: &[u32; 8753],
     at: usize,
     kind: Loop,
     scalars: &[i64; 32],

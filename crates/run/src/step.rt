@@ -77,7 +77,7 @@ fn store_array(
 // An assertion stands at the place.
 pub fn run_assert(
     w: &[u32; 8192],
-    ends: &[u32; 8704],
+    ends: &[u32; 8753],
     at: usize,
     scalars: &[i64; 32],
     values: &[i64; 2048],
@@ -94,7 +94,7 @@ pub fn run_assert(
 // An assignment to the scalar x stands at the place.
 pub fn assign_scalar(
     w: &[u32; 8192],
-    ends: &[u32; 8704],
+    ends: &[u32; 8753],
     at: usize,
     x: u32,
     scalars: &mut [i64; 32],
@@ -112,7 +112,7 @@ pub fn assign_scalar(
 // An assignment to the array a stands at the place. Its values are worked out before any of the store is written.
 pub fn assign_array(
     w: &[u32; 8192],
-    ends: &[u32; 8704],
+    ends: &[u32; 8753],
     at: usize,
     a: u32,
     scalars: &[i64; 32],

@@ -7,26 +7,24 @@
 use mathlib.Core.Path.{_≡_, refl, sym, ap, ap₂, subst, _∙_}
 use mathlib.Core.Bool.{Bool, true, false}
 use mathlib.Core.List.{List}
-use Prim.Native.Nat.{ℕ, zero, suc, _+_, _-_, _<_, _≤_}
+use Prim.Native.Nat.{ℕ, zero, suc, _-_, _<_, _≤_}
 use native.Mathlib.Omega.{arith}
 use borrow.Author.Tests.{lt-ltb, le-ltb, eq-eqb, ne-eqb}
 use lib.IntN.{ℤ}
 use lib.ListN.{length, drop}
 use lib.Seq.{paste, take-all}
 use Rattle.language.specs.Syntax as syntax
-use Rattle.rules.specs.Words.{commandWords}
-use Rattle.layout.specs.EvidenceWords.{commandPart}
 use Rattle.layout.specs.File.{File}
 use Rattle.execution.specs.Lent.{Lent}
 use Rattle.execution.specs.Run.{run}
-use Rattle.execution.specs.Ran.{notRun, ranOf, wellSized, runFile}
+use Rattle.execution.specs.Ran.{notRun, ranOf, wellSized, bodyPlace, runFile}
 use Rattle.context.specs.Contexts.{refusal}
-use Rattle.heads.specs.Stands.{PartAt}
+use Rattle.heads.specs.Stands.{Runnable}
 use Rattle.evaluate.specs.Evaluated.{number}
 use Rattle.evaluate.proofs.Elements.{whole}
 use Rattle.run.specs.Steps.{stepsLeft, stopPlace, endBy, endAt}
 use Rattle.run.specs.Places.{RunsAs}
-use Rattle.run.proofs.Bounds.{Bounded, run-bounded}
+use Rattle.run.proofs.Bounds.{run-within}
 use Rattle.runner.specs.Running.{ranAt, refusedAt, RanFile, CanReport, ReportsEnd, CanRunCopied}
 use Rattle.runner.specs.declared.Answer.the-variants.{Done, Refused}
 use Rattle.runner.specs.declared.Ran.{Ran}
@@ -47,7 +45,8 @@ module _ (f : File) (budget : ℕ) (m : Lent) where
   unfolding runFile
   ill-is l h = passed _ _ (le-ltb 1000000 budget l) ∙ passed _ _ h
 
-  run-is : budget ≤ 1000000 → wellSized m ≡ true → runFile f budget m ≡ ranOf budget (run (f .program) 1 budget m)
+  run-is : budget ≤ 1000000 → wellSized m ≡ true →
+      runFile f budget m ≡ ranOf budget (run (bodyPlace f) (f .main .command) (f .main .start) budget m)
   unfolding runFile
   run-is l h = passed _ _ (le-ltb 1000000 budget l) ∙ taken _ _ h
 
@@ -60,20 +59,16 @@ no-values m k h = rw (eq-eqb (length (m .scalars)) 32 k) (rw (ne-eqb (length (m 
 both-sized : (m : Lent) → length (m .scalars) ≡ 32 → length (m .values) ≡ 2048 → wellSized m ≡ true
 both-sized m k h = rw (eq-eqb (length (m .scalars)) 32 k) (rw (eq-eqb (length (m .values)) 2048 h))
 
-bounded-left : (b k p n budget : ℕ) (m : Lent) → Bounded b budget (endBy k p n m) → n ≤ budget
-bounded-left b zero p n budget m h = h
-bounded-left b (suc k) p n budget m h = h .0
+module _ {w ends : List ℕ} {start : ℕ} (budget : ℕ) (m : Lent) {r : Ran} where
+  pub over-budget : 1000000 < budget → r ≡ refusedAt 10 0 → RanFile w ends start budget m r m
+  over-budget l e = record { is = λ f p x i j. ap (λ r. ranAt r m) e ∙ sym (over-is f budget m l) }
 
-module _ {w ends : List ℕ} (budget : ℕ) (m : Lent) {r : Ran} where
-  pub over-budget : 1000000 < budget → r ≡ refusedAt 10 0 → RanFile w ends budget m r m
-  over-budget l e = record { is = λ f x. ap (λ r. ranAt r m) e ∙ sym (over-is f budget m l) }
-
-  pub ill-scalars : budget ≤ 1000000 → (length (m .scalars) ≡ 32 → ⊥) → r ≡ refusedAt 11 0 → RanFile w ends budget m r m
-  ill-scalars l h e = record { is = λ f x. ap (λ r. ranAt r m) e ∙ sym (ill-is f budget m l (no-scalars m h)) }
+  pub ill-scalars : budget ≤ 1000000 → (length (m .scalars) ≡ 32 → ⊥) → r ≡ refusedAt 11 0 → RanFile w ends start budget m r m
+  ill-scalars l h e = record { is = λ f p x i j. ap (λ r. ranAt r m) e ∙ sym (ill-is f budget m l (no-scalars m h)) }
 
   pub ill-values : budget ≤ 1000000 → length (m .scalars) ≡ 32 → (length (m .values) ≡ 2048 → ⊥) → r ≡ refusedAt 11 0 →
-      RanFile w ends budget m r m
-  ill-values l k h e = record { is = λ f x. ap (λ r. ranAt r m) e ∙ sym (ill-is f budget m l (no-values m k h)) }
+      RanFile w ends start budget m r m
+  ill-values l k h e = record { is = λ f p x i j. ap (λ r. ranAt r m) e ∙ sym (ill-is f budget m l (no-values m k h)) }
 
 -- ---- a run, by its progress
 pub reports-done : {s : List ℕ} {budget n : ℕ} → number s ≡ 0 → n ≡ stepsLeft s →
@@ -97,23 +92,18 @@ pub copied : (n : ℕ) (d s : List ℤ) {l : List ℤ} → length d ≡ n → le
 copied n d s h k e = e ∙ whole n d s h ∙ take-all n s (omega arith)
 
 -- the run from the copies m₁ of the store to m₂, which are put back as m₃
-module _ {w ends : List ℕ} {m m₁ m₂ : Lent} {budget : ℕ} (c : CanRunCopied w ends m budget) (to : m₁ ≡ m)
-    {s s′ : List ℕ} (f : RunsAs w ends 1 m₁ s s′ m₂) (b : stepsLeft s ≡ budget) where
-  came : (d : syntax.Command) {p : ℕ} → PartAt w ends (commandPart d) 1 p → endAt s′ m₂ ≡ run d 1 budget m
-  came d {p} x = f .is d p x ∙ ap₂ (λ n k. run d 1 n k) b to
+module _ {w ends : List ℕ} {start : ℕ} {m m₁ m₂ : Lent} {budget : ℕ} (c : CanRunCopied w ends start m budget) (to : m₁ ≡ m)
+    {s s′ : List ℕ} (f : RunsAs w ends start m₁ s s′ m₂) (b : stepsLeft s ≡ budget) where
+  came : (d : syntax.Command) {p : ℕ} (x : Runnable w ends d start p) → endAt s′ m₂ ≡ run (x .bodyAt) d start budget m
+  came d {p} x = f .is d p x ∙ ap₂ (λ n k. run (x .bodyAt) d start n k) b to
 
   pub can-report : CanReport s′ budget
-  can-report =
-      let d = c .command .tree in
-      let past = 1 + length (commandWords d) in
-      record {
-        within = bounded-left past (number s′) (stopPlace s′) (stepsLeft s′) budget m₂
-            (subst (Bounded past budget) (sym (came d (c .command .there))) (run-bounded past d 1 budget m (omega arith)));
-      }
+  can-report = record { within = omega (arith, run-within (c .command) f, b) }
 
-  pub reported : {r : Ran} {m₃ : Lent} → m₃ ≡ m₂ → ReportsEnd s′ budget r → RanFile w ends budget m r m₃
+  pub reported : {r : Ran} {m₃ : Lent} → m₃ ≡ m₂ → ReportsEnd s′ budget r → RanFile w ends start budget m r m₃
   reported {r} back g = record {
-    is = λ y x.
-        ap (ranAt r) back ∙ g .is m₂ ∙ ap (ranOf budget) (came (y .program) x)
+    is = λ y p x e h.
+        ap (ranAt r) back ∙ g .is m₂ ∙ ap (ranOf budget) (came (y .main .command) x)
+        ∙ ap₂ (λ i at. ranOf budget (run i (y .main .command) at budget m)) e (sym h)
         ∙ sym (run-is y budget m (c .few) (both-sized m (c .scalars-sized) (c .values-sized)));
   }

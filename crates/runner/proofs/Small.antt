@@ -4,24 +4,20 @@
 --     can-pack, packed-run    the code's answer; the number for C
 use mathlib.Core.Path.{_≡_, refl, sym, ap, ap₂, subst, _∙_}
 use mathlib.Core.Bool.{Bool, true, false}
-use mathlib.Core.List.{List, [], _∷_}
+use mathlib.Core.List.{List}
 use Prim.Native.Nat.{ℕ, _+_, _*_, _≤_}
 use native.Mathlib.Omega.{arith}
-use lib.ListN.{length, length-append}
-use Rattle.rules.specs.Words.{commandWords}
-use Rattle.rules.specs.Context.{Context, standard}
+use Rattle.rules.specs.Context.{Limits, standard}
 use Rattle.layout.specs.Bytes.{wordsOf}
 use Rattle.layout.specs.Reading.{read}
-use Rattle.layout.specs.EvidenceWords.{joined, setPart, treePart}
 use Rattle.layout.specs.File.{File, badLength, fileOf}
-use Rattle.layout.proofs.WholeFile.{file-spelled}
 use Rattle.execution.specs.Lent.{Lent}
 use Rattle.execution.specs.Run.{End, ended, stopped, run}
 use Rattle.execution.specs.Ran as definition
-use Rattle.execution.specs.Ran.{ranOf, runOf}
+use Rattle.execution.specs.Ran.{ranOf, bodyPlace, runOf}
 use Rattle.execution.proofs.Order.{StepJudged, not-read, over-budget, ill-sized, is-run, judged}
 use Rattle.context.specs.declared.Refusal.{Refusal}
-use Rattle.run.proofs.Bounds.{Bounded, run-bounded}
+use Rattle.run.proofs.Bounds.{Bounded, calls-within, run-bounded}
 use Rattle.runner.specs.Ran.{answerMeant, RunOf}
 use Rattle.runner.specs.Packed.{codeOf, packedRan, PackedRun}
 use Rattle.runner.specs.Running.{ranAt, SmallAnswer, SmallRan, CanPack}
@@ -30,38 +26,42 @@ use Rattle.runner.specs.declared.Answer.the-variants.{Done, Refused}
 use Rattle.runner.specs.declared.Ran.{Ran}
 use Rattle.words.proofs.Lengths.{bad-file, good-file}
 use Rattle.file.proofs.Faults.{FaultBy, few-words, file-fault}
+use Rattle.runner.proofs.Procedures.{body-within, whole, main-body, body-of}
 use Rattle.runner.proofs.Files.{never}
 
-module _ (Γ : Context) (bytes : List ℕ) where
-  -- the command of a file that was read stands within 8,192 words
-  program-small : (f : File) (p : ℕ) → fileOf Γ bytes ≡ read f p → 1 + length (commandWords (f .program)) ≤ 8192
-  unfolding joined
-  program-small f p e = go (badLength bytes) refl
+module _ (limits : Limits) (bytes : List ℕ) where
+  -- the programs of a file that was read stand within 8,192 words
+  run-small : (f : File) (p : ℕ) → fileOf limits bytes ≡ read f p → (budget : ℕ) (m : Lent) →
+      Bounded 8192 budget (run (bodyPlace f) (f .main .command) (f .main .start) budget m)
+  run-small f p e budget m = go (badLength bytes) refl
     where
-      go : (t : Bool) → badLength bytes ≡ t → 1 + length (commandWords (f .program)) ≤ 8192
-      go true t = let h = sym (bad-file Γ bytes t) ∙ e in never (cc)
+      go : (t : Bool) → badLength bytes ≡ t →
+          Bounded 8192 budget (run (bodyPlace f) (f .main .command) (f .main .start) budget m)
+      go true t = let h = sym (bad-file limits bytes t) ∙ e in never (cc)
       go false t =
-          let h = sym (good-file Γ bytes t) ∙ e in
-          let x = file-spelled Γ (wordsOf bytes) f p h .spelled .whole in
+          let h = sym (good-file limits bytes t) ∙ e in
           let l = few-words bytes t in
-          let a = length-append (commandWords (f .program))
-          (joined (setPart Γ (f .pre) ∷ setPart Γ (f .post) ∷ treePart Γ (f .evidence) ∷ [])) in
-          omega arith
+          let Γ = whole limits f in
+          let x = main-body limits (wordsOf bytes) f p h in
+          let i = body-within (wordsOf bytes) Γ (f .main .command) (f .main .start) x .1 in
+          run-bounded 8192 (bodyPlace f) (f .main .command) (f .main .start) budget m (omega (arith, i, l))
+          (calls-within (Γ .procedures) 8192 (bodyPlace f) (λ n k j.
+          let o = body-within (wordsOf bytes) Γ (k .body) (bodyPlace f n) (body-of limits (wordsOf bytes) f p h n k j) .1 in
+          omega (arith, l, o)) (f .main .command) (x .stands .fit .1))
 
-ran-small : (budget : ℕ) (e : End) → budget ≤ 1000000 → Bounded 8193 budget e → SmallRan (ranOf budget e)
+ran-small : (budget : ℕ) (e : End) → budget ≤ 1000000 → Bounded 8192 budget e → SmallRan (ranOf budget e)
 ran-small budget (ended n m) l h = record { few = omega arith; near = tt }
 ran-small budget (stopped k p n m) l h = record { few = omega arith; near = omega (arith, h .1) }
 
-pub small-ran : (Γ : Context) (bytes : List ℕ) (budget : ℕ) (m : Lent) → SmallRan (runOf Γ bytes budget m)
-small-ran Γ bytes budget m = go (judged Γ bytes budget m)
+pub small-ran : (limits : Limits) (bytes : List ℕ) (budget : ℕ) (m : Lent) → SmallRan (runOf limits bytes budget m)
+small-ran limits bytes budget m = go (judged limits bytes budget m)
   where
-    go : {r : definition.Ran} → StepJudged Γ bytes budget m r → SmallRan r
-    go (not-read e) = record { few = omega arith; near = subst (FaultBy 8192) e (file-fault Γ bytes) .1 }
+    go : {r : definition.Ran} → StepJudged limits bytes budget m r → SmallRan r
+    go (not-read e) = record { few = omega arith; near = subst (FaultBy 8192) e (file-fault limits bytes) .1 }
     go (over-budget e l) = record { few = omega arith; near = omega arith }
     go (ill-sized e l h) = record { few = omega arith; near = omega arith }
     go (is-run {f} {p} e l h) =
-        let k = program-small Γ bytes f p e in
-        ran-small budget (run (f .program) 1 budget m) l (run-bounded 8193 (f .program) 1 budget m (omega arith))
+        ran-small budget (run (bodyPlace f) (f .main .command) (f .main .start) budget m) l (run-small limits bytes f p e budget m)
 
 module _ {bytes : List ℕ} {budget : ℕ} {m m′ : Lent} {r : Ran} (f : RunOf bytes budget m r m′) where
   pub can-pack : CanPack r

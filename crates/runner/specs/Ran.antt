@@ -1,4 +1,4 @@
--- What the runner promises (document 01, "Runner" and "Judging order" 1 to 7 and 10 to 15): the answer, the steps
+-- What the runner promises (document 01, "Runner" and "Judging order" 1 to 7 and 10 to 15; document 02, request [3]): the answer, the steps
 -- finished and the store afterwards are those of the definition, and demand 2 holds of the definition there.
 -- Trusted. Assumes nothing.
 --     answerMeant    the code's answer, as the definition's

@@ -13,12 +13,11 @@ use Prim.Native.Nat.{ℕ, _≤_}
 use lib.ListN.{length}
 use Rattle.layout.specs.Reading.{Reading, read, fault}
 use Rattle.layout.specs.File.{File}
-use Rattle.layout.specs.EvidenceWords.{commandPart}
 use Rattle.execution.specs.Lent.{Lent}
 use Rattle.execution.specs.Ran as definition
-use Rattle.execution.specs.Ran.{notRun, ranOf, runFile}
+use Rattle.execution.specs.Ran.{notRun, ranOf, bodyPlace, runFile}
 use Rattle.context.specs.Contexts.{refusal}
-use Rattle.heads.specs.Stands.{PartAt, CommandStands}
+use Rattle.heads.specs.Stands.{Runnable, CommandStands}
 use Rattle.run.specs.Steps.{stepsLeft, endAt}
 use Rattle.runner.specs.Ran.{answerMeant}
 use Rattle.runner.specs.declared.Answer.the-variants.{Refused}
@@ -38,8 +37,9 @@ pub record RanBy (x : Reading File) (budget : ℕ) (m : Lent) (r : Ran) (m′ : 
   pub is : ranAt r m′ ≡ ranBy x budget m
 
 -- what a run of words comes to, whatever file they are of
-pub record RanFile (w ends : List ℕ) (budget : ℕ) (m : Lent) (r : Ran) (m′ : Lent) : Type 0 where
-  pub is : (f : File) → PartAt w ends (commandPart (f .program)) 1 (f .preAt) → ranAt r m′ ≡ runFile f budget m
+pub record RanFile (w ends : List ℕ) (start budget : ℕ) (m : Lent) (r : Ran) (m′ : Lent) : Type 0 where
+  pub is : (f : File) (p : ℕ) (x : Runnable w ends (f .main .command) start p) → x .bodyAt ≡ bodyPlace f → f .main .start ≡ start →
+      ranAt r m′ ≡ runFile f budget m
 
 -- the steps left are within the budget
 pub record CanReport (s : List ℕ) (budget : ℕ) : Type 0 where
@@ -49,8 +49,8 @@ pub record ReportsEnd (s : List ℕ) (budget : ℕ) (r : Ran) : Type 0 where
   pub is : (m : Lent) → ranAt r m ≡ ranOf budget (endAt s m)
 
 -- 10 and 11 are not due
-pub record CanRunCopied (w ends : List ℕ) (m : Lent) (budget : ℕ) : Type 0 where
-  pub command : CommandStands w ends 1
+pub record CanRunCopied (w ends : List ℕ) (start : ℕ) (m : Lent) (budget : ℕ) : Type 0 where
+  pub command : CommandStands w ends start
   pub few : budget ≤ 1000000
   pub scalars-sized : length (m .scalars) ≡ 32
   pub values-sized : length (m .values) ≡ 2048

@@ -1,6 +1,6 @@
-// The runner (document 01, "Runner"): reads as refusals 1 to 7, then 10 and 11, and runs the command in the lent store
-// without judging the evidence.
-mod program; // program.rt: refusals 1 to 7 and 10 to 15 in order
+// The runner (document 01, "Runner"; document 02, request [3]): reads as refusals 1 to 7 and 16, then 10 and 11, and runs the main
+// program's command in the lent store without judging the evidence.
+mod program; // program.rt: refusals 1 to 7, 16 and 10 to 15 in order
 
 use context::Refusal;
 use file::standard_context;
@@ -23,7 +23,7 @@ pub struct Ran {
     pub steps: usize,
 }
 
-// Runs a file's command in a lent store: 32 scalars, and 2,048 values, where array a's index i is value 64 × a + i.
+// Runs the command of a file's main program in a lent store: 32 scalars, and 2,048 values, where array a's index i is value 64 × a + i.
 pub fn run(file: &[u8], scalars: &mut [i64], values: &mut [i64], budget: usize) -> Ran
     ensures { λ r. ⌜ RunOf (now (file .entry)) budget (lent (now (scalars .entry)) (now (values .entry))) r
         (lent (now (scalars .exit)) (now (values .exit))) ⌝ }

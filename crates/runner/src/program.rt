@@ -1,4 +1,4 @@
-// Refusals 1 to 7 and 10 to 15 (document 01, "Judging order"), in order.
+// Refusals 1 to 7, 16 and 10 to 15 (document 01, "Judging order"; document 02, request [3]), in order.
 use super::Answer;
 use super::Ran;
 use context::Context;
@@ -11,7 +11,7 @@ use run::command::run_command;
 use words::numbers::wide;
 ghost use mathlib.Core.Path.{_≡_};
 ghost use Rattle.layout.specs.File.{fileOf};
-ghost use Rattle.context.specs.Contexts.{contextOf};
+ghost use Rattle.context.specs.Contexts.{limitsOf};
 ghost use Rattle.execution.specs.Lent.{lent};
 ghost use Rattle.heads.specs.Stands.{CommandStands};
 ghost use Rattle.runner.specs.Running.{refusedAt, CanReport, ReportsEnd, CanRunCopied, RanFile, RanBy};
@@ -47,41 +47,43 @@ fn report(progress: &Progress, budget: usize) -> Ran
     }
 }
 
-// The run of the command at place 1, in copies of the store that have their length in their type: so the calls of a run
+// The run of the command at the place `start`, in copies of the store that have their length in their type: so the calls of a run
 // hand on addresses alone.
 fn run_copied(
     w: &[u32; 8192],
-    ends: &[u32; 8704],
+    ends: &[u32; 8753],
+    start: usize,
     own_scalars: &mut [i64; 32],
     own_values: &mut [i64; 2048],
     scalars: &mut [i64],
     values: &mut [i64],
     budget: usize,
 ) -> Ran
-    requires { ⌜ CanRunCopied (now w) (now ends) (lent (now scalars) (now values)) budget ⌝ }
-    ensures { λ r. ⌜ RanFile (now (w .entry)) (now (ends .entry)) budget
+    requires { ⌜ CanRunCopied (now w) (now ends) start (lent (now scalars) (now values)) budget ⌝ }
+    ensures { λ r. ⌜ RanFile (now (w .entry)) (now (ends .entry)) start budget
         (lent (now (scalars .entry)) (now (values .entry))) r (lent (now (scalars .exit)) (now (values .exit))) ⌝ }
 {
     copy(own_scalars, 0, scalars, 0, 32);
     copy(own_values, 0, values, 0, 2048);
     let mut progress = [0u32; 3];
     progress[1] = budget as u32;
-    run_command(w, ends, 1, own_scalars, own_values, &mut progress);
+    run_command(w, ends, start, own_scalars, own_values, &mut progress);
     copy(scalars, 0, own_scalars, 0, 32);
     copy(values, 0, own_values, 0, 2048);
     report(&progress, budget)
 }
 
-// Refusals 10 to 15, of words that refusals 2 to 7 let pass. The command stands at place 1.
+// Refusals 10 to 15, of words that refusals 2 to 7 and 16 let pass. The command of the main program stands at the place `start`.
 fn run_program(
     w: &[u32; 8192],
-    ends: &[u32; 8704],
+    ends: &[u32; 8753],
+    start: usize,
     scalars: &mut [i64],
     values: &mut [i64],
     budget: usize,
 ) -> Ran
-    requires { ⌜ CommandStands (now w) (now ends) 1 ⌝ }
-    ensures { λ r. ⌜ RanFile (now (w .entry)) (now (ends .entry)) budget
+    requires { ⌜ CommandStands (now w) (now ends) start ⌝ }
+    ensures { λ r. ⌜ RanFile (now (w .entry)) (now (ends .entry)) start budget
         (lent (now (scalars .entry)) (now (values .entry))) r (lent (now (scalars .exit)) (now (values .exit))) ⌝ }
 {
     if 1000000 < budget {
@@ -98,6 +100,7 @@ fn run_program(
     run_copied(
         w,
         ends,
+        start,
         &mut own_scalars,
         &mut own_values,
         scalars,
@@ -106,7 +109,7 @@ fn run_program(
     )
 }
 
-// Refusals 1 to 7, then the rest.
+// Refusals 1 to 7 and 16, then the rest.
 pub(crate) fn run_bytes(
     file: &[u8],
     context: Context,
@@ -114,14 +117,14 @@ pub(crate) fn run_bytes(
     values: &mut [i64],
     budget: usize,
 ) -> Ran
-    ensures { λ r. ⌜ RanBy (fileOf (contextOf context) (now (file .entry))) budget
+    ensures { λ r. ⌜ RanBy (fileOf (limitsOf context) (now (file .entry))) budget
         (lent (now (scalars .entry)) (now (values .entry))) r (lent (now (scalars .exit)) (now (values .exit))) ⌝ }
 {
     let mut words = [0u32; 8192];
-    let mut table = [0u32; 8704];
+    let mut table = [0u32; 8753];
     let layout = read_file(file, &mut words, &mut table, context);
     match layout {
-        Layout::Found(_) => run_program(&words, &table, scalars, values, budget),
+        Layout::Found(places) => run_program(&words, &table, places.start, scalars, values, budget),
         Layout::Refused(refusal) => refused(refusal.number, refusal.place),
     }
 }

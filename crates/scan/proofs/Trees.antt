@@ -1,33 +1,41 @@
 -- What the scans find where an expression, a command or a set stands.
 -- Assumes nothing.
 --     anyOf, any-stands                        a test passes at one of some words; a scan of where they stand
+--     CallsKnown, marked-command               masks of called procedures; the mask of a command's words
 --     modified-tree, unmarked-tree, closed-tree
 --                                              the contracts of the scans
-use mathlib.Core.Path.{_≡_, refl, sym, ap, ap₂, _∙_}
+use mathlib.Core.Path.{_≡_, refl, sym, ap, ap₂, subst, _∙_}
 use mathlib.Core.Bool.{Bool, true, false, not, _&&_, _||_, or-assoc, or-false}
 use mathlib.Core.List.{List, [], _∷_, _++_, append-assoc}
-use Prim.Native.Nat.{ℕ, zero, suc, _+_, _-_, _%_, _<_, _≤_}
+use mathlib.Core.Option.{some}
+use Prim.Native.Nat.{ℕ, zero, suc, _+_, _*_, _-_, _%_, _^_, _<_, _≤_}
 use native.Mathlib.Omega.{arith}
+use borrow.Author.Tests.{lt-ltb}
+use lib.ListN.{length}
 use Rattle.language.specs.Syntax.{Sort, Expr, constant, scalar, operation, select, compare, truth, and, or, neg}
 use Rattle.language.specs.Syntax.{array, zeros, update, toScalar, toArray}
-use Rattle.language.specs.Syntax.{Command, skip, sequence, assert, assign, ifElse, while, for}
+use Rattle.language.specs.Syntax.{Command, skip, sequence, assert, assign, ifElse, while, for, call}
 use Rattle.language.specs.Modifies.{Identifier, scalarOf, arrayOf, sameIdentifier, modifies, identifiers}
 use Rattle.rules.specs.Words.{Word, words, commandWords}
 use Rattle.rules.specs.Assertion.{Members}
-use Rattle.rules.specs.Context.{Context}
+use Rattle.rules.specs.Context.{Procedure, Context, itemAt}
+use Rattle.rules.specs.Resolved.{Resolved}
 use Rattle.rules.specs.Sets.{setIdentifiers}
 use Rattle.rules.specs.Tests.{unmodified, isEmpty}
 use Rattle.layout.specs.Spelling.{FitsExpression, FitsCommand}
 use Rattle.layout.specs.Spelling.{memberWords, membersWords, setWords, FitsMembers, FitsSet}
 use Rattle.layout.specs.Nodes.{expressionNode, commandNode, setNode, kindOf, contentOf, AllInRange}
-use Rattle.layout.specs.Standing.{StandsTo}
+use Rattle.layout.specs.EvidenceWords.{commandPart}
+use Rattle.layout.specs.Standing.{StandsTo, PartStands}
 use Rattle.layout.proofs.Stands.{stands-end}
-use Rattle.layout.proofs.Words.{for-first}
 use Rattle.layout.proofs.Nodes.{kind-at, content-at, node-range}
-use Rattle.ends.specs.Mask.{bit, Low, slot}
-use Rattle.ends.specs.Blocks.{written, ifAny, anyIn, assigns, Marks}
+use Rattle.ends.specs.Mask.{bit, Low, slot, ModifiedBy}
+use Rattle.ends.specs.Blocks.{procedureMask, calledMask, written, ifAny, anyIn, assigns, Marks}
+use Rattle.ends.specs.Procedures.{maskAt, Procedures}
 use Rattle.scan.specs.Scan.{mentioned, marked, Modified, Unmarked, Closed}
+use Rattle.scan.specs.Programs.{Masks}
 use Rattle.ends.proofs.Bits.{bit-ones}
+use Rattle.ends.proofs.Marks.{bit-slot}
 use Rattle.scan.proofs.Ranges.{any-none, any-next}
 
 module _ (t : ℕ → ℕ → Bool) where
@@ -58,58 +66,107 @@ module _ (t : ℕ → ℕ → Bool) where
 low-number : (x : ℕ) → x ≤ 31 → x % 32 ≡ x
 low-number x h = omega arith
 
-module _ (x : Identifier) where
+for-number : (q m : ℕ) → q ≤ 31 → (q + 32 * m) % 32 ≡ q
+for-number q m h = omega arith
+
+-- a mask for each procedure that may be called
+pub record CallsKnown (called : ℕ → ℕ) (l : List Procedure) : Type 0 where
+  pub known : (n : ℕ) (k : Procedure) → itemAt l n ≡ some k → ModifiedBy (k .body) (called n)
+
+module _ (called : ℕ → ℕ) (x : Identifier) where
+  abbrev test : ℕ → ℕ → Bool
+  test k p = assigns called x k p
+
   -- no word of an expression assigns
-  expression-quiet : {j : Sort} (e : Expr j) → anyOf (assigns x) (words e) ≡ false
+  expression-quiet : {j : Sort} (e : Expr j) → anyOf test (words e) ≡ false
   unfolding words written
   expression-quiet (constant z) = refl
   expression-quiet (scalar y) = refl
-  expression-quiet (operation o a b) = appended (assigns x) (words a) (words b) (expression-quiet a) (expression-quiet b)
-  expression-quiet (select a i) = appended (assigns x) (words a) (words i) (expression-quiet a) (expression-quiet i)
-  expression-quiet (compare r a b) = appended (assigns x) (words a) (words b) (expression-quiet a) (expression-quiet b)
+  expression-quiet (operation o a b) = appended test (words a) (words b) (expression-quiet a) (expression-quiet b)
+  expression-quiet (select a i) = appended test (words a) (words i) (expression-quiet a) (expression-quiet i)
+  expression-quiet (compare r a b) = appended test (words a) (words b) (expression-quiet a) (expression-quiet b)
   expression-quiet (truth v) = refl
-  expression-quiet (and a b) = appended (assigns x) (words a) (words b) (expression-quiet a) (expression-quiet b)
-  expression-quiet (or a b) = appended (assigns x) (words a) (words b) (expression-quiet a) (expression-quiet b)
+  expression-quiet (and a b) = appended test (words a) (words b) (expression-quiet a) (expression-quiet b)
+  expression-quiet (or a b) = appended test (words a) (words b) (expression-quiet a) (expression-quiet b)
   expression-quiet (neg b) = expression-quiet b
   expression-quiet (array a) = refl
   expression-quiet zeros = refl
   expression-quiet (update a i b) =
-      appended (assigns x) (words a) (words i ++ words b) (expression-quiet a)
-      (appended (assigns x) (words i) (words b) (expression-quiet i) (expression-quiet b))
+      appended test (words a) (words i ++ words b) (expression-quiet a)
+      (appended test (words i) (words b) (expression-quiet i) (expression-quiet b))
 
-  -- a word that assigns y, before words that assign nothing
-  assigned : (y : Identifier) {b : Bool} → b ≡ false → (sameIdentifier y x || b) ≡ sameIdentifier y x
-  assigned y h = ap (λ b. sameIdentifier y x || b) h ∙ or-false (sameIdentifier y x)
+  module _ (low : Low x) where
+    -- a word that assigns y, before words of which something is known
+    assigned : (y : Identifier) (n : ℕ) {b c : Bool} → Low y → n ≡ slot y → b ≡ c →
+        (bit (2 ^ n) (slot x) || b) ≡ (sameIdentifier y x || c)
+    assigned y n l e h = ap₂ (λ a b. a || b) (ap (λ i. bit (2 ^ i) (slot x)) e ∙ bit-slot y x l low) h
 
-  command-assigns : (d : ℕ) (c : Command) → FitsCommand c d → anyOf (assigns x) (commandWords c) ≡ modifies c x
-  unfolding commandWords FitsCommand written
-  command-assigns zero c h = absurd h
-  command-assigns (suc d) skip h = refl
-  command-assigns (suc d) (sequence c₁ c₂) h =
-      appended (assigns x) (commandWords c₁) (commandWords c₂) (command-assigns d c₁ (h .0))
-      (command-assigns d c₂ (h .1))
-  command-assigns (suc d) (assert b) h = expression-quiet b
-  command-assigns (suc d) (assign (toScalar y e)) h =
-      rw (low-number y (h .0)) (assigned (scalarOf y) (expression-quiet e))
-  command-assigns (suc d) (assign (toArray y e)) h =
-      rw (low-number y (h .0)) (assigned (arrayOf y) (expression-quiet e))
-  command-assigns (suc d) (ifElse b c₁ c₂) h =
-      appended (assigns x) (words b) (commandWords c₁ ++ commandWords c₂) (expression-quiet b)
-      (appended (assigns x) (commandWords c₁) (commandWords c₂) (command-assigns d c₁ (h .1 .0))
-      (command-assigns d c₂ (h .1 .1)))
-  command-assigns (suc d) (while b c) h =
-      appended (assigns x) (words b) (commandWords c) (expression-quiet b)
-      (command-assigns d c (h .1))
-  command-assigns (suc d) (for q m c) h =
-      rw (for-first q m (h .0 .0)) (ap (λ b. sameIdentifier (scalarOf q) x || b) (command-assigns d c (h .1)))
+    -- before words that assign nothing
+    assigned-alone : (y : Identifier) (n : ℕ) {b : Bool} → Low y → n ≡ slot y → b ≡ false →
+        (bit (2 ^ n) (slot x) || b) ≡ sameIdentifier y x
+    assigned-alone y n l e h = assigned y n l e h ∙ or-false (sameIdentifier y x)
 
-pub modified-tree : (file : List ℕ) {from to r : ℕ} → Marks file (to - from) from r → Modified file from to r
-modified-tree file {from} {to} m = record {
-  command = λ c d s. record {
-    marks = λ x l.
-        m .marks x l ∙ any-stands (assigns x) file from (commandWords c) to (s .stand) (node-range d (commandNode c) (s .fit))
-        ∙ command-assigns x d c (s .fit);
-  };
+    module _ (Γ : Context) (masks : CallsKnown called (Γ .procedures)) where
+      command-assigns : (d : ℕ) (c : Command) → FitsCommand Γ c d → Resolved (Γ .procedures) c →
+          anyOf test (commandWords c) ≡ modifies c x
+      unfolding commandWords FitsCommand written
+      command-assigns zero c h r = absurd h
+      command-assigns (suc d) skip h r = refl
+      command-assigns (suc d) (sequence c₁ c₂) h r =
+          appended test (commandWords c₁) (commandWords c₂) (command-assigns d c₁ (h .0) (r .0))
+          (command-assigns d c₂ (h .1) (r .1))
+      command-assigns (suc d) (assert b) h r = expression-quiet b
+      command-assigns (suc d) (assign (toScalar y e)) h r =
+          assigned-alone (scalarOf y) (y % 32) (h .0) (low-number y (h .0)) (expression-quiet e)
+      command-assigns (suc d) (assign (toArray y e)) h r =
+          assigned-alone (arrayOf y) (32 + y % 32) (h .0) (ap (λ i. 32 + i) (low-number y (h .0))) (expression-quiet e)
+      command-assigns (suc d) (ifElse b c₁ c₂) h r =
+          appended test (words b) (commandWords c₁ ++ commandWords c₂) (expression-quiet b)
+          (appended test (commandWords c₁) (commandWords c₂) (command-assigns d c₁ (h .1 .0) (r .0))
+          (command-assigns d c₂ (h .1 .1) (r .1)))
+      command-assigns (suc d) (while b c) h r =
+          appended test (words b) (commandWords c) (expression-quiet b) (command-assigns d c (h .1) r)
+      command-assigns (suc d) (for q m c) h r =
+          assigned (scalarOf q) ((q + 32 * m) % 32) (h .0 .0) (for-number q m (h .0 .0)) (command-assigns d c (h .1) r)
+      command-assigns (suc d) (call n c) h (k, e, b, r) =
+          or-false (bit (called n) (slot x)) ∙ masks .known n k e .marks x low ∙ ap (λ i. modifies i x) (sym b)
+
+pub marked-command : {called : ℕ → ℕ} {file : List ℕ} {from to mask : ℕ} (Γ : Context) → CallsKnown called (Γ .procedures) →
+    Marks called file (to - from) from mask → (c : Command) (d : ℕ) → PartStands file (commandPart Γ c) d from to →
+    Resolved (Γ .procedures) c → ModifiedBy c mask
+marked-command {called} {file} {from} {to} Γ known m c d s r = record {
+  marks = λ x l.
+      m .marks x
+      ∙ any-stands (assigns called x) file from (commandWords c) to (s .stand) (node-range d (commandNode Γ c) (s .fit))
+      ∙ command-assigns called x l Γ known d c (s .fit) r;
+}
+
+-- ---- the masks that stand in a list of ends
+pub item-inside : {A : Type 0} (l : List A) (n : ℕ) (k : A) → itemAt l n ≡ some k → n < length l
+unfolding itemAt
+item-inside [] n k e = absurd (let z : _≡_ {A = ℕ} 0 1 = cc in omega (arith, z))
+item-inside (x ∷ l) zero k e = omega arith
+item-inside (x ∷ l) (suc n) k e = let h = item-inside l n k e in omega arith
+
+stored : (file ends : List ℕ) (n : ℕ) → n < 16 → calledMask file ends n ≡ maskAt file ends n
+unfolding procedureMask
+stored file ends n h = rw (lt-ltb n 16 h, procedureMask) refl
+
+pub masks-called : {file ends : List ℕ} {Γ : Context} → Masks file ends Γ →
+    CallsKnown (calledMask file ends) (Γ .procedures)
+masks-called {file} {ends} {Γ} h = record {
+  known = λ n k e.
+      let i = item-inside (Γ .procedures) n k e in
+      subst (ModifiedBy (k .body)) (sym (stored file ends n (omega (arith, i, h .few)))) (h .mask n k e);
+}
+
+pub procedure-masks : {file ends : List ℕ} {Γ : Context} → Procedures file ends Γ → Masks file ends Γ
+procedure-masks h = record { few = h .few; mask = λ n k e. h .known n k e .mask }
+
+pub modified-tree : (file ends : List ℕ) {from to r : ℕ} → Marks (calledMask file ends) file (to - from) from r →
+    Modified file ends from to r
+modified-tree file ends m = record {
+  command = λ Γ h c d s r. marked-command Γ (masks-called (procedure-masks h)) m c d s r;
 }
 
 -- a test passes at one of some identifiers

@@ -14,12 +14,14 @@ use Rattle.language.specs.Syntax.{Sort, Expr, Command}
 use Rattle.language.specs.Modifies.{Identifier, scalarOf, arrayOf, identifiers}
 use Rattle.rules.specs.Assertion.{Members}
 use Rattle.rules.specs.Context.{Context}
+use Rattle.rules.specs.Resolved.{Resolved}
 use Rattle.rules.specs.Sets.{setIdentifiers}
 use Rattle.rules.specs.Tests.{unmodified, isEmpty}
 use Rattle.layout.specs.EvidenceWords.{expressionPart, commandPart, setPart}
 use Rattle.layout.specs.Standing.{PartStands}
 use Rattle.ends.specs.Mask.{bit, slot, ModifiedBy}
 use Rattle.ends.specs.Blocks.{ifAny}
+use Rattle.ends.specs.Procedures.{Procedures}
 
 -- kinds 2 and 16
 unfoldable pub mentioned : ℕ → ℕ → Option Identifier
@@ -29,9 +31,10 @@ mentioned k p = cond (eqb k 2) (some (scalarOf (p % 32))) (cond (eqb k 16) (some
 abbrev pub marked : ℕ → ℕ → ℕ → Bool
 marked mask k p = ifAny (λ x. bit mask (slot x)) (mentioned k p)
 
--- the mask has what the command in the range modifies
-pub record Modified (file : List ℕ) (from to mask : ℕ) : Type 0 where
-  pub command : (c : Command) (d : ℕ) → PartStands file (commandPart c) d from to → ModifiedBy c mask
+-- the mask has what the command in the range modifies, in a file whose procedures the list of ends has
+pub record Modified (file ends : List ℕ) (from to mask : ℕ) : Type 0 where
+  pub command : (Γ : Context) → Procedures file ends Γ → (c : Command) (d : ℕ) →
+      PartStands file (commandPart Γ c) d from to → Resolved (Γ .procedures) c → ModifiedBy c mask
 
 -- the test tells whether no identifier of what stands in the range is modified by a command whose mask is given
 pub record Unmarked (file : List ℕ) (from to mask : ℕ) (r : Bool) : Type 0 where

@@ -1,7 +1,7 @@
 -- Refusal 7 (document 01, "Judging order") on words: each word of kind 31 is a `for`, and its body is a range of words.
--- Working: `whole-file` of proofs/Files, `file-fors` of proofs/Fors, `found-here` and `found-none` of proofs/Tests tie
--- it to the layout's `firstUnsteady`. Assumes nothing.
---     WholeFile        the words were read as a file up to the last, as refusals 2 to 6 have it
+-- Working: `file-fors` of proofs/Fors, `found-here` and `found-none` of proofs/Tests tie it to the layout's `unsteadyAt`.
+-- Assumes nothing.
+--     MaskedFile       a file that refusals 2 to 6 and 16 let pass, and the masks of its procedures
 --     steadinessOf     the answer of the scan for the first `for` that refusal 7 refuses
 --     CanTestFor, Tested, FirstFound
 --                      what the test of one place and the scan ask and say
@@ -9,20 +9,28 @@ use mathlib.Core.Path.{_≡_}
 use mathlib.Core.Bool.{Bool}
 use mathlib.Core.List.{List}
 use mathlib.Core.Option.{Option, none, some}
-use Prim.Native.Nat.{ℕ, _+_, _*_, _<_}
-use Rattle.rules.specs.Context.{Context}
-use Rattle.layout.specs.Bytes.{wordCount, numberAt, kindAt, payloads}
-use Rattle.layout.specs.Reading.{read}
-use Rattle.layout.specs.For.{unsteadyAt, firstUnsteady}
-use Rattle.layout.specs.File.{File, parts}
+use Prim.Native.Nat.{ℕ, _<_}
+use Rattle.rules.specs.Context.{Limits, Context, alone}
+use Rattle.layout.specs.Bytes.{wordCount, kindAt}
+use Rattle.layout.specs.Reading.{firstPlace}
+use Rattle.layout.specs.Program.{afterAll}
+use Rattle.layout.specs.Call.{wrongCall}
+use Rattle.layout.specs.For.{unsteadyAt}
+use Rattle.layout.specs.File.{File}
+use Rattle.layout.specs.FileWords.{FileStands}
 use Rattle.ends.specs.Ends.{EndsOf}
+use Rattle.scan.specs.Programs.{Masks}
 use Rattle.scan.specs.declared.steady.Steadiness.{Steadiness}
 use Rattle.scan.specs.declared.steady.Steadiness.the-variants.{Steady, At}
 
-pub record WholeFile (Γ : Context) (file : List ℕ) : Type 0 where
-  pub tree : File
-  pub first : numberAt file 0 ≡ 63 * payloads + wordCount file
-  pub all : parts Γ file ≡ read tree (wordCount file)
+-- with all procedures of a file
+abbrev pub fileContext : Limits → File → Context
+fileContext limits f = afterAll (alone limits) (f .procedures)
+
+pub record MaskedFile (file ends : List ℕ) (limits : Limits) (f : File) : Type 0 where
+  pub stands : FileStands limits file f
+  pub called : firstPlace (wrongCall file (f .procedures)) (wordCount file) 0 ≡ none
+  pub masks : Masks file ends (fileContext limits f)
 
 abbrev pub steadinessOf : Option ℕ → Steadiness
 steadinessOf none = Steady
@@ -33,9 +41,9 @@ pub record CanTestFor (file ends : List ℕ) (at : ℕ) : Type 0 where
   pub is-for : kindAt file at ≡ 31
   pub places : EndsOf file ends
 
-pub record Tested (file : List ℕ) (at : ℕ) (r : Bool) : Type 0 where
-  pub place : (Γ : Context) → WholeFile Γ file → r ≡ unsteadyAt Γ file at
+pub record Tested (file ends : List ℕ) (at : ℕ) (r : Bool) : Type 0 where
+  pub place : (limits : Limits) (f : File) → MaskedFile file ends limits f → r ≡ unsteadyAt (fileContext limits f) file at
 
-pub record FirstFound (file : List ℕ) (r : Steadiness) : Type 0 where
-  pub place : (Γ : Context) → WholeFile Γ file →
-      r ≡ steadinessOf (firstUnsteady Γ file (wordCount file) 0)
+pub record FirstFound (file ends : List ℕ) (r : Steadiness) : Type 0 where
+  pub place : (limits : Limits) (f : File) → MaskedFile file ends limits f →
+      r ≡ steadinessOf (firstPlace (unsteadyAt (fileContext limits f) file) (wordCount file) 0)

@@ -1,5 +1,7 @@
-// Scans of words: what a command modifies, whether an expression or a set has an identifier of that, and refusal 7.
+// Scans of words: what a command modifies, whether an expression or a set has an identifier of that, and refusals 16 and 7.
+pub mod calls;
 pub mod mask;
 pub mod place;
+pub mod programs;
 pub mod range;
 pub mod steady;

@@ -26,7 +26,7 @@ fn any_marked(w: &[u32], from: usize, to: usize, mask: u64) -> bool
 // What the command in the range modifies, as a mask.
 pub fn modified(w: &[u32], ends: &[u32], from: usize, to: usize) -> u64
     requires { ⌜ EndsOf (now w) (now ends) × (to ≤ length (now w)) ⌝ }
-    ensures { λ r. ⌜ Modified (now (w .entry)) from to r ⌝ }
+    ensures { λ r. ⌜ Modified (now (w .entry)) (now (ends .entry)) from to r ⌝ }
 {
     marks_between(w, ends, from, to)
 }

@@ -1,5 +1,5 @@
 // Refusal 7 (document 01, "Judging order"): a `for` has q = m or a body that modifies q or m.
-use super::range::modified;
+use ends::blocks::marks_between;
 use ends::mask::has_bit;
 use words::kinds::FOR;
 use words::kinds::KIND;
@@ -16,7 +16,7 @@ pub enum Steadiness {
 // Whether the `for` at a place is such.
 fn unsteady_at(w: &[u32], ends: &[u32], at: usize) -> bool
     requires { ⌜ CanTestFor (now w) (now ends) «at» ⌝ }
-    ensures { λ r. ⌜ Tested (now (w .entry)) «at» r ⌝ }
+    ensures { λ r. ⌜ Tested (now (w .entry)) (now (ends .entry)) «at» r ⌝ }
 {
     let payload = w[at] % KIND;
     let q = payload % 32;
@@ -25,7 +25,7 @@ fn unsteady_at(w: &[u32], ends: &[u32], at: usize) -> bool
         return true;
     }
     let end = least(ends[at] as usize, w.len());
-    let body = modified(w, ends, at + 1, end);
+    let body = marks_between(w, ends, at + 1, end);
     if has_bit(body, q) {
         return true;
     }
@@ -35,7 +35,7 @@ fn unsteady_at(w: &[u32], ends: &[u32], at: usize) -> bool
 // The first such `for`, of the program or of the evidence.
 pub fn first_unsteady(w: &[u32], ends: &[u32]) -> Steadiness
     requires { ⌜ EndsOf (now w) (now ends) ⌝ }
-    ensures { λ r. ⌜ FirstFound (now (w .entry)) r ⌝ }
+    ensures { λ r. ⌜ FirstFound (now (w .entry)) (now (ends .entry)) r ⌝ }
 {
     let mut at = 0;
     while at < w.len() {

@@ -165,11 +165,11 @@ module _ {file ends : List ℕ} {limit k from : ℕ} where
 
 module _ {file ends : List ℕ} {Γ : Context} {p q at : ℕ} where
   module _ (can : CanTry file ends Γ 14 (Set p q) at) where
-    pub can-try-each : {k : ℕ} → k ≡ countAt file q → CanTryEach file ends (Γ .limits .comparisons) k (q + 1)
-    can-try-each n = record {
+    pub can-try-each : {limit k : ℕ} → Γ .limits .comparisons ≡ limit → k ≡ countAt file q → CanTryEach file ends limit k (q + 1)
+    can-try-each g n = record {
       ends-of = can .can .ends-of;
       size = can .can .size;
-      few = can .can .few;
+      few = omega (arith, can .can .few);
       members = here can .right;
       count = sym (n ∙ set-count (here can .right-at));
       members-at = set-written (can .can .ends-of) (here can .right-at);
@@ -180,12 +180,12 @@ module _ {file ends : List ℕ} {Γ : Context} {p q at : ℕ} where
       unfolding setRule
       full-fails h = leaf-rule can set14 refl λ x y a b. not-empty a misfit _ (λ e. h (m ∙ e))
 
-      pub each-rule : j ≡ 0 → {k : ℕ} → k ≡ countAt file q → {c : Condition} →
-          EachAt file ends (Γ .limits .comparisons) k (q + 1) c → StepOf file ends Γ (Set p q) at c
+      pub each-rule : j ≡ 0 → {limit k : ℕ} → Γ .limits .comparisons ≡ limit → k ≡ countAt file q → {c : Condition} →
+          EachAt file ends limit k (q + 1) c → StepOf file ends Γ (Set p q) at c
       unfolding setRule onEmpty
-      each-rule h n each = leaf-rule can set14 refl λ x y a b.
+      each-rule h g n each = leaf-rule can set14 refl λ x y a b.
           ap (λ z. setRule Γ set14 z y) (is-empty a (sym m ∙ h))
-          ∙ ap childless (sym (each .is y (sym (n ∙ set-count b)) (set-written (can .can .ends-of) b) Γ refl))
+          ∙ ap childless (sym (each .is y (sym (n ∙ set-count b)) (set-written (can .can .ends-of) b) Γ g))
 
   module _ (can : CanTry file ends Γ 15 (Set p q) at) {j : ℕ} (m : j ≡ countAt file p) where
     pub some-fails : (j ≡ 0 → ⊥) → StepOf file ends Γ (Set p q) at Fails

@@ -4,7 +4,7 @@ use implication::Condition;
 use rule_laws::imply::implies_at;
 use rule_laws::same::is_same_consequent;
 use sets::pile::count;
-ghost use Rattle.context.specs.Contexts.{contextOf};
+ghost use Rattle.context.specs.Contexts.{contextIn};
 ghost use Rattle.goals.specs.Goals.{CanTry, StepOf};
 ghost use Rattle.goals.specs.declared.Goal.the-variants.{Set};
 
@@ -17,8 +17,8 @@ pub fn rule_18(
     p: usize,
     q: usize,
 ) -> Condition
-    requires { ⌜ CanTry (now w) (now ends) (contextOf context) 18 (Set p q) «at» ⌝ }
-    ensures { λ r. ⌜ StepOf (now (w .entry)) (now (ends .entry)) (contextOf context) (Set p q) «at» r ⌝ }
+    requires { ⌜ CanTry (now w) (now ends) (contextIn context (now w)) 18 (Set p q) «at» ⌝ }
+    ensures { λ r. ⌜ StepOf (now (w .entry)) (now (ends .entry)) (contextIn context (now (w .entry))) (Set p q) «at» r ⌝ }
 {
     if count(w, p) != 1 {
         return Condition::Fails;

@@ -8,7 +8,7 @@ use implication::implies;
 use scan::place::closed_at;
 use sets::item::past_member;
 use sets::pile::count;
-ghost use Rattle.context.specs.Contexts.{contextOf};
+ghost use Rattle.context.specs.Contexts.{contextIn};
 ghost use Rattle.goals.specs.Goals.{CanTry, StepOf};
 ghost use Rattle.goals.specs.declared.Goal.the-variants.{Set};
 ghost use Rattle.set_rules.specs.Conditions.{CanTryEach, EachAt};
@@ -43,8 +43,8 @@ pub fn rule_14(
     p: usize,
     q: usize,
 ) -> Condition
-    requires { ⌜ CanTry (now w) (now ends) (contextOf context) 14 (Set p q) «at» ⌝ }
-    ensures { λ r. ⌜ StepOf (now (w .entry)) (now (ends .entry)) (contextOf context) (Set p q) «at» r ⌝ }
+    requires { ⌜ CanTry (now w) (now ends) (contextIn context (now w)) 14 (Set p q) «at» ⌝ }
+    ensures { λ r. ⌜ StepOf (now (w .entry)) (now (ends .entry)) (contextIn context (now (w .entry))) (Set p q) «at» r ⌝ }
 {
     if count(w, p) != 0 {
         return Condition::Fails;
@@ -62,8 +62,8 @@ pub fn rule_15(
     p: usize,
     q: usize,
 ) -> Condition
-    requires { ⌜ CanTry (now w) (now ends) (contextOf context) 15 (Set p q) «at» ⌝ }
-    ensures { λ r. ⌜ StepOf (now (w .entry)) (now (ends .entry)) (contextOf context) (Set p q) «at» r ⌝ }
+    requires { ⌜ CanTry (now w) (now ends) (contextIn context (now w)) 15 (Set p q) «at» ⌝ }
+    ensures { λ r. ⌜ StepOf (now (w .entry)) (now (ends .entry)) (contextIn context (now (w .entry))) (Set p q) «at» r ⌝ }
 {
     if count(w, p) != 0 {
         return Condition::Fails;

@@ -22,8 +22,8 @@ use words::kinds::KIND;
 ghost use mathlib.Core.Path.{_≡_};
 ghost use Prim.Native.Nat.{_<_};
 ghost use lib.ListN.{length};
-ghost use Rattle.context.specs.Contexts.{contextOf};
-ghost use Rattle.goals.specs.Children.{childrenAt, childAt};
+ghost use Rattle.context.specs.Contexts.{contextIn};
+ghost use Rattle.goals.specs.Children.{ofRule, setChildren, setChild};
 ghost use Rattle.goals.specs.Goals.{CanStep, StepOf};
 ghost use Rattle.goals.specs.declared.Goal.the-variants.{Set};
 
@@ -36,8 +36,8 @@ pub fn set_condition(
     p: usize,
     q: usize,
 ) -> Condition
-    requires { ⌜ CanStep (now w) (now ends) (contextOf context) (Set p q) «at» ⌝ }
-    ensures { λ r. ⌜ StepOf (now (w .entry)) (now (ends .entry)) (contextOf context) (Set p q) «at» r ⌝ }
+    requires { ⌜ CanStep (now w) (now ends) (contextIn context (now w)) (Set p q) «at» ⌝ }
+    ensures { λ r. ⌜ StepOf (now (w .entry)) (now (ends .entry)) (contextIn context (now (w .entry))) (Set p q) «at» r ⌝ }
 {
     let rule = w[at] % KIND;
     match rule {
@@ -54,8 +54,8 @@ pub fn set_condition(
 
 // The goal of child k of a rule that has children.
 pub fn set_child(ends: &[u32], rule: u32, at: usize, p: usize, q: usize, k: usize) -> Goal
-    requires { ⌜ («at» < 8192) × (k < length (childrenAt (now ends) (Set p q) rule «at»)) ⌝ }
-    ensures { λ r. ⌜ r ≡ childAt (now (ends .entry)) (Set p q) rule «at» k ⌝ }
+    requires { ⌜ («at» < 8192) × (k < length (ofRule rule (setChildren (now ends) p q «at»))) ⌝ }
+    ensures { λ r. ⌜ r ≡ setChild (now (ends .entry)) p q rule «at» k ⌝ }
 {
     match rule {
         16 => child_16(ends, at, p, q, k),

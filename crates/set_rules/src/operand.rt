@@ -14,7 +14,7 @@ use words::kinds::NOT;
 use words::kinds::OPERATOR;
 use words::kinds::OR;
 ghost use mathlib.Core.Path.{_≡_};
-ghost use Rattle.context.specs.Contexts.{contextOf};
+ghost use Rattle.context.specs.Contexts.{contextIn};
 ghost use Rattle.goals.specs.Goals.{CanTry, StepOf};
 ghost use Rattle.goals.specs.declared.Goal.the-variants.{Set};
 ghost use Rattle.set_rules.specs.Conditions.{hasTwo, CanOperands, OperandsAt};
@@ -69,8 +69,8 @@ pub fn rule_19(
     p: usize,
     q: usize,
 ) -> Condition
-    requires { ⌜ CanTry (now w) (now ends) (contextOf context) 19 (Set p q) «at» ⌝ }
-    ensures { λ r. ⌜ StepOf (now (w .entry)) (now (ends .entry)) (contextOf context) (Set p q) «at» r ⌝ }
+    requires { ⌜ CanTry (now w) (now ends) (contextIn context (now w)) 19 (Set p q) «at» ⌝ }
+    ensures { λ r. ⌜ StepOf (now (w .entry)) (now (ends .entry)) (contextIn context (now (w .entry))) (Set p q) «at» r ⌝ }
 {
     if count(w, q) != 1 {
         return Condition::Fails;

@@ -16,7 +16,7 @@ use Rattle.rules.specs.Evidence.{Rule, implication, done}
 use Rattle.rules.specs.Judge.{accepted, childless, setRule}
 use Rattle.implication.specs.Sides.{resultOf}
 use Rattle.implication.specs.declared.Condition.{Condition}
-use Rattle.goals.specs.Children.{childrenAt}
+use Rattle.goals.specs.Children.{ofRule, setChildren}
 use Rattle.goals.specs.Goals.{TreeGoal, GoalStands, set-stands, ChildrenOf, CanTry, StepOf}
 use Rattle.goals.specs.declared.Goal.the-variants.{Set}
 use Rattle.ends.specs.Places.{SetAt}
@@ -60,7 +60,7 @@ module _ {file ends : List ℕ} {Γ : Context} {p q at : ℕ} where
     pub right-one : {k : ℕ} → k ≡ countAt file q → k ≡ 1 → OneWritten file ends (here .right) (q + 1)
     right-one m h = is-one (here .right-at) (can .can .ends-of) (sym m ∙ h)
 
-    pub leaf-rule : (r : Rule implication n []) → childrenAt ends (Set p q) n at ≡ [] → {c : Condition} →
+    pub leaf-rule : (r : Rule implication n []) → ofRule n (setChildren ends p q at) ≡ [] → {c : Condition} →
         ((x y : Members) → SetAt file ends Γ x p → SetAt file ends Γ y q → setRule Γ r x y ≡ childless (resultOf c)) →
         StepOf file ends Γ (Set p q) at c
     leaf-rule r none {c} h = set-rule can r go

@@ -23,7 +23,7 @@ use Rattle.ends.specs.Places.{endAt, SetAt}
 use Rattle.implication.specs.Sides.{resultOf}
 use Rattle.implication.specs.declared.Condition.{Condition}
 use Rattle.implication.specs.declared.Condition.the-variants.{Fails}
-use Rattle.goals.specs.Children.{childrenAt}
+use Rattle.goals.specs.Children.{ofRule, setChildren}
 use Rattle.goals.specs.Conditions.{conditionOf}
 use Rattle.goals.specs.Goals.{CanTry, StepOf, set-stands}
 use Rattle.goals.specs.declared.Goal.the-variants.{Set}
@@ -170,6 +170,6 @@ module _ {file ends : List ℕ} {p t leave s : ℕ} where
   }
 
 -- rules 16 and 17 alone have children
-pub is-17 : (ends : List ℕ) (p q at k rule : ℕ) → (rule ≡ 16 → ⊥) → k < length (childrenAt ends (Set p q) rule at) →
+pub is-17 : (ends : List ℕ) (p q at k rule : ℕ) → (rule ≡ 16 → ⊥) → k < length (ofRule rule (setChildren ends p q at)) →
     rule ≡ 17
 is-17 ends p q at k rule n h = only-rule rule 17 _ k (rw (ne-eqb rule 16 n) at h)

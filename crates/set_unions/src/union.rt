@@ -10,8 +10,8 @@ use sets::rule::same_union;
 use sets::set::same_set;
 ghost use mathlib.Core.Path.{_≡_};
 ghost use Prim.Native.Nat.{_<_};
-ghost use Rattle.context.specs.Contexts.{contextOf};
-ghost use Rattle.goals.specs.Children.{childAt};
+ghost use Rattle.context.specs.Contexts.{contextIn};
+ghost use Rattle.goals.specs.Children.{setChild};
 ghost use Rattle.goals.specs.Goals.{CanTry, StepOf};
 ghost use Rattle.goals.specs.declared.Goal.the-variants.{Set};
 ghost use Rattle.set_unions.specs.Unions.{CanRestUnion, RestAt};
@@ -25,8 +25,8 @@ pub fn rule_16(
     p: usize,
     q: usize,
 ) -> Condition
-    requires { ⌜ CanTry (now w) (now ends) (contextOf context) 16 (Set p q) «at» ⌝ }
-    ensures { λ r. ⌜ StepOf (now (w .entry)) (now (ends .entry)) (contextOf context) (Set p q) «at» r ⌝ }
+    requires { ⌜ CanTry (now w) (now ends) (contextIn context (now w)) 16 (Set p q) «at» ⌝ }
+    ensures { λ r. ⌜ StepOf (now (w .entry)) (now (ends .entry)) (contextIn context (now (w .entry))) (Set p q) «at» r ⌝ }
 {
     let s = at + 1;
     let s2 = end_or_zero(ends, s);
@@ -41,7 +41,7 @@ pub fn rule_16(
 // Its children: (S, S'), (T, T').
 pub fn child_16(ends: &[u32], at: usize, p: usize, q: usize, k: usize) -> Goal
     requires { ⌜ («at» < 8192) × (k < 2) ⌝ }
-    ensures { λ r. ⌜ r ≡ childAt (now (ends .entry)) (Set p q) 16 «at» k ⌝ }
+    ensures { λ r. ⌜ r ≡ setChild (now (ends .entry)) p q 16 «at» k ⌝ }
 {
     let s = at + 1;
     let s2 = end_or_zero(ends, s);
@@ -76,8 +76,8 @@ pub fn rule_17(
     p: usize,
     q: usize,
 ) -> Condition
-    requires { ⌜ CanTry (now w) (now ends) (contextOf context) 17 (Set p q) «at» ⌝ }
-    ensures { λ r. ⌜ StepOf (now (w .entry)) (now (ends .entry)) (contextOf context) (Set p q) «at» r ⌝ }
+    requires { ⌜ CanTry (now w) (now ends) (contextIn context (now w)) 17 (Set p q) «at» ⌝ }
+    ensures { λ r. ⌜ StepOf (now (w .entry)) (now (ends .entry)) (contextIn context (now (w .entry))) (Set p q) «at» r ⌝ }
 {
     let s = at + 1;
     let s2 = end_or_zero(ends, s);
@@ -88,7 +88,7 @@ pub fn rule_17(
 // Its children: (S, S'), (T, Q).
 pub fn child_17(ends: &[u32], at: usize, p: usize, q: usize, k: usize) -> Goal
     requires { ⌜ («at» < 8192) × (k < 2) ⌝ }
-    ensures { λ r. ⌜ r ≡ childAt (now (ends .entry)) (Set p q) 17 «at» k ⌝ }
+    ensures { λ r. ⌜ r ≡ setChild (now (ends .entry)) p q 17 «at» k ⌝ }
 {
     let s = at + 1;
     let s2 = end_or_zero(ends, s);

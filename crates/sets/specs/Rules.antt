@@ -1,7 +1,7 @@
 -- What the rules ask of sets (document 01, "Rules"), in the terms of the trees that stand at the places.
 -- Working: `rule-written`, `rule-replaced`, `rule-under`, `rule-branches`, `rule-union` and `rule-test` of proofs/Rules
 -- tie it to the sets that are compared. Assumes nothing.
---     CanTwo, SameWritten          rules 1, 10, 13: P same as Q
+--     CanTwo, SameWritten          rules 1, 10, 13, 31: P same as Q
 --     CanReplaced, SameReplaced    rules 3, 4: with the right side for the identifier
 --     CanUnder, SameUnder          rules 5, 12: under B
 --     CanBranches, SameBranches    rule 6

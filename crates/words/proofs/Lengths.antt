@@ -11,19 +11,19 @@ use native.Mathlib.Omega.{arith}
 use borrow.Author.Tests.{ltb-false}
 use lib.Dec.{eqb, ltb}
 use lib.ListN.{length, take, length-take}
-use Rattle.rules.specs.Context.{Context}
+use Rattle.rules.specs.Context.{Limits}
 use Rattle.layout.specs.Bytes.{wordsOf}
 use Rattle.layout.specs.Reading.{fault}
 use Rattle.layout.specs.File.{badLength, fileOf, wordsRead}
 use Rattle.words.specs.Load.{Loaded}
 use Rattle.words.proofs.Loading.{words-length, loaded-words}
 
-module _ (Γ : Context) (bytes : List ℕ) where
-  pub bad-file : badLength bytes ≡ true → fileOf Γ bytes ≡ fault 1 0
+module _ (limits : Limits) (bytes : List ℕ) where
+  pub bad-file : badLength bytes ≡ true → fileOf limits bytes ≡ fault 1 0
   unfolding fileOf
   bad-file h = rw (h, fileOf) refl
 
-  pub good-file : badLength bytes ≡ false → fileOf Γ bytes ≡ wordsRead Γ (wordsOf bytes)
+  pub good-file : badLength bytes ≡ false → fileOf limits bytes ≡ wordsRead limits (wordsOf bytes)
   unfolding fileOf
   good-file h = rw (h, fileOf) refl
 

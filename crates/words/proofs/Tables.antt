@@ -10,6 +10,7 @@ use Prim.Native.Nat.{ℕ}
 use lib.Dec.{eqb, leb}
 use Rattle.language.specs.Syntax as syntax
 use Rattle.language.specs.Syntax.{Sort, Expr, operation, compare, truth}
+use Rattle.rules.specs.Context.{Context}
 use Rattle.layout.specs.Reading.{Reader, pure, _⊛_, upTo, onOption}
 use Rattle.layout.specs.Read.{arithmeticWord, booleanWord, arrayWord, commandWord}
 use Rattle.words.specs.Decode.{within, arithmeticOf, booleanOf, arrayOf, commandOf}
@@ -62,11 +63,13 @@ module _ (part : (j : Sort) → Reader (Expr j)) (k p : ℕ) where
       both id f (eqb k 16) (up f 31 p refl refl) (both id f (eqb k 17) (up f 0 p refl refl)
       (both id f (eqb k 18) (up f 0 p refl refl) refl))
 
-  pub command-of : (body : Reader syntax.Command) → commandWord part body k p ≡ commandMeaning part body (commandOf k p)
+  pub command-of : (Γ : Context) (body : Reader syntax.Command) →
+      commandWord Γ part body k p ≡ commandMeaning Γ part body (commandOf k p)
   unfolding commandOf
-  command-of body =
-      let f = commandMeaning part body in
+  command-of Γ body =
+      let f = commandMeaning Γ part body in
       both id f (eqb k 24) (up f 0 p refl refl) (both id f (eqb k 25) (up f 0 p refl refl)
       (both id f (eqb k 26) (up f 0 p refl refl) (both id f (eqb k 27) (up f 31 p refl refl)
       (both id f (eqb k 28) (up f 31 p refl refl) (both id f (eqb k 29) (up f 0 p refl refl)
-      (both id f (eqb k 30) (up f 0 p refl refl) (both id f (eqb k 31) (up f 1023 p refl refl) refl)))))))
+      (both id f (eqb k 30) (up f 0 p refl refl) (both id f (eqb k 31) (up f 1023 p refl refl)
+      (both id f (eqb k 38) refl refl))))))))

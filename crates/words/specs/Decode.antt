@@ -1,8 +1,8 @@
--- What a word stands for in its group, by kind and payload (document 01, "Layout"). A word that the group's list does not
--- allow is `Other`.
+-- What a word stands for in its group, by kind and payload (document 01, "Layout"; document 02, request [3]). A word that the
+-- group's list does not allow is `Other`.
 -- Working: `arithmetic-of`, `boolean-of`, `array-of` and `command-of` of proofs/Tables tie it to the layout's tables.
 -- Assumes nothing.
---     arithmeticOf, booleanOf, arrayOf, commandOf    kinds 1 to 4, 8 to 12, 16 to 18 and 24 to 31
+--     arithmeticOf, booleanOf, arrayOf, commandOf    kinds 1 to 4, 8 to 12, 16 to 18, and 24 to 31 with 38
 use mathlib.Core.Bool.{true, false, cond}
 use Prim.Native.Nat.{ℕ, _/_, _%_}
 use lib.Dec.{eqb, leb}
@@ -21,7 +21,7 @@ use Rattle.words.specs.declared.ArrayWord.the-variants.{Identifier, Zero
 use Rattle.words.specs.declared.CommandWord.{CommandWord}
 use Rattle.words.specs.declared.CommandWord.the-variants as command
 use Rattle.words.specs.declared.CommandWord.the-variants.{Skip, Sequence, Assert, AssignScalar, AssignArray, If}
-use Rattle.words.specs.declared.CommandWord.the-variants.{While, For}
+use Rattle.words.specs.declared.CommandWord.the-variants.{While, For, Call}
 
 -- a payload up to a bound
 abbrev pub within : {A : Type 0} → ℕ → ℕ → A → A → A
@@ -68,4 +68,5 @@ commandOf k p =
     (cond (eqb k 28) (within 31 p (AssignArray p) command.Other)
     (cond (eqb k 29) (within 0 p If command.Other)
     (cond (eqb k 30) (within 0 p While command.Other)
-    (cond (eqb k 31) (within 1023 p (For (p % 32) (p / 32)) command.Other) command.Other)))))))
+    (cond (eqb k 31) (within 1023 p (For (p % 32) (p / 32)) command.Other)
+    (cond (eqb k 38) (Call p) command.Other))))))))

@@ -10,6 +10,7 @@ use Rattle.language.specs.Syntax as syntax
 use Rattle.language.specs.Syntax.{Sort, Expr, constant, scalar, operation, select}
 use Rattle.language.specs.Syntax.{compare, truth, and, or, neg, array, zeros, update, toScalar, toArray}
 use Rattle.language.specs.Syntax.{skip, sequence, assert, assign, ifElse, while, for}
+use Rattle.rules.specs.Context.{Context, called}
 use Rattle.layout.specs.Reading.{Reader, pure, _⊛_}
 use Rattle.words.specs.declared.Operator.{Operator}
 use Rattle.words.specs.declared.Operator.the-variants.{Plus, Minus, Times}
@@ -27,7 +28,7 @@ use Rattle.words.specs.declared.ArrayWord.the-variants.{Identifier, Zero
 use Rattle.words.specs.declared.CommandWord.{CommandWord}
 use Rattle.words.specs.declared.CommandWord.the-variants as command
 use Rattle.words.specs.declared.CommandWord.the-variants.{Skip, Sequence, Assert, AssignScalar, AssignArray, If}
-use Rattle.words.specs.declared.CommandWord.the-variants.{While, For}
+use Rattle.words.specs.declared.CommandWord.the-variants.{While, For, Call}
 
 abbrev pub operatorMeant : Operator → syntax.Operator
 operatorMeant Plus = syntax.plus
@@ -62,8 +63,8 @@ module _ (part : (j : Sort) → Reader (Expr j)) where
   arrayMeaning Update = some (pure update ⊛ part syntax.Array ⊛ part syntax.Arithmetic ⊛ part syntax.Arithmetic)
   arrayMeaning array.Other = none
 
--- `part j` reads an operand, `body` a command
-module _ (part : (j : Sort) → Reader (Expr j)) (body : Reader syntax.Command) where
+-- `part j` reads an operand, `body` a command; a call holds the body that the context has for its number
+module _ (Γ : Context) (part : (j : Sort) → Reader (Expr j)) (body : Reader syntax.Command) where
   abbrev pub commandMeaning : CommandWord → Option (Reader syntax.Command)
   commandMeaning Skip = some (pure skip)
   commandMeaning Sequence = some (pure sequence ⊛ body ⊛ body)
@@ -73,4 +74,5 @@ module _ (part : (j : Sort) → Reader (Expr j)) (body : Reader syntax.Command) 
   commandMeaning If = some (pure ifElse ⊛ part syntax.Boolean ⊛ body ⊛ body)
   commandMeaning While = some (pure while ⊛ part syntax.Boolean ⊛ body)
   commandMeaning (For q m) = some (pure (for q m) ⊛ body)
+  commandMeaning (Call p) = some (pure (called Γ p))
   commandMeaning command.Other = none

@@ -8,6 +8,7 @@ use super::Operator;
 use super::kinds::AND;
 use super::kinds::ARRAY;
 use super::kinds::ASSERT;
+use super::kinds::CALL;
 use super::kinds::COMPARISON;
 use super::kinds::CONSTANT;
 use super::kinds::FOR;
@@ -172,7 +173,7 @@ pub fn array_word(kind: u32, payload: u32) -> ArrayWord
     }
 }
 
-// Kinds 24 to 31.
+// Kinds 24 to 31 and 38.
 pub fn command_word(kind: u32, payload: u32) -> CommandWord
     ensures { λ r. ⌜ r ≡ commandOf kind payload ⌝ }
 {
@@ -233,6 +234,7 @@ pub fn command_word(kind: u32, payload: u32) -> CommandWord
                 CommandWord::Other
             }
         }
+        CALL => CommandWord::Call(payload),
         _ => CommandWord::Other,
     }
 }

@@ -1,4 +1,4 @@
-// Kinds and words by name (document 01, "Layout"): a word is its kind × KIND + its payload.
+// Kinds and words by name (document 01, "Layout"; document 02, request [3]): a word is its kind × KIND + its payload.
 pub const KIND: u32 = 67108864;
 // As many as there are payloads, for one in two's complement.
 pub const PAYLOADS: i64 = 67108864;
@@ -47,7 +47,9 @@ pub const WHILE: u32 = 30;
 
 pub const FOR: u32 = 31;
 
-// Sets, evidence and the first word.
+pub const CALL: u32 = 38;
+
+// Sets, evidence, the table of procedures and the first word.
 pub const SET: u32 = 32;
 
 pub const FLOW: u32 = 33;
@@ -56,9 +58,11 @@ pub const IMPLICATION: u32 = 34;
 
 pub const PRECONDITION: u32 = 35;
 
+pub const PROCEDURES: u32 = 62;
+
 pub const FILE: u32 = 63;
 
-// Whole words. To those of a scalar, an array, an assignment or a file a payload is added.
+// Whole words. To those of a scalar, an array, an assignment, a call or a file a payload is added.
 // The constant 1.
 pub const ONE_WORD: u32 = CONSTANT * KIND + 1;
 
@@ -83,6 +87,8 @@ pub const SEQUENCE_WORD: u32 = SEQUENCE * KIND;
 pub const TO_SCALAR_WORD: u32 = TO_SCALAR * KIND;
 
 pub const WHILE_WORD: u32 = WHILE * KIND;
+
+pub const CALL_WORD: u32 = CALL * KIND;
 
 // A count of words is added to it.
 pub const FILE_WORD: usize = (FILE * KIND) as usize;

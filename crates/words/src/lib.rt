@@ -1,4 +1,4 @@
-// The words of a file (document 01, "Layout"): loaded from its bytes, and decoded by kind and payload.
+// The words of a file (document 01, "Layout"; document 02, request [3]): loaded from its bytes, and decoded by kind and payload.
 pub mod kinds; // kinds.rt: kinds and words by name
 pub mod numbers; // numbers.rt: a word's number as a place; the lesser of two
 pub mod load; // load.rt: words from bytes
@@ -44,7 +44,7 @@ pub enum ArrayWord {
     Other,
 }
 
-// Kinds 24 to 31; a `for` has its scalar q, then its bound m.
+// Kinds 24 to 31 and 38; a `for` has its scalar q, then its bound m, a call the number of its procedure.
 pub enum CommandWord {
     Skip,
     Sequence,
@@ -54,6 +54,7 @@ pub enum CommandWord {
     If,
     While,
     For(u32, u32),
+    Call(u32),
     Other,
 }
 

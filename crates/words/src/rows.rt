@@ -1,4 +1,4 @@
-// The table of rules (document 01, "Rules"): what stands after the word of each, what it carries and then its children.
+// The table of rules (document 01, "Rules"; document 02, request [3]): what stands after the word of each, what it carries and then its children.
 // A row is a number in base 8: its digits, the lowest first, are the items, and 0 is past the last.
 use super::Judgement;
 use super::kinds::FLOW;
@@ -66,6 +66,8 @@ const PRE_28: u32 = ASSERTION + 8 * PRECONDITION_CHILD;
 
 const PRE_30: u32 = COMMAND + 8 * PRECONDITION_CHILD;
 
+const PRE_32: u32 = PRECONDITION_CHILD;
+
 // Rules of kind 33 by their numbers.
 pub fn flow_row(rule: u32) -> u32
     ensures { λ r. ⌜ r ≡ rowOf flow rule ⌝ }
@@ -85,6 +87,7 @@ pub fn flow_row(rule: u32) -> u32
         12 => FLOW_12,
         13 => FLOW_13,
         14 => FLOW_14,
+        31 => 0,
         _ => NO_RULE,
     }
 }
@@ -121,6 +124,7 @@ pub fn pre_row(rule: u32) -> u32
         28 => PRE_28,
         29 => 0,
         30 => PRE_30,
+        32 => PRE_32,
         _ => NO_RULE,
     }
 }

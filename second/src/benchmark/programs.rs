@@ -1,7 +1,8 @@
 //! Programs of about a million steps, for the benchmark of the runner.
 
 use crate::layout::syntax::*;
-use crate::layout::write::file_bytes;
+use crate::layout::words::bytes_of;
+use crate::layout::write::file_words_with;
 
 /// The scalars that a run starts with: 1 to 3 are bounds of loops.
 pub const SCALARS: [i64; 4] = [0, 249_999, 140_000, 450];
@@ -10,19 +11,25 @@ pub struct Program {
     pub name: &'static str,
     pub does: &'static str,
     make: fn() -> Command,
+    bodies: fn() -> Vec<Command>,
 }
 
-pub const PROGRAMS: [Program; 5] = [
-    Program { name: "loop", does: "a tight `for` with an if and a sum", make: tight },
-    Program { name: "arithmetic", does: "a while over sums, differences and products", make: arithmetic },
-    Program { name: "nest", does: "a `for` in a `for`", make: nest },
-    Program { name: "elements", does: "an array's elements counted up, one by one", make: elements },
-    Program { name: "mailbox", does: "steps of the mailbox guard", make: mailbox },
+pub const PROGRAMS: [Program; 6] = [
+    Program { name: "loop", does: "a tight `for` with an if and a sum", make: tight, bodies: Vec::new },
+    Program { name: "arithmetic", does: "a while over sums, differences and products", make: arithmetic, bodies: Vec::new },
+    Program { name: "nest", does: "a `for` in a `for`", make: nest, bodies: Vec::new },
+    Program { name: "elements", does: "an array's elements counted up, one by one", make: elements, bodies: Vec::new },
+    Program { name: "mailbox", does: "steps of the mailbox guard", make: mailbox, bodies: Vec::new },
+    Program { name: "calls", does: "a `for` over a procedure that calls another", make: calls, bodies: called },
 ];
 
 impl Program {
     pub fn file(&self) -> Vec<u8> {
-        file_bytes(&(self.make)(), &[], &[], &flow_of(FlowRule::F10))
+        let evidence = flow_of(FlowRule::F10);
+        let procedure =
+            |command| Procedure { command, pre: Set::new(), post: Set::new(), evidence: *flow_of(FlowRule::F10) };
+        let procedures: Vec<Procedure> = (self.bodies)().into_iter().map(procedure).collect();
+        bytes_of(&file_words_with(&procedures, &(self.make)(), &[], &[], &evidence))
     }
 }
 
@@ -77,6 +84,17 @@ fn elements() -> Command {
     let test = compare(Comparison::Less, scalar(5), number(63));
     let next = if_else(test, set(5, plus(scalar(5), number(1))), set(5, number(0)));
     repeat(4, 2, sequence(count, next))
+}
+
+/// for 4 up to 2: call procedure 1
+fn calls() -> Command {
+    repeat(4, 2, call(1))
+}
+
+/// 5 := 5 + 4; (call procedure 0; 6 := 6 + 1)
+fn called() -> Vec<Command> {
+    let count = set(6, plus(scalar(6), number(1)));
+    vec![set(5, plus(scalar(5), scalar(4))), sequence(call(0), count)]
 }
 
 /// while true: a message comes in (10 full, 11 what it says), then the guard of paper 000 passes it on if there is room (12, 13)

@@ -2,8 +2,8 @@
 //! has a parameter that its size and its cost grow with.
 
 use crate::layout::syntax::*;
-use crate::layout::words::bytes_of;
-use crate::layout::write::file_words;
+use crate::layout::words::{bytes_of, MOST_PROCEDURES};
+use crate::layout::write::{file_words, file_words_with};
 
 /// A kind of files: its name, what it tries, and the file of a parameter.
 pub struct Kind {
@@ -13,7 +13,7 @@ pub struct Kind {
     most: u32,
 }
 
-pub const KINDS: [Kind; 7] = [
+pub const KINDS: [Kind; 8] = [
     Kind { name: "shared", tries: "an antecedent judged at every leaf of a tree of ifs", make: shared, most: 1_000 },
     Kind { name: "members", tries: "a set whose antecedents each imply false", make: members, most: 64 },
     Kind { name: "chain", tries: "a chain of implications", make: chain, most: 115 },
@@ -21,6 +21,7 @@ pub const KINDS: [Kind; 7] = [
     Kind { name: "modified", tries: "what a long command modifies, asked at every leaf", make: modified, most: 2_000 },
     Kind { name: "replace", tries: "a long right side put into every member", make: replace, most: 64 },
     Kind { name: "deep", tries: "expressions as deep as may be", make: deep, most: 64 },
+    Kind { name: "calls", tries: "what 16 procedures modify that each call the one below twice, asked at every leaf", make: calls, most: 2_000 },
 ];
 
 impl Kind {
@@ -147,6 +148,33 @@ fn deep(count: u32) -> Vec<u32> {
     let one = Member { phi: nots.clone(), e: Expression::Bool(nots) };
     let set: Set = (0..count).map(|_| one.clone()).collect();
     file_words(&skip(), &set, &set, &flow_of(FlowRule::F1))
+}
+
+/// The nest by rules 2 and 31; over a call of its last procedure rule 9, down to rule 10.
+fn calls(leaves: u32) -> Vec<u32> {
+    let set = vec![member(always(), Arith::Scalar(0))];
+    let leaf = |_| *flow_of(FlowRule::F10);
+    let node = |a, b| {
+        let (s, s2, t, t2) = (set.clone(), set.clone(), set.clone(), set.clone());
+        *flow_of(FlowRule::F9 { s, s2, t, t2, first: Box::new(a), second: Box::new(b) })
+    };
+    let procedures = nest_of_calls(&set);
+    let last = procedures.len() as u32 - 1;
+    file_words_with(&procedures, &call(last), &set, &set, &tree(0, leaves, &leaf, &node))
+}
+
+/// Sixteen procedures that keep a set: the first assigns a scalar that is not in it, each other calls the one below twice.
+fn nest_of_calls(set: &Set) -> Vec<Procedure> {
+    let body = |p: u32| match p {
+        0 => command(Form::AssignScalar(1, Arith::Scalar(2))),
+        _ => sequence(call(p - 1), call(p - 1)),
+    };
+    let evidence = |p: u32| match p {
+        0 => *flow_of(FlowRule::F10),
+        _ => *flow_of(FlowRule::F2 { m: set.clone(), first: flow_of(FlowRule::F31), second: flow_of(FlowRule::F31) }),
+    };
+    let one = |p: u32| Procedure { command: body(p), pre: set.clone(), post: set.clone(), evidence: evidence(p) };
+    (0..MOST_PROCEDURES).map(one).collect()
 }
 
 /// Files that take much stack: evidence as deep as may be, and under it a rule that walks an expression as deep as may be.

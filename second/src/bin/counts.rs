@@ -1,7 +1,7 @@
 //! `counts [SEED [COUNT]]`: makes accepted files and counts the rules in them.
 
 use second::generate::prng::Prng;
-use second::generate::{accepted, count_rules};
+use second::generate::{accepted, count_rules, RuleCounts, RULES};
 use second::tool::{self, Fault};
 use std::io::Write;
 
@@ -12,8 +12,8 @@ fn main() {
 fn program(arguments: &[String], out: &mut dyn Write) -> Result<u8, Fault> {
     let [seed, count] = tool::numbers(arguments, [1, 10_000])?;
     let mut rng = Prng::new(seed);
-    let mut rules = [[0u64; 31]; 3];
-    let mut files = [[0u64; 31]; 3];
+    let mut rules: RuleCounts = [[0; 33]; 3];
+    let mut files = rules;
     let mut words = 0;
     let mut most = 0;
     let start = std::time::Instant::now();
@@ -21,10 +21,10 @@ fn program(arguments: &[String], out: &mut dyn Write) -> Result<u8, Fault> {
         let bytes = accepted(&mut rng);
         words += bytes.len() / 4;
         most = most.max(bytes.len() / 4);
-        let mut here = [[0u64; 31]; 3];
+        let mut here: RuleCounts = [[0; 33]; 3];
         count_rules(&bytes, &mut here);
         for k in 0..3 {
-            for r in 0..31 {
+            for r in 0..33 {
                 rules[k][r] += here[k][r];
                 files[k][r] += u64::from(here[k][r] > 0);
             }
@@ -32,9 +32,9 @@ fn program(arguments: &[String], out: &mut dyn Write) -> Result<u8, Fault> {
     }
     let seconds = start.elapsed().as_secs_f64();
     writeln!(out, "seed {seed}, {count} accepted files, {words} words, longest {most}, {seconds:.1} s")?;
-    for (k, name, range) in [(0, "flow", 1..=14), (1, "set", 13..=19), (2, "precondition", 20..=30)] {
-        for r in range {
-            writeln!(out, "{name} {r}: {} times in {} files", rules[k][r], files[k][r])?;
+    for (k, (name, numbers)) in RULES.iter().enumerate() {
+        for r in *numbers {
+            writeln!(out, "{name} {r}: {} times in {} files", rules[k][*r], files[k][*r])?;
         }
     }
     Ok(0)

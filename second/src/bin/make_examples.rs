@@ -1,6 +1,6 @@
 //! `make_examples FOLDER`: writes the texts and files of the examples that are made from trees (see examples/).
 
-use second::examples::{guard, loops};
+use second::examples;
 use second::tool::{self, Fault};
 use std::io::Write;
 
@@ -10,7 +10,7 @@ fn main() {
 
 fn program(arguments: &[String], _: &mut dyn Write) -> Result<u8, Fault> {
     let [folder] = arguments else { return Err(Fault::Usage) };
-    for example in guard::examples().into_iter().chain(loops::examples()) {
+    for example in examples::all() {
         tool::write_file(&format!("{folder}/{}.txt", example.name), example.text().as_bytes())?;
         tool::write_file(&format!("{folder}/{}.cert", example.name), &example.bytes())?;
     }

@@ -5,7 +5,7 @@
 use crate::generate::prng::Prng;
 use crate::layout::syntax::*;
 use crate::naive::big::Big;
-use crate::naive::modified::{in_command, in_set, Identifiers};
+use crate::naive::modified::{in_set, used_by, Identifiers};
 use crate::naive::unbounded::{agree, run, says_something, Map, NoEnd, Store};
 
 #[derive(Clone, Copy, PartialEq, Eq, Debug)]
@@ -87,25 +87,40 @@ fn pair(rng: &mut Prng, pre: &Set, used: &Identifiers) -> Option<(Store, Store)>
     (s1 != s2).then_some((s1, s2))
 }
 
-/// One pair for one file.
+/// What is claimed: of the main program, and of each procedure.
+struct Contract<'a> {
+    pre: &'a Set,
+    command: &'a Command,
+    post: &'a Set,
+}
+
+/// One of the contracts of a file.
+fn any_contract<'a>(rng: &mut Prng, file: &'a File) -> Contract<'a> {
+    match file.procedures.get(rng.below(file.procedures.len() + 1)) {
+        Some(procedure) => Contract { pre: &procedure.pre, command: &procedure.command, post: &procedure.post },
+        None => Contract { pre: &file.pre, command: &file.command, post: &file.post },
+    }
+}
+
+/// One pair for one contract of a file.
 pub fn try_pair(rng: &mut Prng, file: &File, bound: u64) -> (Found, Option<(Store, Store)>) {
-    let mut used = Identifiers::none();
-    in_command(&file.command, &mut used);
-    in_set(&file.pre, &mut used);
-    in_set(&file.post, &mut used);
-    let Some((s1, s2)) = pair(rng, &file.pre, &used) else { return (Found::NoPair, None) };
+    let Contract { pre, command, post } = any_contract(rng, file);
+    let mut used = used_by(command, &file.procedures);
+    in_set(pre, &mut used);
+    in_set(post, &mut used);
+    let Some((s1, s2)) = pair(rng, pre, &used) else { return (Found::NoPair, None) };
     let (mut e1, mut e2) = (s1.clone(), s2.clone());
     for end in [&mut e1, &mut e2] {
-        match run(&file.command, end, &mut bound.clone()) {
+        match run(command, &file.procedures, end, &mut bound.clone()) {
             Ok(()) => {}
             Err(NoEnd::AssertionFails) => return (Found::AssertionFails, None),
             Err(NoEnd::BoundReached) => return (Found::BoundReached, None),
         }
     }
-    if !agree(&file.post, &e1, &e2) {
+    if !agree(post, &e1, &e2) {
         return (Found::Counterexample, Some((s1, s2)));
     }
-    if says_something(&file.post, &e1, &e2) {
+    if says_something(post, &e1, &e2) {
         (Found::Agree, None)
     } else {
         (Found::Vacuous, None)

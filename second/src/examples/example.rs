@@ -2,7 +2,7 @@
 
 use crate::layout::syntax::*;
 use crate::layout::words::bytes_of;
-use crate::layout::write::file_words;
+use crate::layout::write::file_words_with;
 use crate::naive::judge::operands_of;
 use crate::naive::modified::of_expression;
 use crate::naive::read::read;
@@ -14,6 +14,7 @@ pub struct Example {
     pub name: &'static str,
     pub about: &'static str,
     pub names: Names,
+    pub procedures: Vec<Procedure>,
     pub program: Command,
     pub pre: Set,
     pub post: Set,
@@ -22,7 +23,7 @@ pub struct Example {
 
 impl Example {
     pub fn bytes(&self) -> Vec<u8> {
-        bytes_of(&file_words(&self.program, &self.pre, &self.post, &self.evidence))
+        bytes_of(&file_words_with(&self.procedures, &self.program, &self.pre, &self.post, &self.evidence))
     }
 
     pub fn text(&self) -> String {

@@ -26,34 +26,34 @@ pub const D_1: u32 = 9;
 
 /// One way through the mailbox: the input, the character on its way, the output.
 #[derive(Clone, Copy)]
-struct Way {
-    in_rdy: u32,
-    in_dat: u32,
-    data: u32,
-    out_rdy: u32,
-    out_dat: u32,
+pub struct Way {
+    pub in_rdy: u32,
+    pub in_dat: u32,
+    pub data: u32,
+    pub out_rdy: u32,
+    pub out_dat: u32,
 }
 
 /// From client 0 to client 1, and back.
-const TO_1: Way = Way { in_rdy: IN_0_RDY, in_dat: IN_0_DAT, data: D_0, out_rdy: OUT_1_RDY, out_dat: OUT_1_DAT };
-const TO_0: Way = Way { in_rdy: IN_1_RDY, in_dat: IN_1_DAT, data: D_1, out_rdy: OUT_0_RDY, out_dat: OUT_0_DAT };
+pub const TO_1: Way = Way { in_rdy: IN_0_RDY, in_dat: IN_0_DAT, data: D_0, out_rdy: OUT_1_RDY, out_dat: OUT_1_DAT };
+pub const TO_0: Way = Way { in_rdy: IN_1_RDY, in_dat: IN_1_DAT, data: D_1, out_rdy: OUT_0_RDY, out_dat: OUT_0_DAT };
 
 fn scalar(x: u32) -> Arith {
     Arith::Scalar(x)
 }
 
 /// {true ⇒ x}.
-fn only(x: u32) -> Set {
+pub fn only(x: u32) -> Set {
     agree![scalar(x)]
 }
 
 impl Way {
-    fn test(self) -> Bool {
+    pub fn test(self) -> Bool {
         and(flag(self.in_rdy), not(flag(self.out_rdy)))
     }
 
     /// One `if` of figure 2; `sent` is what is put in the output.
-    fn transfer(self, sent: u32) -> Command {
+    pub fn transfer(self, sent: u32) -> Command {
         let ready = assign(self.out_rdy, Arith::Constant(1));
         let put = assign(self.out_dat, Arith::Scalar(sent));
         let taken = assign(self.in_rdy, Arith::Constant(0));
@@ -63,7 +63,7 @@ impl Way {
     }
 
     /// Figure 3: what the output derives from.
-    fn contract(self) -> Set {
+    pub fn contract(self) -> Set {
         let passes = member(self.test(), scalar(self.in_dat));
         let stays = member(or(not(flag(self.in_rdy)), flag(self.out_rdy)), scalar(self.out_dat));
         let [ready, free] = self.flags();
@@ -91,13 +91,13 @@ fn then_evidence(way: Way) -> Box<Flow> {
     by_sequence(only(way.data), flow_of(FlowRule::F3), middle)
 }
 
-/// (Θ0, the if, {true ⇒ out_dat}).
-fn if_evidence(way: Way) -> Box<Flow> {
+/// (Θ0, the if, {true ⇒ out_dat}), with evidence of its then part.
+fn if_evidence(way: Way, then: Box<Flow>) -> Box<Flow> {
     flow_of(FlowRule::F6 {
         s: only(way.in_dat),
         t: only(way.out_dat),
         phi0: always(),
-        then: then_evidence(way),
+        then,
         otherwise: flow_of(FlowRule::F1),
         before: before_of(BeforeRule::B29),
     })
@@ -142,8 +142,13 @@ fn set_evidence(way: Way, p: &Set) -> Box<Implication> {
 }
 
 /// (P, the if, {true ⇒ out_dat}).
-fn transfer_evidence(way: Way, p: &Set) -> Box<Flow> {
-    flow_of(FlowRule::F7 { m: way.raw(), set: set_evidence(way, p), flow: if_evidence(way) })
+pub fn transfer_evidence(way: Way, p: &Set) -> Box<Flow> {
+    guarded_evidence(way, p, then_evidence(way))
+}
+
+/// The same with other evidence of the then part.
+pub fn guarded_evidence(way: Way, p: &Set, then: Box<Flow>) -> Box<Flow> {
+    flow_of(FlowRule::F7 { m: way.raw(), set: set_evidence(way, p), flow: if_evidence(way, then) })
 }
 
 /// Output 0: P goes through the first if by rule 10, as paper 000 says below figure 5.
@@ -162,7 +167,7 @@ fn machine_step() -> Command {
 }
 
 fn good(name: &'static str, about: &'static str, pre: Set, post: Set, evidence: Box<Flow>) -> Example {
-    Example { name, about, names: NAMES, program: machine_step(), pre, post, evidence }
+    Example { name, about, names: NAMES, procedures: Vec::new(), program: machine_step(), pre, post, evidence }
 }
 
 fn output_0() -> Example {
@@ -192,7 +197,7 @@ fn without_the_test() -> Example {
     let pre = TO_0.contract()[..2].to_vec();
     let raw = TO_0.raw()[..2].to_vec();
     let set = antecedents_evidence(&pre, &raw);
-    let transfer = flow_of(FlowRule::F7 { m: raw, set, flow: if_evidence(TO_0) });
+    let transfer = flow_of(FlowRule::F7 { m: raw, set, flow: if_evidence(TO_0, then_evidence(TO_0)) });
     let evidence = by_sequence(pre.clone(), flow_of(FlowRule::F10), transfer);
     let about = "FAULTY: guard-output-0 without the two flags in P, so that φ0 ⇒ B is missing in rule 6.\n\
         Refused 8 at [1.2.2]: whether the if was taken can be seen in OUT_0_DAT.";
@@ -216,7 +221,7 @@ fn crossed() -> Example {
     let about = "FAULTY: guard-output-0 for a program that puts D_0, not D_1, in OUT_0_DAT.\n\
         Refused 8 at [1.2.2.1.2.2.1]: the assignment needs D_0, the evidence has D_1.";
     let program = sequence(TO_1.transfer(D_0), TO_0.transfer(D_0));
-    Example { name: "guard-crossed", about, names: NAMES, program, pre, post: only(OUT_0_DAT), evidence }
+    Example { name: "guard-crossed", about, names: NAMES, procedures: Vec::new(), program, pre, post: only(OUT_0_DAT), evidence }
 }
 
 pub fn examples() -> Vec<Example> {

@@ -76,7 +76,7 @@ fn lookup_with(name: &'static str, about: &'static str, most: i64) -> Example {
     let run = by_sequence(read, flow_of(FlowRule::F5), flow_of(FlowRule::F3));
     let evidence = flow_of(FlowRule::F7 { m: asked, set: implication_of(ImplicationRule::S18), flow: run });
     let pre = vec![member(range(most), select(TABLE, x(INDEX)))];
-    Example { name, about, names: LOOKUP, program, pre, post: agree![x(FOUND)], evidence }
+    Example { name, about, names: LOOKUP, procedures: Vec::new(), program, pre, post: agree![x(FOUND)], evidence }
 }
 
 fn lookup() -> Example {
@@ -114,7 +114,7 @@ fn message_with(name: &'static str, about: &'static str, second: i64) -> Example
         before: before_of(BeforeRule::B29),
     });
     let program = if_else(flag(OPEN), sequence(put_at(0, 0), put_at(1, second)), skip());
-    Example { name, about, names: MESSAGE, program, pre, post, evidence }
+    Example { name, about, names: MESSAGE, procedures: Vec::new(), program, pre, post, evidence }
 }
 
 fn message() -> Example {
@@ -139,6 +139,7 @@ fn scrub() -> Example {
         about: "A result is taken from a buffer, then the buffer is cleared by a for. `out` derives from work[0] alone.\n\
             Accepted.",
         names: Names { scalars: &["out", "n", "q"], arrays: &["work"] },
+        procedures: Vec::new(),
         program: sequence(assign(out, select(work, number(0))), clear),
         pre: agree![select(work, number(0))],
         post: agree![x(out)],
@@ -185,7 +186,7 @@ fn wage_with(name: &'static str, about: &'static str, bound: bool) -> Example {
     let round = assignment(&body, &i, &new, &before_assignment(&assign(Q, next()), &i));
     let evidence = for_evidence(&pre, &first, &i, &body, round);
     let program = command(Form::For(Q, BOUND, Box::new(body)));
-    Example { name, about, names: WAGE, program, pre, post: agree![x(SUM)], evidence }
+    Example { name, about, names: WAGE, procedures: Vec::new(), program, pre, post: agree![x(SUM)], evidence }
 }
 
 fn wage() -> Example {
@@ -234,7 +235,7 @@ fn total() -> Example {
     let first = agree![number(1), test(number(1)), is_first(number(1))];
     let evidence = for_evidence(&pre, &first, &i, &body, round);
     let program = command(Form::For(Q, BOUND, Box::new(body)));
-    Example { name: "total", about, names: TOTAL, program, pre, post: agree![x(SUM)], evidence }
+    Example { name: "total", about, names: TOTAL, procedures: Vec::new(), program, pre, post: agree![x(SUM)], evidence }
 }
 
 // retry
@@ -270,7 +271,7 @@ fn retry_with(name: &'static str, about: &'static str, phi: Bool, before: Box<Be
     let fewer = assign(TRIES, operate(Operator::Minus, x(TRIES), number(1)));
     let body = sequence(assign(PUT, x(SENT)), sequence(assign(READY, number(1)), fewer));
     let program = command(Form::While(left(x(TRIES)), Box::new(body)));
-    Example { name, about, names: RETRY, program, pre, post, evidence }
+    Example { name, about, names: RETRY, procedures: Vec::new(), program, pre, post, evidence }
 }
 
 fn retry() -> Example {

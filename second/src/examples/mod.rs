@@ -6,3 +6,9 @@
 pub mod example;
 pub mod guard;
 pub mod loops;
+pub mod procedure;
+
+/// All of them.
+pub fn all() -> Vec<example::Example> {
+    [guard::examples(), procedure::examples(), loops::examples()].into_iter().flatten().collect()
+}

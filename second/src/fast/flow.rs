@@ -1,4 +1,4 @@
-//! Rules 1 to 14 of flow: a goal (P, C, Q) and its evidence, all as places.
+//! Rules 1 to 14 and 31 of flow: a goal (P, C, Q) and its evidence, all as places.
 
 use super::layout::*;
 use super::sets::Piece::*;
@@ -52,6 +52,7 @@ impl Judge<'_> {
             3 => f.kind(c) == ASSIGN && self.replaced(p, q, word(SCALAR, x), c + 1),
             4 => f.kind(c) == ASSIGN_ARRAY && self.replaced(p, q, word(ARRAY, x), c + 1),
             5 => f.kind(c) == ASSERT && f.same_as(p, &[Under(q, c + 1)]),
+            31 => f.kind(c) == CALL && f.same(p, f.called(c).pre) && f.same(q, f.called(c).post),
             // rule 10
             _ => f.same(p, q) && f.identifiers[q] & f.identifiers[c] == 0,
         }

@@ -1,8 +1,9 @@
-//! Document 01, "Layout": the kinds of words, and what each evidence word carries; and the sizes of "Runner".
+//! Document 01, "Layout", with request [3]: the kinds of words, and what each evidence word carries; and the sizes of "Runner".
 
 pub const MOST_WORDS: usize = 8_192;
 pub const MOST_DEPTH: u32 = 128;
 pub const MOST_MEMBERS: u32 = 64;
+pub const MOST_PROCEDURES: usize = 16;
 
 pub const SCALARS: usize = 32;
 pub const INDEXES: usize = 64;
@@ -33,6 +34,8 @@ pub const SET: u32 = 32;
 pub const FLOW: u32 = 33;
 pub const IMPLICATION: u32 = 34;
 pub const PRECONDITION: u32 = 35;
+pub const CALL: u32 = 38;
+pub const TABLE: u32 = 62;
 pub const FILE: u32 = 63;
 
 pub const TRUE_WORD: u32 = word(TRUTH, 1);
@@ -69,7 +72,7 @@ const P: Item = Evidence(PRECONDITION);
 /// The items of a rule in their order; none if the kind has no such rule.
 pub fn items(kind: u32, rule: u32) -> Option<&'static [Item]> {
     Some(match (kind, rule) {
-        (FLOW, 1 | 3 | 4 | 5 | 10) => &[],
+        (FLOW, 1 | 3 | 4 | 5 | 10 | 31) => &[],
         (FLOW, 2) => &[Set, F, F],
         (FLOW, 6) => &[Set, Set, Boolean, F, F, P],
         (FLOW, 7) => &[Set, I, F],
@@ -87,6 +90,7 @@ pub fn items(kind: u32, rule: u32) -> Option<&'static [Item]> {
         (PRECONDITION, 22 | 24..=27 | 29) => &[],
         (PRECONDITION, 23) => &[Boolean, P, P],
         (PRECONDITION, 30) => &[Command, P],
+        (PRECONDITION, 32) => &[P],
         _ => return None,
     })
 }

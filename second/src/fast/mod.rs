@@ -1,4 +1,4 @@
-//! Fast: the check and the runner again, plain and for speed, from document 01: what one writes where nothing has to be
+//! Fast: the check and the runner again, plain and for speed, from document 01 and request [3]: what one writes where nothing has to be
 //! proved. Nothing is allocated or cleared: the caller lends the arrays. A part of the file is its place among the words, a
 //! goal is such places, and each part's end and identifiers are worked out once, while it is read.
 //!
@@ -16,7 +16,7 @@ mod sets;
 
 pub use run::run;
 
-use layout::MOST_WORDS;
+use layout::{MOST_PROCEDURES, MOST_WORDS};
 
 /// A refusal: number × 65,536 + place. As wide as what a part's reading gives, so that a result is handed back in registers.
 type Refused = u64;
@@ -34,7 +34,8 @@ pub struct Work {
 
 impl Work {
     pub const fn new() -> Work {
-        let parts = Parts { words: [0; MOST_WORDS], ends: [0; MOST_WORDS], identifiers: [0; MOST_WORDS] };
+        let procedures = [Four { command: 0, pre: 0, post: 0, evidence: 0 }; MOST_PROCEDURES];
+        let parts = Parts { words: [0; MOST_WORDS], ends: [0; MOST_WORDS], identifiers: [0; MOST_WORDS], procedures };
         Work { parts, numbers: [0; MOST_WORDS] }
     }
 }
@@ -52,6 +53,17 @@ struct Parts {
     ends: [u16; MOST_WORDS],
     /// Of an expression or a set: the identifiers in it. Of a command: those it modifies. Bit x is scalar x, bit 32 + a array a.
     identifiers: [u64; MOST_WORDS],
+    /// By table place.
+    procedures: [Four; MOST_PROCEDURES],
+}
+
+/// The places of what a procedure and the main program each have.
+#[derive(Clone, Copy)]
+struct Four {
+    command: usize,
+    pre: usize,
+    post: usize,
+    evidence: usize,
 }
 
 impl Parts {
@@ -65,6 +77,11 @@ impl Parts {
 
     fn payload(&self, place: usize) -> u32 {
         layout::payload(self.words[place])
+    }
+
+    /// What the call at a place calls.
+    fn called(&self, call: usize) -> Four {
+        self.procedures[self.payload(call) as usize]
     }
 
     /// "Compared by words."
@@ -123,7 +140,9 @@ pub fn check(bytes: &[u8], work: &mut Work) -> u32 {
         Err(refused) => return refused as u32,
     };
     let mut judge = Judge { parts: &work.parts, numbers: &mut work.numbers };
-    match judge.flow(file.pre, file.command, file.post, file.evidence) {
+    let procedures = &work.parts.procedures[..file.procedures];
+    let mut all = procedures.iter().chain(std::iter::once(&file.main));
+    match all.try_for_each(|part| judge.flow(part.pre, part.command, part.post, part.evidence)) {
         Ok(()) => file.count,
         Err(refused) => refused as u32,
     }

@@ -1,4 +1,4 @@
-//! Rules 20 to 30 of necessary precondition: a goal (φ, C, φ').
+//! Rules 20 to 30 and 32 of necessary precondition: a goal (φ, C, φ').
 
 use super::implies::{negated, plain};
 use super::layout::*;
@@ -30,6 +30,10 @@ impl Judge<'_> {
             30 => {
                 need(f.is_meaning(first, c), at)?;
                 self.precondition(phi, first, post, f.end(first))
+            }
+            32 => {
+                need(f.kind(c) == CALL, at)?;
+                self.precondition(phi, f.called(c).command, post, first)
             }
             rule => need(self.pre_leaf(rule, phi, c, post), at),
         }

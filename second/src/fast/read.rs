@@ -1,14 +1,13 @@
-//! Refusals 1 to 7. Each part that is read leaves its end and its identifiers; refusal 7 is seen on the way and said last.
+//! Refusals 1 to 7 and 16. Each part that is read leaves its end and its identifiers; refusals 16 and 7 are seen on the way
+//! and said last. A body calls only procedures before it, so what a call modifies is known when the call is read.
 
 use super::layout::*;
-use super::{refusal, Parts, Refused};
+use super::{refusal, Four, Parts, Refused};
 
-/// A file that was read: the places of its parts, and the count of its evidence words.
+/// A file that was read: the count of its procedures, the places of the main program's parts, and the count of all evidence words.
 pub struct File {
-    pub command: usize,
-    pub pre: usize,
-    pub post: usize,
-    pub evidence: usize,
+    pub procedures: usize,
+    pub main: Four,
     pub count: u32,
 }
 
@@ -17,6 +16,10 @@ struct Reader<'a> {
     words: usize,
     at: usize,
     count: u32,
+    /// The procedures that were read: those that may be called here.
+    callable: usize,
+    /// The first call that refusal 16 is true of, if any.
+    bad_call: usize,
     /// The first `for` that refusal 7 is true of, if any.
     bad_for: usize,
 }
@@ -35,10 +38,13 @@ pub fn read(bytes: &[u8], parts: &mut Parts) -> Result<File, Refused> {
     if parts.words[0] != word(FILE, words as u32) {
         return Err(refusal(2, 0));
     }
-    let mut reader = Reader { parts, words, at: 1, count: 0, bad_for: usize::MAX };
+    let mut reader = Reader { parts, words, at: 1, count: 0, callable: 0, bad_call: usize::MAX, bad_for: usize::MAX };
     let file = reader.file()?;
     if reader.at < words {
         return Err(refusal(6, reader.at));
+    }
+    if reader.bad_call < words {
+        return Err(refusal(16, reader.bad_call));
     }
     if reader.bad_for < words {
         return Err(refusal(7, reader.bad_for));
@@ -48,6 +54,30 @@ pub fn read(bytes: &[u8], parts: &mut Parts) -> Result<File, Refused> {
 
 impl Reader<'_> {
     fn file(&mut self) -> Result<File, Refused> {
+        let procedures = self.table();
+        while self.callable < procedures {
+            self.parts.procedures[self.callable] = self.four()?;
+            self.callable += 1;
+        }
+        let main = self.four()?;
+        Ok(File { procedures, main, count: self.count })
+    }
+
+    /// The count of procedures, if a table begins at word 1.
+    fn table(&mut self) -> usize {
+        if self.words < 2 || kind(self.parts.words[1]) != TABLE {
+            return 0;
+        }
+        match payload(self.parts.words[1]) as usize {
+            procedures @ 1..=MOST_PROCEDURES => {
+                self.at = 2;
+                procedures
+            }
+            _ => 0,
+        }
+    }
+
+    fn four(&mut self) -> Result<Four, Refused> {
         let command = self.at;
         self.command(1)?;
         let pre = self.at;
@@ -56,7 +86,7 @@ impl Reader<'_> {
         self.set(1)?;
         let evidence = self.at;
         self.evidence(FLOW, 1)?;
-        Ok(File { command, pre, post, evidence, count: self.count })
+        Ok(Four { command, pre, post, evidence })
     }
 
     /// The word that is due: refusals 3 and 4.
@@ -157,6 +187,7 @@ impl Reader<'_> {
                 self.command(below)?
             }
             (FOR, p @ 0..=1023) => self.body(place, p % 32, p / 32, below)?,
+            (CALL, p) => self.call(place, p as usize),
             _ => return Err(refusal(5, place)),
         };
         self.done(place, modified)
@@ -169,6 +200,15 @@ impl Reader<'_> {
             self.bad_for = self.bad_for.min(place);
         }
         Ok(modified | 1 << q)
+    }
+
+    /// Refusal 16 is kept for later; a call that may not be is taken to modify nothing until then.
+    fn call(&mut self, place: usize, procedure: usize) -> u64 {
+        if procedure < self.callable {
+            return self.parts.identifiers[self.parts.procedures[procedure].command];
+        }
+        self.bad_call = self.bad_call.min(place);
+        0
     }
 
     fn set(&mut self, depth: u32) -> Read {

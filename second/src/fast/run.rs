@@ -33,7 +33,7 @@ pub fn run(bytes: &[u8], budget: u64, scalars: &mut [i64], values: &mut [i64], w
         return refusal(11, 0);
     };
     let mut runner = Runner { parts, scalars, values, left: budget };
-    let code = runner.command(file.command).err().unwrap_or(0);
+    let code = runner.command(file.main.command).err().unwrap_or(0);
     (budget - runner.left) << 32 | code
 }
 
@@ -87,6 +87,11 @@ impl Runner<'_> {
                     self.command(body)?;
                 }
                 Ok(())
+            }
+            CALL => {
+                self.due(at)?;
+                self.left -= 1;
+                self.command(parts.called(at).command)
             }
             _ => self.run_for(at, parts.payload(at) as usize),
         }

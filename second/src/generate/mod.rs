@@ -9,6 +9,7 @@ pub mod mutate;
 pub mod nearly;
 pub mod parts;
 pub mod prng;
+pub mod procedures;
 pub mod prove;
 pub mod run_cases;
 
@@ -19,7 +20,7 @@ use self::nearly::nearly;
 use self::parts::Pool;
 use self::prng::Prng;
 use crate::layout::words::{bytes_of, take_apart, words_of, MOST_BYTES};
-use crate::layout::write::file_words;
+use crate::layout::write::file_words_with;
 use crate::naive::judge::{check, Answer};
 
 /// An accepted file, made backwards. Tries until one fits the layout's
@@ -49,23 +50,38 @@ pub fn near_miss(rng: &mut Prng) -> Vec<u8> {
     }
 }
 
+/// One file in three has procedures.
 fn backwards(rng: &mut Prng, slips: usize) -> Option<Vec<u8>> {
-    let pool = Pool::new(rng);
+    let mut pool = Pool::new(rng);
+    let mut left = slips;
+    let procedures = if rng.once_in(3) { procedures::table(rng, &mut pool, &mut left)? } else { Vec::new() };
     let size = rng.below(5);
     let command = parts::random_command(rng, &pool, size, &[]);
-    let post = parts::set(rng, &pool);
-    let mut maker = Maker { rng, pool, fuel: 400, slips };
+    let post = match procedures.last() {
+        Some(last) if rng.once_in(4) => last.post.clone(),
+        _ => parts::set(rng, &pool),
+    };
+    let mut maker = Maker { rng, pool, procedures: &procedures, fuel: 400, slips: left };
     let (pre, evidence) = maker.flow(&command, &post, 3)?;
     if slips > 0 && maker.slips == slips {
         return None;
     }
-    let words = file_words(&command, &pre, &post, &evidence);
+    let words = file_words_with(&procedures, &command, &pre, &post, &evidence);
     (words.len() * 4 <= MOST_BYTES).then(|| bytes_of(&words))
 }
 
-/// How often each rule occurs in a file that can be read: `[kind − 33][rule]`.
-/// Kinds 33 to 35 stand nowhere but in evidence.
-pub fn count_rules(bytes: &[u8], counts: &mut [[u64; 31]; 3]) {
+/// The rules of kinds 33 to 35.
+pub const RULES: [(&str, &[usize]); 3] = [
+    ("flow", &[1, 2, 3, 4, 5, 6, 7, 8, 9, 10, 11, 12, 13, 14, 31]),
+    ("set", &[13, 14, 15, 16, 17, 18, 19]),
+    ("precondition", &[20, 21, 22, 23, 24, 25, 26, 27, 28, 29, 30, 32]),
+];
+
+/// How often each rule occurs in files: `[kind − 33][rule]`.
+pub type RuleCounts = [[u64; 33]; 3];
+
+/// Counts the rules of a file that can be read. Kinds 33 to 35 stand nowhere but in evidence.
+pub fn count_rules(bytes: &[u8], counts: &mut RuleCounts) {
     for (place, word) in words_of(bytes).unwrap_or_default().into_iter().enumerate() {
         let word = take_apart(place, word);
         if (33..=35).contains(&word.kind) {

@@ -3,11 +3,12 @@
 //! command, seldom the sets.
 
 use super::mutate::{any_word, mend};
-use super::parts::{self, Pool};
+use super::parts::{self, Callable, Pool};
 use super::prng::Prng;
 use crate::layout::syntax::*;
 use crate::layout::words::{bytes_of, pack};
 use crate::layout::write;
+use crate::naive::modified::Identifiers;
 
 struct Writer<'a> {
     rng: &'a mut Prng,
@@ -15,6 +16,8 @@ struct Writer<'a> {
     /// A few members that come again and again, so that sets meet.
     members: Vec<Member>,
     booleans: Vec<Bool>,
+    /// The bodies of the procedures so far.
+    bodies: Vec<Command>,
     words: Vec<u32>,
     fuel: usize,
 }
@@ -23,14 +26,12 @@ pub fn nearly(rng: &mut Prng) -> Vec<u8> {
     let pool = Pool::new(rng);
     let members = (0..1 + rng.below(3)).map(|_| parts::member(rng, &pool)).collect();
     let booleans = (0..1 + rng.below(2)).map(|_| parts::boolean(rng, &pool, 1)).collect();
-    let size = rng.below(3);
-    let command = parts::random_command(rng, &pool, size, &[]);
     let wrong = rng.once_in(3);
-    let mut w = Writer { rng, pool, members, booleans, words: vec![0], fuel: 30 };
-    write::command(&command, &mut w.words);
-    w.set();
-    w.set();
-    w.flow(&command);
+    let mut w = Writer { rng, pool, members, booleans, bodies: Vec::new(), words: vec![0], fuel: 30 };
+    if w.rng.once_in(3) {
+        w.table();
+    }
+    w.four();
     let mut words = w.words;
     if wrong {
         let at = 1 + rng.below(words.len() - 1);
@@ -47,6 +48,32 @@ pub fn nearly(rng: &mut Prng) -> Vec<u8> {
 }
 
 impl Writer<'_> {
+    /// One to four procedures. Now and then the one that is written may be called too, or one that is in no table.
+    fn table(&mut self) {
+        let count = 1 + self.rng.below(4) as u32;
+        self.words.push(pack(62, count));
+        for i in 0..count {
+            if self.rng.once_in(12) {
+                let number = i + self.rng.below(3) as u32;
+                self.pool.callable.push(Callable { number, modified: Identifiers::none() });
+            }
+            let body = self.four();
+            self.pool.callable.push(Callable { number: i, modified: Identifiers::none() });
+            self.bodies.push(body);
+        }
+    }
+
+    /// A command, two sets and evidence; the command is handed back.
+    fn four(&mut self) -> Command {
+        let size = self.rng.below(3);
+        let command = parts::random_command(self.rng, &self.pool, size, &[]);
+        write::command(&command, &mut self.words);
+        self.set();
+        self.set();
+        self.flow(&command);
+        command
+    }
+
     fn set(&mut self) {
         let mut set = Set::new();
         for _ in 0..self.rng.below(3) {
@@ -70,13 +97,12 @@ impl Writer<'_> {
         self.fuel > 0
     }
 
-    /// The rule for the command, one of those for any command, or any one (each a first rule and how many); the last when
-    /// nothing is left to spend.
-    fn rule(&mut self, by_command: u32, free: (u32, usize), any: (u32, usize), last: u32) -> u32 {
+    /// The rule for the command, one of those for any command, or any one; the last when nothing is left to spend.
+    fn rule(&mut self, by_command: u32, free: &[u32], any: &[u32], last: u32) -> u32 {
         let rule = match self.rng.below(10) {
             0..=4 => by_command,
-            5..=7 => free.0 + self.rng.below(free.1) as u32,
-            _ => any.0 + self.rng.below(any.1) as u32,
+            5..=7 => *self.rng.pick(free),
+            _ => *self.rng.pick(any),
         };
         if self.spend() {
             rule
@@ -86,7 +112,7 @@ impl Writer<'_> {
     }
 
     fn flow(&mut self, c: &Command) {
-        let rule = self.rule(flow_rule_of(c), (7, 6), (1, 14), 10);
+        let rule = self.rule(flow_rule_of(c), &[7, 8, 9, 10, 11, 12], &FLOW_RULES, 10);
         self.words.push(pack(33, rule));
         let (first, second) = parts_of(c);
         match rule {
@@ -147,6 +173,14 @@ impl Writer<'_> {
         d
     }
 
+    /// The body that a call runs, or skip where there is none.
+    fn body_of(&self, c: &Command) -> Command {
+        match &c.form {
+            Form::Call(p) => self.bodies.get(*p as usize).cloned().unwrap_or(skip()),
+            _ => skip(),
+        }
+    }
+
     fn implication(&mut self) {
         let mut rule = 13 + self.rng.below(7) as u32;
         if !self.spend() {
@@ -166,7 +200,7 @@ impl Writer<'_> {
     }
 
     fn before(&mut self, c: &Command) {
-        let rule = self.rule(before_rule_of(c), (27, 3), (20, 11), 27);
+        let rule = self.rule(before_rule_of(c), &[27, 28, 29], &PRECONDITION_RULES, 27);
         self.words.push(pack(35, rule));
         let (first, second) = parts_of(c);
         match rule {
@@ -193,10 +227,17 @@ impl Writer<'_> {
                 let d = self.carried(c);
                 self.before(&d);
             }
+            32 => {
+                let body = self.body_of(c);
+                self.before(&body);
+            }
             _ => {}
         }
     }
 }
+
+const FLOW_RULES: [u32; 15] = [1, 2, 3, 4, 5, 6, 7, 8, 9, 10, 11, 12, 13, 14, 31];
+const PRECONDITION_RULES: [u32; 12] = [20, 21, 22, 23, 24, 25, 26, 27, 28, 29, 30, 32];
 
 /// The flow rule for the command.
 fn flow_rule_of(c: &Command) -> u32 {
@@ -209,6 +250,7 @@ fn flow_rule_of(c: &Command) -> u32 {
         Form::If(..) => 6,
         Form::While(..) => 13,
         Form::For(..) => 14,
+        Form::Call(..) => 31,
     }
 }
 
@@ -223,6 +265,7 @@ fn before_rule_of(c: &Command) -> u32 {
         Form::AssignArray(..) => 25,
         Form::Assert(..) => 26,
         Form::For(..) => 30,
+        Form::Call(..) => 32,
     }
 }
 

@@ -2,12 +2,21 @@
 
 use super::prng::Prng;
 use crate::layout::syntax::*;
+use crate::naive::modified::Identifiers;
 
-/// The identifiers that one file uses: few, so that they meet often.
+/// The identifiers that one file uses: few, so that they meet often; and what commands may call.
 #[derive(Clone, Debug)]
 pub struct Pool {
     pub scalars: Vec<u32>,
     pub arrays: Vec<u32>,
+    pub callable: Vec<Callable>,
+}
+
+/// A procedure's number, and what a call of it modifies.
+#[derive(Clone, Debug)]
+pub struct Callable {
+    pub number: u32,
+    pub modified: Identifiers,
 }
 
 impl Pool {
@@ -20,7 +29,7 @@ impl Pool {
         }
         scalars.truncate(3 + rng.below(4));
         arrays.truncate(1 + rng.below(3));
-        Pool { scalars, arrays }
+        Pool { scalars, arrays, callable: Vec::new() }
     }
 }
 
@@ -145,12 +154,12 @@ pub fn set(rng: &mut Prng, pool: &Pool) -> Set {
     out
 }
 
-/// A command; the `locked` scalars are not assigned (they are q or m of a
+/// A command; the `locked` scalars are not modified (they are q or m of a
 /// `for` around it).
 pub fn random_command(rng: &mut Prng, pool: &Pool, size: usize, locked: &[u32]) -> Command {
     let free: Vec<u32> = pool.scalars.iter().copied().filter(|x| !locked.contains(x)).collect();
     if size == 0 {
-        return simple_command(rng, pool, &free);
+        return simple_command(rng, pool, locked, &free);
     }
     match rng.below(10) {
         0..=3 => {
@@ -170,7 +179,7 @@ pub fn random_command(rng: &mut Prng, pool: &Pool, size: usize, locked: &[u32]) 
             let m = *rng.pick(&bounds);
             let counters: Vec<u32> = free.iter().copied().filter(|x| *x != m).collect();
             if counters.is_empty() {
-                return simple_command(rng, pool, &free);
+                return simple_command(rng, pool, locked, &free);
             }
             let q = *rng.pick(&counters);
             let mut inner = locked.to_vec();
@@ -179,11 +188,23 @@ pub fn random_command(rng: &mut Prng, pool: &Pool, size: usize, locked: &[u32]) 
             let body = random_command(rng, pool, size - 1, &inner);
             command(Form::For(q, m, Box::new(body)))
         }
-        _ => simple_command(rng, pool, &free),
+        _ => simple_command(rng, pool, locked, &free),
     }
 }
 
-fn simple_command(rng: &mut Prng, pool: &Pool, free: &[u32]) -> Command {
+/// A call that modifies no locked scalar, if there is one.
+fn random_call(rng: &mut Prng, pool: &Pool, locked: &[u32]) -> Option<Command> {
+    let fits = |callable: &&Callable| !locked.iter().any(|x| callable.modified.has_scalar(*x));
+    let some: Vec<&Callable> = pool.callable.iter().filter(fits).collect();
+    (!some.is_empty()).then(|| call(rng.pick(&some).number))
+}
+
+fn simple_command(rng: &mut Prng, pool: &Pool, locked: &[u32], free: &[u32]) -> Command {
+    if !pool.callable.is_empty() && rng.once_in(3) {
+        if let Some(call) = random_call(rng, pool, locked) {
+            return call;
+        }
+    }
     let form = match rng.below(8) {
         0 => Form::Skip,
         1 => Form::Assert(boolean(rng, pool, 1)),

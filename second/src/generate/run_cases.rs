@@ -5,7 +5,9 @@
 use super::limits::limit;
 use super::parts::{self, Pool};
 use super::prng::Prng;
+use super::procedures::{add, without_contract};
 use crate::layout::syntax::*;
+use crate::layout::words::bytes_of;
 use crate::layout::write;
 use crate::naive::run::{ARRAY_VALUES, SCALARS};
 
@@ -35,19 +37,32 @@ fn edge_value(rng: &mut Prng) -> i64 {
     }
 }
 
+/// One or a few procedures without contracts, or sixteen; the pool then has them to call.
+fn bodies(rng: &mut Prng, pool: &mut Pool, faulty: bool) -> Vec<Procedure> {
+    let count = *rng.pick(&[1, 1, 2, 2, 3, 3, 16]);
+    let mut procedures = Vec::new();
+    for _ in 0..count {
+        let size = rng.below(3);
+        let c = if faulty { faulty_command(rng, pool, size) } else { parts::random_command(rng, pool, size, &[]) };
+        add(pool, &mut procedures, without_contract(c));
+    }
+    procedures
+}
+
 pub fn run_case(rng: &mut Prng) -> RunCase {
-    let pool = Pool::new(rng);
+    let mut pool = Pool::new(rng);
     let faulty = rng.once_in(3);
+    let procedures = if rng.once_in(2) { bodies(rng, &mut pool, faulty) } else { Vec::new() };
     let size = rng.below(4);
     let c = match rng.below(8) {
         // A `for` over skip, of known length.
         0 => command(Form::For(0, 1, Box::new(command(Form::Skip)))),
-        _ if faulty => faulty_command(rng, size),
+        _ if faulty => faulty_command(rng, &pool, size),
         _ => parts::random_command(rng, &pool, size, &[]),
     };
     let evidence = flow_of(FlowRule::F10);
-    let mut bytes = write::file_bytes(&c, &[], &[], &evidence);
-    // 1 to 7 go before 10.
+    let mut bytes = bytes_of(&write::file_words_with(&procedures, &c, &[], &[], &evidence));
+    // 1 to 7 and 16 go before 10.
     if rng.once_in(30) {
         bytes = limit(rng);
     }
@@ -112,21 +127,24 @@ fn faulty_bool(rng: &mut Prng, size: usize) -> Bool {
     }
 }
 
-fn faulty_command(rng: &mut Prng, size: usize) -> Command {
+fn faulty_command(rng: &mut Prng, pool: &Pool, size: usize) -> Command {
+    if !pool.callable.is_empty() && rng.once_in(3) {
+        return call(rng.pick(&pool.callable).number);
+    }
     let form = match rng.below(7) {
         0 => Form::Assert(faulty_bool(rng, 2)),
         1 => Form::AssignScalar(rng.below(8) as u32, faulty_arith(rng, 2)),
         2 => Form::AssignArray(rng.below(2) as u32, faulty_array(rng, 2)),
         _ if size == 0 => Form::Skip,
         3 => {
-            let then = faulty_command(rng, size - 1);
-            let otherwise = faulty_command(rng, size - 1);
+            let then = faulty_command(rng, pool, size - 1);
+            let otherwise = faulty_command(rng, pool, size - 1);
             Form::If(faulty_bool(rng, 2), Box::new(then), Box::new(otherwise))
         }
-        4 => Form::While(faulty_bool(rng, 2), Box::new(faulty_command(rng, size - 1))),
+        4 => Form::While(faulty_bool(rng, 2), Box::new(faulty_command(rng, pool, size - 1))),
         _ => {
-            let first = faulty_command(rng, size - 1);
-            let second = faulty_command(rng, size - 1);
+            let first = faulty_command(rng, pool, size - 1);
+            let second = faulty_command(rng, pool, size - 1);
             Form::Sequence(Box::new(first), Box::new(second))
         }
     };

@@ -1,4 +1,4 @@
-//! Layout: words and trees of document 01, and trees written as words. Nothing is read or judged here.
+//! Layout: words and trees of document 01 and of request [3] (procedures), and trees written as words. Nothing is read or judged here.
 //!
 //! Uses: nothing.
 //! For: every part but `fast`, which has its own layout.

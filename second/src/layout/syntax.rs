@@ -88,6 +88,8 @@ pub enum Form {
     While(Bool, Box<Command>),
     /// q, m, body.
     For(u32, u32, Box<Command>),
+    /// Request [3]: a call of the procedure of this number; any payload is read.
+    Call(u32),
 }
 
 /// One member: antecedent ⇒ consequent.
@@ -123,6 +125,7 @@ pub enum FlowRule {
     F12 { s: Set, s2: Set, phi: Bool, phi2: Bool, flow: Box<Flow>, before: Box<Before> },
     F13 { body: Box<Flow> },
     F14 { d: Command, flow: Box<Flow> },
+    F31,
 }
 
 /// Kind 34: implication between sets.
@@ -163,11 +166,23 @@ pub enum BeforeRule {
     B28 { phi1: Bool, inner: Box<Before> },
     B29,
     B30 { d: Command, inner: Box<Before> },
+    B32 { inner: Box<Before> },
 }
 
-/// A file that refusals 1 to 6 spare.
+/// Request [3]: a procedure of the table, its body and its contract with evidence.
+#[derive(Clone, Debug)]
+pub struct Procedure {
+    pub command: Command,
+    pub pre: Set,
+    pub post: Set,
+    pub evidence: Flow,
+}
+
+/// A file that refusals 1 to 6 spare. The command, the sets and the evidence are the main program's.
 #[derive(Clone, Debug)]
 pub struct File {
+    /// In table order: procedure p is at p. None in a file without a table.
+    pub procedures: Vec<Procedure>,
     pub command: Command,
     pub pre: Set,
     pub post: Set,
@@ -214,6 +229,10 @@ pub fn skip() -> Command {
 
 pub fn if_else(test: Bool, then: Command, otherwise: Command) -> Command {
     command(Form::If(test, Box::new(then), Box::new(otherwise)))
+}
+
+pub fn call(procedure: u32) -> Command {
+    command(Form::Call(procedure))
 }
 
 pub fn always() -> Bool {

@@ -22,6 +22,8 @@ pub struct Word {
 pub const PAYLOAD_BITS: u32 = 26;
 pub const PAYLOAD_MASK: u32 = (1 << PAYLOAD_BITS) - 1;
 pub const MOST_BYTES: usize = 32_768;
+/// The most procedures of a file (request [3]).
+pub const MOST_PROCEDURES: u32 = 16;
 
 /// k:p of the document as one number.
 pub fn pack(kind: u32, payload: u32) -> u32 {

@@ -101,6 +101,7 @@ pub fn command(c: &Command, out: &mut Vec<u32>) {
             out.push(pack(31, q + 32 * m));
             command(body, out);
         }
+        Form::Call(p) => out.push(pack(38, *p)),
     }
 }
 
@@ -115,7 +116,7 @@ pub fn set(s: &[Member], out: &mut Vec<u32>) {
 pub fn flow(f: &Flow, out: &mut Vec<u32>) {
     out.push(pack(33, flow_number(&f.rule)));
     match &f.rule {
-        FlowRule::F1 | FlowRule::F3 | FlowRule::F4 | FlowRule::F5 | FlowRule::F10 => {}
+        FlowRule::F1 | FlowRule::F3 | FlowRule::F4 | FlowRule::F5 | FlowRule::F10 | FlowRule::F31 => {}
         FlowRule::F2 { m, first, second } => {
             set(m, out);
             flow(first, out);
@@ -212,6 +213,7 @@ pub fn before(b: &Before, out: &mut Vec<u32>) {
             command(d, out);
             before(inner, out);
         }
+        BeforeRule::B32 { inner } => before(inner, out),
         _ => {}
     }
 }
@@ -232,6 +234,7 @@ pub fn flow_number(rule: &FlowRule) -> u32 {
         FlowRule::F12 { .. } => 12,
         FlowRule::F13 { .. } => 13,
         FlowRule::F14 { .. } => 14,
+        FlowRule::F31 => 31,
     }
 }
 
@@ -260,18 +263,35 @@ pub fn before_number(rule: &BeforeRule) -> u32 {
         BeforeRule::B28 { .. } => 28,
         BeforeRule::B29 => 29,
         BeforeRule::B30 { .. } => 30,
+        BeforeRule::B32 { .. } => 32,
     }
 }
 
-/// A whole file: 63:n, command, precondition, postcondition, evidence.
+/// A whole file without procedures: 63:n, command, precondition, postcondition, evidence.
 pub fn file_words(c: &Command, pre: &[Member], post: &[Member], evidence: &Flow) -> Vec<u32> {
+    file_words_with(&[], c, pre, post, evidence)
+}
+
+/// A whole file with these procedures, if there are some: 62:k and theirs before the main program's command.
+pub fn file_words_with(procedures: &[Procedure], c: &Command, pre: &[Member], post: &[Member], evidence: &Flow) -> Vec<u32> {
     let mut words = vec![0];
-    command(c, &mut words);
-    set(pre, &mut words);
-    set(post, &mut words);
-    flow(evidence, &mut words);
+    if !procedures.is_empty() {
+        words.push(pack(62, procedures.len() as u32));
+    }
+    for procedure in procedures {
+        four_parts(&procedure.command, &procedure.pre, &procedure.post, &procedure.evidence, &mut words);
+    }
+    four_parts(c, pre, post, evidence, &mut words);
     words[0] = pack(63, words.len() as u32);
     words
+}
+
+/// What a procedure and the main program each have.
+fn four_parts(c: &Command, pre: &[Member], post: &[Member], evidence: &Flow, out: &mut Vec<u32>) {
+    command(c, out);
+    set(pre, out);
+    set(post, out);
+    flow(evidence, out);
 }
 
 pub fn file_bytes(c: &Command, pre: &[Member], post: &[Member], evidence: &Flow) -> Vec<u8> {

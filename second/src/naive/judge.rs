@@ -1,6 +1,7 @@
 //! Document 01, "Rules" and refusals 8 and 9 of "Judging order": one pass
 //! over the evidence words in file order; at a word its conditions are tried
-//! as written, then its children follow.
+//! as written, then its children follow. Request [3]: the evidence of each
+//! procedure goes before that of the main program.
 
 use super::implies::{implies, Verdict};
 use super::modified::{modified_by, of_bool, of_expression, of_set};
@@ -53,10 +54,21 @@ pub fn check(bytes: &[u8]) -> Answer {
 }
 
 pub fn judge(file: &File) -> Answer {
-    match flow(&file.pre, &file.command, &file.post, &file.evidence) {
+    match judge_all(file) {
         Err(refusal) => Answer::Refused(refusal),
         Ok(count) => Answer::Accepted(count),
     }
+}
+
+/// The evidence of each procedure in table order, then that of the main program.
+fn judge_all(file: &File) -> Judged {
+    let judge = Judge { procedures: &file.procedures };
+    let mut count = 0;
+    for procedure in &file.procedures {
+        count += judge.flow(&procedure.pre, &procedure.command, &procedure.post, &procedure.evidence)?;
+    }
+    count += judge.flow(&file.pre, &file.command, &file.post, &file.evidence)?;
+    Ok(count)
 }
 
 /// The precondition as that part of the caller's own bytes; empty if refused.
@@ -101,107 +113,188 @@ fn one(set: &Set, place: usize) -> Result<&Member, Refusal> {
     Ok(&set[0])
 }
 
-/// Goal (P, C, Q): rules 1 to 14 of flow.
-pub fn flow(p: &Set, c: &Command, q: &Set, evidence: &Flow) -> Judged {
-    let place = evidence.place;
-    match &evidence.rule {
-        FlowRule::F7 { m, set, flow: inner } => {
-            let a = implication(p, m, set)?;
-            let b = flow(m, c, q, inner)?;
-            Ok(1 + a + b)
-        }
-        FlowRule::F8 { m, flow: inner, set } => {
-            let a = flow(p, c, m, inner)?;
-            let b = implication(m, q, set)?;
-            Ok(1 + a + b)
-        }
-        FlowRule::F9 { s, s2, t, t2, first, second } => {
-            need(same(p, &union(s, t)), place)?;
-            need(same(q, &union(s2, t2)), place)?;
-            let a = flow(s, c, s2, first)?;
-            let b = flow(t, c, t2, second)?;
-            Ok(1 + a + b)
-        }
-        FlowRule::F10 => {
-            need(same(p, q), place)?;
-            need(!of_set(q).meets(&modified_by(c)), place)?;
-            Ok(1)
-        }
-        FlowRule::F11 { before } => {
-            let p = one(p, place)?;
-            let q = one(q, place)?;
-            need(p.e == q.e, place)?;
-            need(!of_expression(&q.e).meets(&modified_by(c)), place)?;
-            let a = necessary(&p.phi, c, &q.phi, before)?;
-            Ok(1 + a)
-        }
-        FlowRule::F12 { s, s2, phi, phi2, flow: inner, before } => {
-            need(same(p, &under(s, phi)), place)?;
-            need(same(q, &under(s2, phi2)), place)?;
-            let a = flow(s, c, s2, inner)?;
-            let b = necessary(phi, c, phi2, before)?;
-            Ok(1 + a + b)
-        }
-        _ => flow_by_command(p, c, q, evidence),
-    }
+/// The judge of one file: its procedures are what calls mean.
+struct Judge<'a> {
+    procedures: &'a [Procedure],
 }
 
-/// The rules that are for one command each: 1 to 6, 13 and 14.
-fn flow_by_command(p: &Set, c: &Command, q: &Set, evidence: &Flow) -> Judged {
-    let place = evidence.place;
-    match (&evidence.rule, &c.form) {
-        (FlowRule::F1, Form::Skip) => {
-            need(same(p, q), place)?;
-            Ok(1)
+impl Judge<'_> {
+    /// Goal (P, C, Q): rules 1 to 14 and 31 of flow.
+    fn flow(&self, p: &Set, c: &Command, q: &Set, evidence: &Flow) -> Judged {
+        let place = evidence.place;
+        match &evidence.rule {
+            FlowRule::F7 { m, set, flow: inner } => {
+                let a = implication(p, m, set)?;
+                let b = self.flow(m, c, q, inner)?;
+                Ok(1 + a + b)
+            }
+            FlowRule::F8 { m, flow: inner, set } => {
+                let a = self.flow(p, c, m, inner)?;
+                let b = implication(m, q, set)?;
+                Ok(1 + a + b)
+            }
+            FlowRule::F9 { s, s2, t, t2, first, second } => {
+                need(same(p, &union(s, t)), place)?;
+                need(same(q, &union(s2, t2)), place)?;
+                let a = self.flow(s, c, s2, first)?;
+                let b = self.flow(t, c, t2, second)?;
+                Ok(1 + a + b)
+            }
+            FlowRule::F10 => {
+                need(same(p, q), place)?;
+                need(!of_set(q).meets(&modified_by(c, self.procedures)), place)?;
+                Ok(1)
+            }
+            FlowRule::F11 { before } => {
+                let p = one(p, place)?;
+                let q = one(q, place)?;
+                need(p.e == q.e, place)?;
+                need(!of_expression(&q.e).meets(&modified_by(c, self.procedures)), place)?;
+                let a = self.necessary(&p.phi, c, &q.phi, before)?;
+                Ok(1 + a)
+            }
+            FlowRule::F12 { s, s2, phi, phi2, flow: inner, before } => {
+                need(same(p, &under(s, phi)), place)?;
+                need(same(q, &under(s2, phi2)), place)?;
+                let a = self.flow(s, c, s2, inner)?;
+                let b = self.necessary(phi, c, phi2, before)?;
+                Ok(1 + a + b)
+            }
+            _ => self.flow_by_command(p, c, q, evidence),
         }
-        (FlowRule::F2 { m, first, second }, Form::Sequence(c1, c2)) => {
-            let a = flow(p, c1, m, first)?;
-            let b = flow(m, c2, q, second)?;
-            Ok(1 + a + b)
+    }
+
+    /// The rules that are for one command each: 1 to 6, 13, 14 and 31.
+    fn flow_by_command(&self, p: &Set, c: &Command, q: &Set, evidence: &Flow) -> Judged {
+        let place = evidence.place;
+        match (&evidence.rule, &c.form) {
+            (FlowRule::F1, Form::Skip) => {
+                need(same(p, q), place)?;
+                Ok(1)
+            }
+            (FlowRule::F2 { m, first, second }, Form::Sequence(c1, c2)) => {
+                let a = self.flow(p, c1, m, first)?;
+                let b = self.flow(m, c2, q, second)?;
+                Ok(1 + a + b)
+            }
+            (FlowRule::F3, Form::AssignScalar(x, right)) => {
+                let replaced = replace::in_set(q, Replacement::Scalar(*x, right));
+                need(same(p, &replaced), place)?;
+                Ok(1)
+            }
+            (FlowRule::F4, Form::AssignArray(h, right)) => {
+                let replaced = replace::in_set(q, Replacement::Array(*h, right));
+                need(same(p, &replaced), place)?;
+                Ok(1)
+            }
+            (FlowRule::F5, Form::Assert(b)) => {
+                need(same(p, &under(q, b)), place)?;
+                Ok(1)
+            }
+            (FlowRule::F6 { s, t, phi0, then, otherwise, before }, Form::If(b, c1, c2)) => {
+                let phi = &one(q, place)?.phi;
+                let test = Member { phi: phi0.clone(), e: Expression::Bool(b.clone()) };
+                let both = union(&under(s, b), &under(t, &not(b.clone())));
+                need(same(p, &union(&both, &[test])), place)?;
+                let x = self.flow(s, c1, q, then)?;
+                let y = self.flow(t, c2, q, otherwise)?;
+                let z = self.necessary(phi0, c, phi, before)?;
+                Ok(1 + x + y + z)
+            }
+            (FlowRule::F13 { body }, Form::While(b, c1)) => {
+                need(same(p, q), place)?;
+                let test = Member { phi: Bool::Truth(true), e: Expression::Bool(b.clone()) };
+                need(stands_in(&test, p), place)?;
+                let a = self.flow(p, c1, q, body)?;
+                Ok(1 + a)
+            }
+            (FlowRule::F14 { d, flow: inner }, Form::For(x, m, body)) => {
+                need(*d == meaning_of_for(*x, *m, body), place)?;
+                let a = self.flow(p, d, q, inner)?;
+                Ok(1 + a)
+            }
+            // "C calls p, P is the same as its precondition, Q as its postcondition."
+            (FlowRule::F31, Form::Call(number)) => {
+                let procedure = &self.procedures[*number as usize];
+                need(same(p, &procedure.pre), place)?;
+                need(same(q, &procedure.post), place)?;
+                Ok(1)
+            }
+            // The rule is for another command.
+            _ => refuse(8, place),
         }
-        (FlowRule::F3, Form::AssignScalar(x, right)) => {
-            let replaced = replace::in_set(q, Replacement::Scalar(*x, right));
-            need(same(p, &replaced), place)?;
-            Ok(1)
+    }
+
+    /// Goal (φ, C, φ'): rules 20 to 30 and 32 of necessary precondition.
+    fn necessary(&self, phi: &Bool, c: &Command, phi2: &Bool, evidence: &Before) -> Judged {
+        let place = evidence.place;
+        match (&evidence.rule, &c.form) {
+            (BeforeRule::B20 { phi1: left, phi2: right, then, otherwise }, Form::If(b, c1, c2)) => {
+                let made = or(and(left.clone(), b.clone()), and(right.clone(), not(b.clone())));
+                need(*phi == made, place)?;
+                let x = self.necessary(left, c1, phi2, then)?;
+                let y = self.necessary(right, c2, phi2, otherwise)?;
+                Ok(1 + x + y)
+            }
+            (BeforeRule::B21 { phi0, body }, Form::While(b, c1)) => {
+                need_implies(&and(phi0.clone(), b.clone()), phi, place)?;
+                need_implies(&and(phi2.clone(), not(b.clone())), phi, place)?;
+                let x = self.necessary(phi0, c1, phi, body)?;
+                Ok(1 + x)
+            }
+            (BeforeRule::B22, Form::Skip) => {
+                need(phi == phi2, place)?;
+                Ok(1)
+            }
+            (BeforeRule::B23 { phi1, first, second }, Form::Sequence(c1, c2)) => {
+                let x = self.necessary(phi, c1, phi1, first)?;
+                let y = self.necessary(phi1, c2, phi2, second)?;
+                Ok(1 + x + y)
+            }
+            (BeforeRule::B24, Form::AssignScalar(x, right)) => {
+                need(*phi == replace::in_bool(phi2, Replacement::Scalar(*x, right)), place)?;
+                Ok(1)
+            }
+            (BeforeRule::B25, Form::AssignArray(h, right)) => {
+                need(*phi == replace::in_bool(phi2, Replacement::Array(*h, right)), place)?;
+                Ok(1)
+            }
+            (BeforeRule::B26, Form::Assert(b)) => {
+                need(*phi == and(phi2.clone(), b.clone()), place)?;
+                Ok(1)
+            }
+            (BeforeRule::B27, _) => {
+                need(phi == phi2, place)?;
+                need(!of_bool(phi2).meets(&modified_by(c, self.procedures)), place)?;
+                Ok(1)
+            }
+            (BeforeRule::B28 { phi1, inner }, _) => {
+                need_implies(phi1, phi, place)?;
+                let x = self.necessary(phi1, c, phi2, inner)?;
+                Ok(1 + x)
+            }
+            (BeforeRule::B29, _) => {
+                need(*phi == Bool::Truth(true), place)?;
+                Ok(1)
+            }
+            (BeforeRule::B30 { d, inner }, Form::For(x, m, body)) => {
+                need(*d == meaning_of_for(*x, *m, body), place)?;
+                let x = self.necessary(phi, d, phi2, inner)?;
+                Ok(1 + x)
+            }
+            // "The one child is (φ, body, φ')."
+            (BeforeRule::B32 { inner }, Form::Call(number)) => {
+                let x = self.necessary(phi, &self.procedures[*number as usize].command, phi2, inner)?;
+                Ok(1 + x)
+            }
+            // The rule is for another command.
+            _ => refuse(8, place),
         }
-        (FlowRule::F4, Form::AssignArray(h, right)) => {
-            let replaced = replace::in_set(q, Replacement::Array(*h, right));
-            need(same(p, &replaced), place)?;
-            Ok(1)
-        }
-        (FlowRule::F5, Form::Assert(b)) => {
-            need(same(p, &under(q, b)), place)?;
-            Ok(1)
-        }
-        (FlowRule::F6 { s, t, phi0, then, otherwise, before }, Form::If(b, c1, c2)) => {
-            let phi = &one(q, place)?.phi;
-            let test = Member { phi: phi0.clone(), e: Expression::Bool(b.clone()) };
-            let both = union(&under(s, b), &under(t, &not(b.clone())));
-            need(same(p, &union(&both, &[test])), place)?;
-            let x = flow(s, c1, q, then)?;
-            let y = flow(t, c2, q, otherwise)?;
-            let z = necessary(phi0, c, phi, before)?;
-            Ok(1 + x + y + z)
-        }
-        (FlowRule::F13 { body }, Form::While(b, c1)) => {
-            need(same(p, q), place)?;
-            let test = Member { phi: Bool::Truth(true), e: Expression::Bool(b.clone()) };
-            need(stands_in(&test, p), place)?;
-            let a = flow(p, c1, q, body)?;
-            Ok(1 + a)
-        }
-        (FlowRule::F14 { d, flow: inner }, Form::For(x, m, body)) => {
-            need(*d == meaning_of_for(*x, *m, body), place)?;
-            let a = flow(p, d, q, inner)?;
-            Ok(1 + a)
-        }
-        // The rule is for another command.
-        _ => refuse(8, place),
     }
 }
 
 /// Goal (P, Q): rules 13 to 19 of implication between sets.
-pub fn implication(p: &Set, q: &Set, evidence: &Implication) -> Judged {
+fn implication(p: &Set, q: &Set, evidence: &Implication) -> Judged {
     let place = evidence.place;
     match &evidence.rule {
         ImplicationRule::S13 => {
@@ -270,67 +363,5 @@ pub fn operands_of(e: &Expression) -> Vec<Expression> {
         }
         Expression::Bool(Bool::Not(a)) => vec![Expression::Bool((**a).clone())],
         _ => Vec::new(),
-    }
-}
-
-/// Goal (φ, C, φ'): rules 20 to 30 of necessary precondition.
-pub fn necessary(phi: &Bool, c: &Command, phi2: &Bool, evidence: &Before) -> Judged {
-    let place = evidence.place;
-    match (&evidence.rule, &c.form) {
-        (BeforeRule::B20 { phi1: left, phi2: right, then, otherwise }, Form::If(b, c1, c2)) => {
-            let made = or(and(left.clone(), b.clone()), and(right.clone(), not(b.clone())));
-            need(*phi == made, place)?;
-            let x = necessary(left, c1, phi2, then)?;
-            let y = necessary(right, c2, phi2, otherwise)?;
-            Ok(1 + x + y)
-        }
-        (BeforeRule::B21 { phi0, body }, Form::While(b, c1)) => {
-            need_implies(&and(phi0.clone(), b.clone()), phi, place)?;
-            need_implies(&and(phi2.clone(), not(b.clone())), phi, place)?;
-            let x = necessary(phi0, c1, phi, body)?;
-            Ok(1 + x)
-        }
-        (BeforeRule::B22, Form::Skip) => {
-            need(phi == phi2, place)?;
-            Ok(1)
-        }
-        (BeforeRule::B23 { phi1, first, second }, Form::Sequence(c1, c2)) => {
-            let x = necessary(phi, c1, phi1, first)?;
-            let y = necessary(phi1, c2, phi2, second)?;
-            Ok(1 + x + y)
-        }
-        (BeforeRule::B24, Form::AssignScalar(x, right)) => {
-            need(*phi == replace::in_bool(phi2, Replacement::Scalar(*x, right)), place)?;
-            Ok(1)
-        }
-        (BeforeRule::B25, Form::AssignArray(h, right)) => {
-            need(*phi == replace::in_bool(phi2, Replacement::Array(*h, right)), place)?;
-            Ok(1)
-        }
-        (BeforeRule::B26, Form::Assert(b)) => {
-            need(*phi == and(phi2.clone(), b.clone()), place)?;
-            Ok(1)
-        }
-        (BeforeRule::B27, _) => {
-            need(phi == phi2, place)?;
-            need(!of_bool(phi2).meets(&modified_by(c)), place)?;
-            Ok(1)
-        }
-        (BeforeRule::B28 { phi1, inner }, _) => {
-            need_implies(phi1, phi, place)?;
-            let x = necessary(phi1, c, phi2, inner)?;
-            Ok(1 + x)
-        }
-        (BeforeRule::B29, _) => {
-            need(*phi == Bool::Truth(true), place)?;
-            Ok(1)
-        }
-        (BeforeRule::B30 { d, inner }, Form::For(x, m, body)) => {
-            need(*d == meaning_of_for(*x, *m, body), place)?;
-            let x = necessary(phi, d, phi2, inner)?;
-            Ok(1 + x)
-        }
-        // The rule is for another command.
-        _ => refuse(8, place),
     }
 }

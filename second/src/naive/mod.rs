@@ -1,10 +1,11 @@
-//! Naive: the second implementation, of the check and of the runner, over trees, each sentence of document 01 as it stands.
-//! It was written from document 01 alone and shares no code with the proved crates nor with `fast`.
+//! Naive: the second implementation, of the check and of the runner, over trees, each sentence of document 01 and of request [3]
+//! (procedures) as it stands. It was written from these alone and shares no code with the proved crates nor with `fast`.
 //!
 //! Uses: layout.
 //! For: what the proved code and `fast` are compared with; the generator, the viewers and the examples stand on it.
 
-// Refusals 1 to 7.
+// Refusals 1 to 7, and 16.
+mod commands;
 pub mod read;
 
 // The judge, refusals 8 and 9.

@@ -1,6 +1,7 @@
 //! Document 01, "Language": "A command modifies the scalars and arrays it
 //! assigns, an array even if at one place; a `for` also modifies q."
-//! And the identifiers that stand in an expression.
+//! Request [3]: "A call modifies what its body modifies." And the
+//! identifiers that stand in an expression.
 
 use crate::layout::syntax::*;
 
@@ -31,6 +32,13 @@ impl Identifiers {
         self.arrays[h as usize]
     }
 
+    pub fn add_all(&mut self, other: &Identifiers) {
+        for i in 0..32 {
+            self.scalars[i] |= other.scalars[i];
+            self.arrays[i] |= other.arrays[i];
+        }
+    }
+
     pub fn is_empty(&self) -> bool {
         *self == Identifiers::none()
     }
@@ -48,25 +56,56 @@ impl Identifiers {
     }
 }
 
-pub fn modified_by(command: &Command) -> Identifiers {
+/// What a command modifies: itself, or in a body that it reaches through any number of calls.
+pub fn modified_by(command: &Command, procedures: &[Procedure]) -> Identifiers {
     let mut found = Identifiers::none();
-    add_modified(command, &mut found);
+    for part in reached(command, procedures) {
+        add_assigned(part, &mut found);
+    }
     found
 }
 
-fn add_modified(command: &Command, found: &mut Identifiers) {
+/// The command and the bodies that it reaches through calls, each once.
+fn reached<'a>(command: &'a Command, procedures: &'a [Procedure]) -> Vec<&'a Command> {
+    let mut all = vec![command];
+    let mut called = vec![false; procedures.len()];
+    let mut next = 0;
+    while next < all.len() {
+        for p in calls_in(all[next]) {
+            if !called[p as usize] {
+                called[p as usize] = true;
+                all.push(&procedures[p as usize].command);
+            }
+        }
+        next += 1;
+    }
+    all
+}
+
+/// The procedures that a command calls itself.
+pub fn calls_in(command: &Command) -> Vec<u32> {
     match &command.form {
-        Form::Skip | Form::Assert(_) => {}
+        Form::Skip | Form::Assert(_) | Form::AssignScalar(..) | Form::AssignArray(..) => Vec::new(),
+        Form::Sequence(a, b) | Form::If(_, a, b) => [calls_in(a), calls_in(b)].concat(),
+        Form::While(_, body) | Form::For(_, _, body) => calls_in(body),
+        Form::Call(p) => vec![*p],
+    }
+}
+
+/// What a command assigns itself.
+fn add_assigned(command: &Command, found: &mut Identifiers) {
+    match &command.form {
+        Form::Skip | Form::Assert(_) | Form::Call(_) => {}
         Form::AssignScalar(x, _) => found.add_scalar(*x),
         Form::AssignArray(h, _) => found.add_array(*h),
         Form::Sequence(a, b) | Form::If(_, a, b) => {
-            add_modified(a, found);
-            add_modified(b, found);
+            add_assigned(a, found);
+            add_assigned(b, found);
         }
-        Form::While(_, body) => add_modified(body, found),
+        Form::While(_, body) => add_assigned(body, found),
         Form::For(q, _, body) => {
             found.add_scalar(*q);
-            add_modified(body, found);
+            add_assigned(body, found);
         }
     }
 }
@@ -146,10 +185,18 @@ pub fn of_set(set: &[Member]) -> Identifiers {
     found
 }
 
-/// Every identifier that a command reads or assigns.
-pub fn in_command(command: &Command, found: &mut Identifiers) {
+/// Every identifier that a command reads or assigns, itself or in a body that it reaches.
+pub fn used_by(command: &Command, procedures: &[Procedure]) -> Identifiers {
+    let mut found = Identifiers::none();
+    for part in reached(command, procedures) {
+        in_command(part, &mut found);
+    }
+    found
+}
+
+fn in_command(command: &Command, found: &mut Identifiers) {
     match &command.form {
-        Form::Skip => {}
+        Form::Skip | Form::Call(_) => {}
         Form::Assert(b) => in_bool(b, found),
         Form::AssignScalar(x, a) => {
             found.add_scalar(*x);

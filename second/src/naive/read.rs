@@ -1,7 +1,7 @@
-//! Bytes to words to trees: refusals 1 to 7 of document 01, "Judging order".
+//! Bytes to words to trees: refusals 1 to 7 of document 01, "Judging order", and 16 of request [3], between 6 and 7.
 //! "Walking, 3 to 5 go word by word, in that order at a word."
 
-use super::modified::modified_by;
+use super::commands::check_commands;
 use crate::layout::syntax::*;
 use crate::layout::words::*;
 
@@ -142,6 +142,7 @@ impl Reader<'_> {
                 Form::While(test, Box::new(body))
             }
             (31, p) if p < 32 * 32 => Form::For(p % 32, p / 32, Box::new(self.command(depth + 1)?)),
+            (38, p) => Form::Call(p),
             _ => return not_allowed(word),
         };
         Ok(Command { place: word.place, form })
@@ -201,6 +202,7 @@ impl Reader<'_> {
                 let flow = Box::new(self.flow(below)?);
                 FlowRule::F14 { d, flow }
             }
+            31 => FlowRule::F31,
             _ => return not_allowed(word),
         };
         Ok(Flow { place: word.place, rule })
@@ -311,110 +313,67 @@ impl Reader<'_> {
                 let inner = Box::new(self.before(below)?);
                 BeforeRule::B30 { d, inner }
             }
+            32 => BeforeRule::B32 { inner: Box::new(self.before(below)?) },
             _ => return not_allowed(word),
         };
         Ok(Before { place: word.place, rule })
     }
 }
 
-/// Refusals 1 to 7.
+/// The outermost parts.
+impl Reader<'_> {
+    /// The table of procedures, if word 1 is 62:k, k from 1 to 16. Any other 62 is no command, and so refused as 5.
+    fn procedures(&mut self) -> Read<Vec<Procedure>> {
+        let mut procedures = Vec::new();
+        for _ in 0..self.procedure_count() {
+            procedures.push(self.procedure()?);
+        }
+        Ok(procedures)
+    }
+
+    fn procedure_count(&mut self) -> u32 {
+        let Some(word) = self.words.get(self.at) else { return 0 };
+        let word = take_apart(self.at, *word);
+        if word.kind != 62 || word.payload == 0 || word.payload > MOST_PROCEDURES {
+            return 0;
+        }
+        self.at += 1;
+        word.payload
+    }
+
+    fn procedure(&mut self) -> Read<Procedure> {
+        let command = self.command(1)?;
+        let pre = self.set(1)?;
+        let post = self.set(1)?;
+        let evidence = self.flow(1)?;
+        Ok(Procedure { command, pre, post, evidence })
+    }
+
+    /// All words but word 0: refusals 3 to 6.
+    fn file(&mut self) -> Read<File> {
+        let procedures = self.procedures()?;
+        let command = self.command(1)?;
+        let pre_start = self.at;
+        let pre = self.set(1)?;
+        let post_start = self.at;
+        let post = self.set(1)?;
+        let post_end = self.at;
+        let evidence = self.flow(1)?;
+        if self.at < self.words.len() {
+            return refuse(6, self.at);
+        }
+        let (pre_words, post_words) = ((pre_start, post_start), (post_start, post_end));
+        Ok(File { procedures, command, pre, post, evidence, pre_words, post_words })
+    }
+}
+
+/// Refusals 1 to 7, and 16 between 6 and 7.
 pub fn read(bytes: &[u8]) -> Result<File, Refusal> {
     let words = words_of(bytes)?;
-    let n = words.len();
-    if words[0] != pack(63, n as u32) {
+    if words[0] != pack(63, words.len() as u32) {
         return refuse(2, 0);
     }
-    let mut reader = Reader { words: &words, at: 1 };
-    let command = reader.command(1)?;
-    let pre_start = reader.at;
-    let pre = reader.set(1)?;
-    let post_start = reader.at;
-    let post = reader.set(1)?;
-    let post_end = reader.at;
-    let evidence = reader.flow(1)?;
-    if reader.at < n {
-        return refuse(6, reader.at);
-    }
-    check_fors(&command)?;
-    check_fors_in_flow(&evidence)?;
-    Ok(File {
-        command,
-        pre,
-        post,
-        evidence,
-        pre_words: (pre_start, post_start),
-        post_words: (post_start, post_end),
-    })
-}
-
-/// Refusal 7 in a command: the first `for` in file order whose q is m, or
-/// whose body modifies q or m.
-fn check_fors(command: &Command) -> Result<(), Refusal> {
-    match &command.form {
-        Form::Skip | Form::Assert(_) | Form::AssignScalar(..) | Form::AssignArray(..) => Ok(()),
-        Form::Sequence(a, b) | Form::If(_, a, b) => {
-            check_fors(a)?;
-            check_fors(b)
-        }
-        Form::While(_, body) => check_fors(body),
-        Form::For(q, m, body) => {
-            let modified = modified_by(body);
-            if q == m || modified.has_scalar(*q) || modified.has_scalar(*m) {
-                return refuse(7, command.place);
-            }
-            check_fors(body)
-        }
-    }
-}
-
-/// Refusal 7 in carried commands, in file order.
-fn check_fors_in_flow(flow: &Flow) -> Result<(), Refusal> {
-    match &flow.rule {
-        FlowRule::F1 | FlowRule::F3 | FlowRule::F4 | FlowRule::F5 | FlowRule::F10 => Ok(()),
-        FlowRule::F2 { first, second, .. } | FlowRule::F9 { first, second, .. } => {
-            check_fors_in_flow(first)?;
-            check_fors_in_flow(second)
-        }
-        FlowRule::F6 { then, otherwise, before, .. } => {
-            check_fors_in_flow(then)?;
-            check_fors_in_flow(otherwise)?;
-            check_fors_in_before(before)
-        }
-        FlowRule::F7 { flow, .. } | FlowRule::F8 { flow, .. } => check_fors_in_flow(flow),
-        FlowRule::F11 { before } => check_fors_in_before(before),
-        FlowRule::F12 { flow, before, .. } => {
-            check_fors_in_flow(flow)?;
-            check_fors_in_before(before)
-        }
-        FlowRule::F13 { body } => check_fors_in_flow(body),
-        FlowRule::F14 { d, flow } => {
-            check_fors(d)?;
-            check_fors_in_flow(flow)
-        }
-    }
-}
-
-fn check_fors_in_before(before: &Before) -> Result<(), Refusal> {
-    match &before.rule {
-        BeforeRule::B20 { then, otherwise, .. } => {
-            check_fors_in_before(then)?;
-            check_fors_in_before(otherwise)
-        }
-        BeforeRule::B21 { body, .. } => check_fors_in_before(body),
-        BeforeRule::B23 { first, second, .. } => {
-            check_fors_in_before(first)?;
-            check_fors_in_before(second)
-        }
-        BeforeRule::B28 { inner, .. } => check_fors_in_before(inner),
-        BeforeRule::B30 { d, inner } => {
-            check_fors(d)?;
-            check_fors_in_before(inner)
-        }
-        BeforeRule::B22
-        | BeforeRule::B24
-        | BeforeRule::B25
-        | BeforeRule::B26
-        | BeforeRule::B27
-        | BeforeRule::B29 => Ok(()),
-    }
+    let file = Reader { words: &words, at: 1 }.file()?;
+    check_commands(&file)?;
+    Ok(file)
 }

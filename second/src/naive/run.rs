@@ -1,5 +1,6 @@
 //! Document 01, "Runner": the command is run on a lent store of 64-bit
-//! values, within a budget of steps.
+//! values, within a budget of steps. Request [3]: a call is one step, before
+//! those of its body.
 
 use super::read::read;
 use crate::layout::syntax::*;
@@ -50,7 +51,7 @@ pub fn run(bytes: &[u8], budget: u64, scalars: &mut [i64], arrays: &mut [i64]) -
     if scalars.len() != SCALARS || arrays.len() != ARRAY_VALUES {
         return refused(11, 0);
     }
-    let mut runner = Runner { scalars, arrays, budget, steps: 0 };
+    let mut runner = Runner { procedures: &file.procedures, scalars, arrays, budget, steps: 0 };
     match runner.command(&file.command) {
         Ok(()) => Outcome { end: End::Ended, steps: runner.steps },
         Err(refusal) => Outcome { end: End::Refused(refusal), steps: runner.steps },
@@ -58,6 +59,7 @@ pub fn run(bytes: &[u8], budget: u64, scalars: &mut [i64], arrays: &mut [i64]) -
 }
 
 struct Runner<'a> {
+    procedures: &'a [Procedure],
     scalars: &'a mut [i64],
     arrays: &'a mut [i64],
     budget: u64,
@@ -98,6 +100,12 @@ impl Runner<'_> {
                 self.due(place)?;
                 self.steps += 1;
                 Ok(())
+            }
+            Form::Call(p) => {
+                self.due(place)?;
+                self.steps += 1;
+                let procedures = self.procedures;
+                self.command(&procedures[*p as usize].command)
             }
             Form::Sequence(a, b) => {
                 self.command(a)?;

@@ -125,8 +125,8 @@ pub enum NoEnd {
 /// Digits (of 32 bits) that a value may have before the run gives up.
 const MOST_DIGITS: usize = 64;
 
-/// Runs a command, at most `bound` assignments, asserts, skips and tests.
-pub fn run(c: &Command, s: &mut Store, bound: &mut u64) -> Result<(), NoEnd> {
+/// Runs a command, at most `bound` assignments, asserts, skips, calls and tests.
+pub fn run(c: &Command, procedures: &[Procedure], s: &mut Store, bound: &mut u64) -> Result<(), NoEnd> {
     if !matches!(c.form, Form::Sequence(..) | Form::For(..)) {
         if *bound == 0 {
             return Err(NoEnd::BoundReached);
@@ -136,8 +136,8 @@ pub fn run(c: &Command, s: &mut Store, bound: &mut u64) -> Result<(), NoEnd> {
     match &c.form {
         Form::Skip => Ok(()),
         Form::Sequence(a, b) => {
-            run(a, s, bound)?;
-            run(b, s, bound)
+            run(a, procedures, s, bound)?;
+            run(b, procedures, s, bound)
         }
         Form::Assert(b) => {
             if boolean(b, s) {
@@ -164,15 +164,15 @@ pub fn run(c: &Command, s: &mut Store, bound: &mut u64) -> Result<(), NoEnd> {
         }
         Form::If(b, then, otherwise) => {
             if boolean(b, s) {
-                run(then, s, bound)
+                run(then, procedures, s, bound)
             } else {
-                run(otherwise, s, bound)
+                run(otherwise, procedures, s, bound)
             }
         }
         // "Where it is true, the body runs, then the while again."
         Form::While(b, body) => {
             while boolean(b, s) {
-                run(body, s, bound)?;
+                run(body, procedures, s, bound)?;
                 if *bound == 0 {
                     return Err(NoEnd::BoundReached);
                 }
@@ -181,6 +181,8 @@ pub fn run(c: &Command, s: &mut Store, bound: &mut u64) -> Result<(), NoEnd> {
             Ok(())
         }
         // By its meaning.
-        Form::For(q, m, body) => run(&meaning_of_for(*q, *m, body), s, bound),
+        Form::For(q, m, body) => run(&meaning_of_for(*q, *m, body), procedures, s, bound),
+        // "Its body runs from the store at hand, and the call ends where the body ends."
+        Form::Call(p) => run(&procedures[*p as usize].command, procedures, s, bound),
     }
 }

@@ -1,6 +1,6 @@
 //! A file as text for `flowasm` that can be followed by hand: an assignment, a member or a carried assertion to a
 //! line, and above each evidence word its goal in readable notation. Evidence words are numbered as a tree: 1, its
-//! children 1.1, 1.2 and so on.
+//! children 1.1, 1.2 and so on; those of procedure 0 are 0:1, 0:1.1 and so on.
 
 use super::meaning::{flow_rule, precondition_rule, refusal_meaning, set_rule};
 use super::show::Names;
@@ -15,8 +15,14 @@ pub fn annotate(file: &File, names: &Names) -> Option<String> {
         Answer::Accepted(_) => None,
         Answer::Refused(refusal) => Some(refusal),
     };
-    let mut text = Text { names, refusal, out: String::new() };
+    let mut text = Text { names, procedures: &file.procedures, refusal, out: String::new() };
     text.line(0, "63:*", "the count of the words, worked out");
+    if !file.procedures.is_empty() {
+        text.line(0, &format!("62:{}", file.procedures.len()), "the count of the procedures");
+    }
+    for (i, procedure) in file.procedures.iter().enumerate() {
+        text.procedure(i, procedure)?;
+    }
     text.note(0, "\nThe program C");
     text.command(0, &file.command);
     text.note(0, "\nThe precondition P and the postcondition Q");
@@ -44,6 +50,7 @@ fn spelled(write: impl Fn(&mut Vec<u32>)) -> String {
 
 struct Text<'a> {
     names: &'a Names,
+    procedures: &'a [Procedure],
     /// The evidence word that is refused, if one is.
     refusal: Option<Refusal>,
     out: String,
@@ -70,6 +77,16 @@ impl Text<'_> {
         let text = comment.trim_start_matches('\n');
         self.out.push_str(&"\n".repeat(comment.len() - text.len()));
         self.out.push_str(&format!("{}# {text}\n", "  ".repeat(depth)));
+    }
+
+    fn procedure(&mut self, i: usize, procedure: &Procedure) -> Option<()> {
+        self.note(0, &format!("\nProcedure {i}: its body C"));
+        self.command(0, &procedure.command);
+        self.note(0, "\nIts precondition P and its postcondition Q");
+        self.set(0, "P", &procedure.pre);
+        self.set(0, "Q", &procedure.post);
+        self.note(0, "\nIts evidence");
+        self.flow(&format!("{i}:1"), (&procedure.pre, &procedure.command, &procedure.post), &procedure.evidence)
     }
 
     fn command(&mut self, depth: usize, c: &Command) {
@@ -286,7 +303,12 @@ impl Text<'_> {
                 self.command(depth, d);
                 self.before(&one, (phi, d, phi2), inner)
             }
+            (BeforeRule::B32 { inner }, Form::Call(p)) => {
+                let body = &self.procedures.get(*p as usize)?.command;
+                self.before(&one, (phi, body, phi2), inner)
+            }
             (BeforeRule::B20 { .. } | BeforeRule::B21 { .. } | BeforeRule::B23 { .. } | BeforeRule::B30 { .. }, _) => None,
+            (BeforeRule::B32 { .. }, _) => None,
             _ => Some(()),
         }
     }

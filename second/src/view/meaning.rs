@@ -107,6 +107,7 @@ fn command(word: Word) -> Option<Meaning> {
         (31, p) if p < 32 * 32 => {
             says(format!("for scalar {} from 1 up to scalar {}", p % 32, p / 32), &[(Sort::Command, "body")])
         }
+        (38, p) => says(format!("call procedure {p}"), &[]),
         _ => None,
     }
 }
@@ -134,7 +135,7 @@ fn rule(word: Word, kind: u32, name: &str, rule: Rule) -> Option<Meaning> {
     says(format!("{name} rule {}, {}", word.payload, rule.0), rule.1)
 }
 
-/// Rules 1 to 14, kind 33.
+/// Rules 1 to 14 and 31, kind 33.
 pub fn flow_rule(number: u32) -> Option<Rule> {
     use Sort::*;
     Some(match number {
@@ -161,6 +162,7 @@ pub fn flow_rule(number: u32) -> Option<Rule> {
         ),
         13 => ("while: P same as Q; true ⇒ B stands in P", &[(Flow, "(P, C1, Q)")]),
         14 => ("for: by way of the command D that it means", &[(Command, "D"), (Flow, "(P, D, Q)")]),
+        31 => ("call: P same as the procedure's precondition, Q same as its postcondition", &[]),
         _ => return None,
     })
 }
@@ -186,7 +188,7 @@ pub fn set_rule(number: u32) -> Option<Rule> {
     })
 }
 
-/// Rules 20 to 30 of precondition goals, kind 35.
+/// Rules 20 to 30 and 32 of precondition goals, kind 35.
 pub fn precondition_rule(number: u32) -> Option<Rule> {
     use Sort::*;
     Some(match number {
@@ -204,11 +206,12 @@ pub fn precondition_rule(number: u32) -> Option<Rule> {
         28 => ("φ1 implies φ", &[(Boolean, "φ1"), (Precondition, "(φ1, C, φ')")]),
         29 => ("φ is true", &[]),
         30 => ("for: by way of the command D that it means", &[(Command, "D"), (Precondition, "(φ, D, φ')")]),
+        32 => ("call: by way of the procedure's body", &[(Precondition, "(φ, body, φ')")]),
         _ => return None,
     })
 }
 
-/// The refusals of the check (document 01, "Judging order").
+/// The refusals of the check (document 01, "Judging order", and request [3]).
 pub fn refusal_meaning(number: u32) -> &'static str {
     match number {
         1 => "the byte count is 0, over 32,768 or no multiple of 4",
@@ -220,6 +223,7 @@ pub fn refusal_meaning(number: u32) -> &'static str {
         7 => "this for has q = m or a body that modifies q or m",
         8 => "a condition of this rule fails",
         9 => "a condition of this rule is an implication over more than 10 comparisons",
+        16 => "this call's number is not below its own procedure's, or not in the table",
         _ => "no refusal of the check",
     }
 }

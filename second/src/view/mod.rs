@@ -1,6 +1,6 @@
 //! View: files as text for people, and back. Here a file shown word by word: a line is a place, `|`, the word indented by its
 //! depth, and after `#` its role and meaning. The refused word has `>` before its place. `assemble` takes the text back. And a
-//! file's program and contract alone, in readable notation.
+//! file's procedures, program and contract alone, in readable notation.
 //!
 //! Uses: layout, naive.
 //! For: `flowview` and `flowasm`, and the texts of `examples/`.
@@ -13,7 +13,7 @@ pub mod show;
 use self::meaning::{meaning, refusal_meaning, Sort};
 use self::show::Names;
 use crate::layout::syntax::{File, Member};
-use crate::layout::words::{pack, take_apart, Refusal};
+use crate::layout::words::{pack, take_apart, Refusal, MOST_PROCEDURES};
 use crate::naive::judge::{check, Answer};
 use crate::naive::read::{read, MOST_DEPTH};
 
@@ -42,15 +42,29 @@ pub struct Walk {
     pub stop: Option<Stop>,
 }
 
-/// The four outermost parts, the last first: a stack.
-fn outermost() -> Vec<Due> {
-    let parts = [
-        (Sort::Flow, "evidence"),
-        (Sort::Set, "postcondition Q"),
-        (Sort::Set, "precondition P"),
-        (Sort::Command, "program C"),
-    ];
-    parts.map(|(sort, role)| Due { sort, role: role.to_string(), depth: 1 }).into()
+/// The outermost parts, four for each procedure and four for the main program, the last first: a stack.
+fn outermost(procedures: u32) -> Vec<Due> {
+    let mut parts = Vec::new();
+    for i in 0..procedures {
+        let role = |part: &str| format!("procedure {i}, {part}");
+        parts.push((Sort::Command, role("body C")));
+        parts.push((Sort::Set, role("precondition P")));
+        parts.push((Sort::Set, role("postcondition Q")));
+        parts.push((Sort::Flow, role("evidence")));
+    }
+    parts.push((Sort::Command, "program C".to_string()));
+    parts.push((Sort::Set, "precondition P".to_string()));
+    parts.push((Sort::Set, "postcondition Q".to_string()));
+    parts.push((Sort::Flow, "evidence".to_string()));
+    parts.into_iter().rev().map(|(sort, role)| Due { sort, role, depth: 1 }).collect()
+}
+
+/// The count of procedures, 0 if word 1 is no table of them.
+fn table(words: &[u32]) -> u32 {
+    match words.get(1).map(|word| take_apart(1, *word)) {
+        Some(word) if word.kind == 62 && word.payload <= MOST_PROCEDURES => word.payload,
+        _ => 0,
+    }
 }
 
 /// Reads as far as refusals 2 to 6 allow. `words` is not empty.
@@ -61,7 +75,12 @@ pub fn walk(words: &[u32]) -> Walk {
         return Walk { shown: Vec::new(), stop: Some(stop) };
     }
     let mut shown = vec![Shown { depth: 1, text: format!("a file of {n} words") }];
-    let mut stack = outermost();
+    let procedures = table(words);
+    if procedures > 0 {
+        let plural = if procedures == 1 { "" } else { "s" };
+        shown.push(Shown { depth: 1, text: format!("a table of {procedures} procedure{plural}") });
+    }
+    let mut stack = outermost(procedures);
     while let Some(due) = stack.pop() {
         let place = shown.len();
         let said = words.get(place).and_then(|word| meaning(due.sort, take_apart(place, *word)));
@@ -166,13 +185,17 @@ fn set_lines(names: &Names, set: &[Member]) -> Vec<String> {
     set.iter().map(|member| names.member(member)).collect()
 }
 
-/// The program, a line to a command, then the two sets, a line to a member.
+/// Of each procedure and then of the main program: the commands, a line to each, then the two sets, a line to a member.
 fn contract(names: &Names, file: &File) -> String {
-    let parts = [
-        ("program", names.lines(&file.command)),
-        ("precondition", set_lines(names, &file.pre)),
-        ("postcondition", set_lines(names, &file.post)),
-    ];
+    let mut parts = Vec::new();
+    for (i, procedure) in file.procedures.iter().enumerate() {
+        parts.push((format!("procedure {i}"), names.lines(&procedure.command)));
+        parts.push((format!("precondition of procedure {i}"), set_lines(names, &procedure.pre)));
+        parts.push((format!("postcondition of procedure {i}"), set_lines(names, &procedure.post)));
+    }
+    parts.push(("program".to_string(), names.lines(&file.command)));
+    parts.push(("precondition".to_string(), set_lines(names, &file.pre)));
+    parts.push(("postcondition".to_string(), set_lines(names, &file.post)));
     let mut out = String::new();
     for (title, lines) in parts {
         out.push_str(&format!("{title}\n"));

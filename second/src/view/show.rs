@@ -103,6 +103,7 @@ impl Names {
             Form::If(b, ..) => format!("if {} then", self.boolean(b)),
             Form::While(b, _) => format!("while {} do", self.boolean(b)),
             Form::For(q, m, _) => format!("for {} ← 1 to {} do", self.scalar(*q), self.scalar(*m)),
+            Form::Call(p) => format!("call procedure {p}"),
         }
     }
 

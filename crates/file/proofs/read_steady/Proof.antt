@@ -17,11 +17,12 @@ read-steady-spec =
     (λ c.
     let scan = c .before .before in
     let fill = scan .before .before .before .before in
-    steady-tabled (fill .before .before .before .before .pre .0) (fill .fill-table .ensures) _
-    (scan .first-unsteady .ensures) (c .enum-told .given .1))
+    let pre = fill .before .before .before .before .pre in
+    steady-tabled (pre .0 .found) (pre .0 .right) (fill .fill-table .ensures) _ (scan .first-unsteady .ensures) (c .enum-told .given .1))
     (λ c. search needs)
     (λ c.
     let scan = c .before .before .before in
     let fill = scan .before .before .before .before in
-    unsteady-tabled (fill .before .before .before .before .pre .0) _ _ (scan .first-unsteady .ensures)
+    let pre = fill .before .before .before .before .pre in
+    unsteady-tabled (pre .0 .found) (pre .0 .right) (fill .fill-table .ensures) _ _ (scan .first-unsteady .ensures)
     (c .before .first .given .1)))

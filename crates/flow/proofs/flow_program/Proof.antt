@@ -16,8 +16,10 @@ flow-program-spec =
     (λ c κs. search needs) (λ c. search needs)
     (λ c κs.
     let outcome = c .before .before .before in
-    let h = places-in standard _ _ _ _ (outcome .standard-outcome .ensures) (c .before .done .given .1) in
-    (omega arith, omega (arith, h .few, h .pre-post, h .post-evidence, h .inside)))
+    let h = places-in standard _ _ _ _ (outcome .standard-outcome .ensures) (c .before .done .given .1) in (
+      omega (arith, h .few, h .start-pre, h .pre-post, h .post-evidence, h .inside),
+      omega (arith, h .few, h .pre-post, h .post-evidence, h .inside),
+    ))
     (λ c. search needs)
     (λ c.
     let outcome = c .before .before .before .before in

@@ -2,7 +2,7 @@
 -- Assumes nothing.
 use borrow.Author.Needs.{needs}
 use mathlib.Core.Path.{_∙_, ap}
-use Rattle.rules.specs.Context.{Context}
+use Rattle.rules.specs.Context.{Limits}
 use Rattle.layout.specs.File.{fileOf}
 use Rattle.outcomes.specs.Outcome.{outcomeOf}
 use Rattle.flow.proofs.Answers.{standard-within}
@@ -18,4 +18,4 @@ standard-outcome-spec =
     (λ c.
     let bytes = c .before .before .before .args .file .now in
     c .outcome .ensures
-    ∙ ap (λ (l : Context). outcomeOf l (fileOf l bytes)) (c .before .standard-context .ensures)))
+    ∙ ap (λ (l : Limits). outcomeOf l (fileOf l bytes)) (c .before .standard-context .ensures)))

@@ -6,7 +6,7 @@ use mathlib.Core.Path.{_≡_, refl}
 use Prim.Native.Nat.{ℕ, _+_, _*_, _<_}
 use native.Mathlib.Omega.{arith}
 use borrow.Author.Needs.{needs}
-use Rattle.context.specs.Contexts.{contextOf}
+use Rattle.context.specs.Contexts.{contextIn}
 use Rattle.layout.specs.Bytes.{payloadAt}
 use Rattle.judge.proofs.Going.{level-due, can-step, can-go, judged-failed, judged-large, judged-passed}
 use Rattle.judge.proofs.Going.{Going, going-start, going-step, going-refused, going-end, child-asked, child-can}
@@ -57,7 +57,7 @@ judge-children-below t =
 
 abbrev Inv-loop : judge-children-lts.InvT-loop
 Inv-loop w ends context goal at left rule rest₀ next₀ count₀ k₀ rest next count k =
-    (rule ≡ payloadAt w at) × Going w ends (contextOf context) goal at left rest next count k
+    (rule ≡ payloadAt w at) × Going w ends (contextIn context w) goal at left rest next count k
 
 abbrev μ-loop : judge-children-lts.MeasureT-loop
 μ-loop w ends context goal at left rule rest₀ next₀ count₀ k₀ rest next count k = rest

@@ -18,7 +18,7 @@ set-condition-spec =
     (λ c κs. can-try (c .before .before .before .before .pre) (c .match .keys4))
     (λ c κs. can-try (c .before .before .before .before .pre) (c .match .keys5))
     (λ c κs. can-try (c .before .before .before .before .pre) (c .match .keys6))
-    (λ c κs. last-rule (c .before .before .before .before .pre) 13 6 refl (c .match .rest))
+    (λ c κs. last-rule (c .before .before .before .before .pre) 13 6 19 refl (c .match .rest))
     (λ c. c .rule-13 .ensures)
     (λ c. c .rule-14 .ensures)
     (λ c. c .rule-15 .ensures)

@@ -26,7 +26,7 @@ pub struct Measured {
     pub stack: Vec<stack::Used>,
 }
 
-/// The files of a folder of tests, with their answers and the instructions of the yardstick.
+/// The files of a folder of tests, with their answers and, where it was counted, the instructions of the yardstick.
 fn folder(bench: &Bench, name: &str) -> Vec<Row> {
     let folder = Path::new("tests").join(name);
     let expected = std::fs::read_to_string(folder.join("expected")).expect("the file `expected`");
@@ -35,7 +35,7 @@ fn folder(bench: &Bench, name: &str) -> Vec<Row> {
         let fields: Vec<&str> = line.split('\t').collect();
         let bytes = std::fs::read(folder.join(fields[0])).expect("a file of tests");
         let mut row = bench.check(fields[0], &bytes, Some(fields[1]));
-        row.yardstick = Some(fields[2].parse().expect("the yardstick's instructions"));
+        row.yardstick = (fields[2] != "-").then(|| fields[2].parse().expect("the yardstick's instructions"));
         rows.push(bench.show(row));
     }
     rows

@@ -148,7 +148,7 @@ const FILES: &str = "![The proved check's instructions against the others', file
 
 ## The check, file by file
 
-The files are in `tests/usual` (steps of the mailbox guard of paper 000, and chains of steps) and `tests/worst`. Instructions are the
+The files are in `tests/usual` (steps of the mailbox guard of paper 000, chains of steps, and a step with a procedure) and `tests/worst`. Instructions are the
 proved check's.
 ";
 

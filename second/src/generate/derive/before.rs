@@ -1,4 +1,4 @@
-//! Necessary preconditions, rules 20 to 30.
+//! Necessary preconditions, rules 20 to 30 and 32.
 
 use super::{nodes, Maker, MANY_NODES};
 use crate::layout::syntax::*;
@@ -23,7 +23,7 @@ impl Maker<'_> {
                         return Some((phi, before_of(BeforeRule::B28 { phi1, inner })));
                     }
                 }
-                2 | 3 if !of_bool(phi2).meets(&modified_by(c)) || self.slip() => {
+                2 | 3 if !of_bool(phi2).meets(&modified_by(c, self.procedures)) || self.slip() => {
                     return Some((phi2.clone(), before_of(BeforeRule::B27)));
                 }
                 _ => {}
@@ -63,6 +63,7 @@ impl Maker<'_> {
                 let (phi, inner) = self.before(&d, phi2, detours)?;
                 Some((phi, before_of(BeforeRule::B30 { d, inner })))
             }
+            Form::Call(p) => self.before_call(*p, phi2, detours),
         }
     }
 

@@ -1,10 +1,10 @@
-//! Flow, rules 1 to 14.
+//! Flow, rules 1 to 14; call.rs has rule 31.
 
 use super::Maker;
 use crate::generate::parts;
 use crate::generate::prove::prove;
 use crate::layout::syntax::*;
-use crate::naive::modified::{self, modified_by, of_expression, of_set};
+use crate::naive::modified::{self, modified_by, of_expression, of_set, used_by};
 use crate::naive::replace::{self, Replacement};
 use crate::naive::sets::{under, union};
 
@@ -62,6 +62,7 @@ impl Maker<'_> {
                 let (p, flow) = self.flow(&d, q, detours)?;
                 Some((p, flow_of(FlowRule::F14 { d, flow })))
             }
+            Form::Call(p) => self.flow_call(c, *p, q),
         }
     }
 
@@ -99,16 +100,16 @@ impl Maker<'_> {
         Some((p, flow_of(FlowRule::F9 { s, s2, t, t2, first, second })))
     }
 
-    fn rule_10(&mut self, c: &Command, q: &Set) -> Option<(Set, Box<Flow>)> {
-        if of_set(q).meets(&modified_by(c)) && !self.slip() {
+    pub fn rule_10(&mut self, c: &Command, q: &Set) -> Option<(Set, Box<Flow>)> {
+        if of_set(q).meets(&modified_by(c, self.procedures)) && !self.slip() {
             return None;
         }
         Some((self.again(q)?, flow_of(FlowRule::F10)))
     }
 
-    fn rule_11(&mut self, c: &Command, q: &Set) -> Option<(Set, Box<Flow>)> {
+    pub fn rule_11(&mut self, c: &Command, q: &Set) -> Option<(Set, Box<Flow>)> {
         let member = &self.one(q)?;
-        if of_expression(&member.e).meets(&modified_by(c)) && !self.slip() {
+        if of_expression(&member.e).meets(&modified_by(c, self.procedures)) && !self.slip() {
             return None;
         }
         let (phi, before) = self.before(c, &member.phi, 2)?;
@@ -162,7 +163,7 @@ impl Maker<'_> {
         }
         let mut used = of_set(q);
         modified::in_bool(b, &mut used);
-        modified::in_command(body, &mut used);
+        used.add_all(&used_by(body, self.procedures));
         let mut inv = Set::new();
         if !self.slip() {
             inv.push(member(always(), b.clone()));

@@ -3,6 +3,7 @@
 //! choice leads nowhere or grows too large; the caller tries another seed.
 
 mod before;
+mod call;
 mod flow;
 mod implication;
 
@@ -15,6 +16,8 @@ use crate::layout::write;
 pub struct Maker<'a> {
     pub rng: &'a mut Prng,
     pub pool: Pool,
+    /// What calls mean.
+    pub procedures: &'a [Procedure],
     /// Rules that may still be used.
     pub fuel: usize,
     /// Side conditions that may still be broken: 0 for files to be accepted.

@@ -1,10 +1,11 @@
 //! Files at the limits of document 01: depth 128, 64 members, 10
-//! comparisons, 32,768 bytes; and files of which two refusals are true, so
-//! that their order tells.
+//! comparisons, 32,768 bytes, 16 procedures; and files of which two refusals
+//! are true, so that their order tells.
 
 mod deep;
 mod loops;
 mod many;
+mod procedures;
 
 use self::deep::{deep_command, deep_evidence, deep_expression};
 use self::many::{many_comparisons, many_members};
@@ -14,8 +15,11 @@ use crate::layout::words::{bytes_of, pack};
 
 /// A file near one of the check's limits, on either side.
 pub fn limit(rng: &mut Prng) -> Vec<u8> {
-    match rng.below(9) {
+    match rng.below(13) {
         8 => loops::loops(rng),
+        9 => procedures::nest(rng),
+        10 | 11 => procedures::calls(rng),
+        12 => procedures::tables(rng),
         0 => deep_expression(rng),
         1 => deep_command(rng),
         2 => deep_evidence(rng),

@@ -14,9 +14,16 @@ Inv-loop w ends₀ n b₀ ends b = Blocking w ends₀ ends b
 abbrev μ-loop : tie.MeasureT-loop
 μ-loop w ends₀ n b₀ ends b = length w / 32 - b
 
-put-block-requires : tie.Need-put-block-requires Inv-loop μ-loop
-put-block-requires c κs =
-    let test = c .before .before in
+marks-requires : tie.Need-marks-requires Inv-loop μ-loop
+marks-requires c κs =
+    let loop = c .before .before in
+    let pre = loop .before .before .before .pre in
+    let less = c .before .loop-test .taken in
+    (record { room = omega (arith, loop .loop .inv .same-length, pre .room) }, omega arith)
+
+put-mask-requires : tie.Need-put-mask-requires Inv-loop μ-loop
+put-mask-requires c κs =
+    let test = c .before .before .before in
     let loop = test .before in
     omega (arith, test .loop-test .taken, loop .loop .inv .same-length, loop .before .before .before .pre .room)
 
@@ -24,10 +31,10 @@ loop-again : tie.Need-loop-again Inv-loop μ-loop
 loop-again c =
     let put = c .before .before in
     let marked = put .before .before in
-    let test = marked .before in
+    let test = marked .before .before in
     let loop = test .before in
     blocking-more _ _ (loop .before .before .before .pre) (loop .loop .inv) (test .loop-test .taken)
-    (marked .marks .ensures) (put .put-block .ensures)
+    (marked .marks .ensures) (put .put-mask .ensures)
 
 pub fill-blocks-spec : {M : Type 1} → statement M
 fill-blocks-spec =
@@ -39,10 +46,10 @@ fill-blocks-spec =
     (λ c. search needs)
     (λ c. search needs)
     (λ c. search needs)
-    (λ c κs. search needs)
+    marks-requires
     (λ c. search needs)
     (λ c. search needs)
-    put-block-requires
+    put-mask-requires
     (λ c. search needs)
     (λ c. search needs)
     loop-again

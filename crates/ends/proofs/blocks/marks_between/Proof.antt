@@ -23,5 +23,5 @@ marks-between-spec =
     let middle = c .before in
     let first = middle .before in
     let more = first .before .if1 .left in
-    between _ (omega arith) (omega (arith, more)) (omega arith) (marks-range _ (first .marks2 .ensures))
+    between (omega arith) (omega (arith, more)) (omega arith) (marks-range _ (first .marks2 .ensures))
     (middle .block-marks .ensures) (marks-range _ (c .marks3 .ensures))))

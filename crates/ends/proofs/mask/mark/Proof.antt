@@ -1,24 +1,28 @@
 -- `ends::mask::mark` meets its contract, kind by kind.
 -- Assumes nothing.
-use mathlib.Core.Path.{sym, ap, _∙_}
+use native.Mathlib.Omega.{arith}
 use borrow.Author.Needs.{needs}
-use Rattle.ends.specs.Blocks.{written, withMark}
-use Rattle.ends.proofs.Marks.{written-as, unwritten, unwritten-below, unwritten-above}
+use Rattle.ends.proofs.Marks.{unwritten, unwritten-below, unwritten-above}
+use Rattle.ends.proofs.Marks.{mark-none, mark-scalar, mark-array, mark-for, mark-call}
 use Rattle.ends.proofs.mask.mark.Statement.{statement}
 use Rattle.ends.proofs.mask.mark.Tie as tie
 
 pub mark-spec : {M : Type 1} → statement M
-unfolding written
 mark-spec =
     tie.close
     (tie.spec
-    (λ c. sym (ap (withMark _) (unwritten-below _ _ (c .if1 .taken))))
-    (λ c. sym (ap (withMark _) (unwritten-above _ _ (c .if2 .taken))))
+    (λ c. mark-none _ _ _ _ (unwritten-below _ _ _ (c .if1 .taken)))
     (λ c κs. search needs)
+    (λ c. mark-scalar _ _ _ _ (c .before .if2 .taken) (c .with-bit .ensures))
+    (λ c κs. search needs)
+    (λ c. mark-call _ _ _ _ (c .before .if4 .taken) (c .procedure-mask .ensures))
+    (λ c. mark-none _ _ _ _ (unwritten-above _ _ _ (c .before .if3 .taken) (c .if4 .left)))
     (λ c. search needs)
     (λ c κs. search needs)
     (λ c κs. search needs)
-    (λ c. c .with-bit .ensures ∙ sym (ap (withMark _) (written-as _ (c .before .match .keys1))))
-    (λ c. c .with-bit2 .ensures ∙ sym (ap (withMark _) (written-as _ (c .before .match .keys2))))
-    (λ c. c .with-bit3 .ensures ∙ sym (ap (withMark _) (written-as _ (c .before .match .keys3))))
-    (λ c. sym (ap (withMark _) (unwritten _ _ (c .match .rest .0 .0 .1) (c .match .rest .0 .1) (c .match .rest .1)))))
+    (λ c. mark-array _ _ _ _ (c .before .match .keys1) (c .with-bit2 .ensures))
+    (λ c. mark-for _ _ _ _ (c .before .match .keys2) (c .with-bit3 .ensures))
+    (λ c.
+    mark-none _ _ _ _
+    (unwritten _ _ _ (c .before .before .if2 .left) (c .match .rest .0 .1) (c .match .rest .1)
+    (λ e. omega (arith, c .before .if3 .left, e)))))

@@ -1,7 +1,7 @@
 -- `judge::rule::condition_at` meets its contract: the conditions of the goal's judgement.
 -- Assumes nothing.
 use borrow.Author.Needs.{needs}
-use Rattle.judge.proofs.Going.{can-step-of, step-of}
+use Rattle.judge.proofs.Asked.{can-step-of, step-of}
 use Rattle.judge.proofs.rule.condition_at.Statement.{statement}
 use Rattle.judge.proofs.rule.condition_at.Tie as tie
 

@@ -12,9 +12,9 @@ child-20-spec =
     (λ c. search needs) (λ c κs. search needs) (λ c. search needs)
     (λ c. simp (c .if1 .taken, c .before .end-or-zero .ensures))
     (λ c. search needs) (λ c κs. search needs) (λ c κs. search needs)
-    (λ c. let c₁ = c .before in let c₂ = c₁ .before in let c₃ = c₂ .before in let c₅ = c₃ .before .before in
+    (λ c. let c₁ = c .before in let c₂ = c₁ .before in let c₃ = c₂ .before in let c₆ = c₃ .before .before .before in
     simp (
-      is-second (c₅ .pre .2) (c₂ .if1 .left),
+      is-second (c₆ .pre .2) (c₂ .if1 .left),
       c .end-or-zero3 .ensures,
       c₁ .end-or-zero2 .ensures,
       c₃ .end-or-zero .ensures,

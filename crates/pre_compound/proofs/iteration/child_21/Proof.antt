@@ -10,4 +10,4 @@ child-21-spec =
     tie.close
     (tie.spec
     (λ c. search needs) (λ c κs. search needs) (λ c. search needs)
-    (λ c. simp (is-first (c .before .before .pre .2), c .end-or-zero .ensures)))
+    (λ c. simp (is-first (c .before .before .before .pre .2), c .end-or-zero .ensures)))

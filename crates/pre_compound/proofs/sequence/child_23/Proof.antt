@@ -13,4 +13,4 @@ child-23-spec =
     (λ c. search needs) (λ c. search needs)
     (λ c. rw (c .if1 .taken) refl)
     (λ c. search needs) (λ c κs. search needs)
-    (λ c. simp (is-second (c .before .before .before .pre .2) (c .before .if1 .left), c .end-or-zero .ensures)))
+    (λ c. simp (is-second (c .before .before .before .before .pre .2) (c .before .if1 .left), c .end-or-zero .ensures)))

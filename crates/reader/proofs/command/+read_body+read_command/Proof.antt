@@ -119,6 +119,7 @@ pub +read-body+read-command-spec : {M : Type 1} → statement M
     let h = word-left _ _ _ (m .before .before .word-due .ensures) (m .d2 .given .1) in
     omega arith)
     (λ c. search needs)
+    (λ c. search needs)
     (λ c. let m = c .before in
     let a = m .before .before .before .before .args in
     stop (command-goes (a .w .now) (a .left) (a .at)) (m .before .before .word-due .ensures)
@@ -183,3 +184,7 @@ pub +read-body+read-command-spec : {M : Type 1} → statement M
     let a = m .before .before .before .before .args in
     arm (command-goes (a .w .now) (a .left) (a .at)) (m .before .before .word-due .ensures)
     (m .d2 .given .1) (c .before .before .command-word .ensures) (c .enum-told9 .given .1) refl)
+    (λ c. let m = c .before .before .before .before in
+    let a = m .before .before .before .before .args in
+    arm (command-goes (a .w .now) (a .left) (a .at)) (m .before .before .word-due .ensures)
+    (m .d2 .given .1) (c .before .before .command-word .ensures) (c .enum-told10 .given .1) refl)

@@ -5,10 +5,12 @@
 use borrow.Author.Needs.{needs}
 use borrow.Author.Tests.{ne-eqb}
 use native.Mathlib.Omega.{arith}
+use mathlib.Core.Path.{_∙_}
 use Rattle.words.specs.Rows.{judgementMeant}
 use Rattle.context.specs.Contexts.{contextOf}
 use Rattle.layout.specs.Bytes.{wordCount}
 use Rattle.reader.proofs.Walks.{room, evidence-goes, stop}
+use Rattle.reader.proofs.Contexts.{command-walk}
 use Rattle.reader.proofs.Items.{Reached, items-start, items-next, items-stop, items-done, rule-none, rule-some}
 use Prim.Native.Nat.{ℕ, _<_, _+_, _-_, _*_}
 use borrow.Fn.Kinds.{In}
@@ -122,7 +124,7 @@ pub +read-evidence+read-item+read-items-spec : {M : Type 1} → statement M
     (λ c κs. omega arith)
     (λ c κs. omega arith)
     (λ c. rw (c .before .match .keys1) (c .read-boolean .ensures))
-    (λ c. rw (c .before .match .keys2) (c .read-command .ensures))
+    (λ c. rw (c .before .match .keys2) (c .read-command .ensures ∙ command-walk _ _ _ _))
     (λ c. rw (c .before .match .keys3) (c .read-set .ensures))
     (λ c. rw (c .before .match .keys4) (c .read-evidence .ensures))
     (λ c. rw (c .before .match .keys5) (c .read-evidence2 .ensures))

@@ -1,4 +1,4 @@
--- `runner::program::run_bytes` meets its contract: refusals 1 to 7, then the run of the words that were read.
+-- `runner::program::run_bytes` meets its contract: refusals 1 to 7 and 16, then the run of the words that were read.
 -- Assumes nothing.
 use native.Mathlib.Omega.{arith}
 use Rattle.execution.specs.Lent.{lent}
@@ -18,12 +18,12 @@ run-bytes-spec =
       wide = search needs;
     })
     (λ c. search needs)
-    (λ c κs. can-run-file (c .before .before .before .before .before .before .before .before .read-file .ensures)
-    (c .before .before .before .before .enum-told .given .1))
+    (λ c κs. can-run-file (c .before .before .before .before .before .before .before .before .before .read-file .ensures)
+    (c .before .before .before .before .before .layout .given .1))
     (λ c. search needs) (λ c κs. search needs) (λ c. search needs) (λ c. search needs)
-    (λ c. ran-file (c .before .before .before .before .before .before .before .before .before .before .before
-    .read-file .ensures) (c .before .before .before .before .before .before .before .enum-told .given .1)
+    (λ c. ran-file (c .before .before .before .before .before .before .before .before .before .before .before .before
+    .read-file .ensures) (c .before .before .before .before .before .before .before .before .layout .given .1)
     (c .before .before .run-program .ensures))
     (λ c. let s = (c .before .before .before .before .before .before .before .before .before .before) in
     refused-file-by (c .before .before .before .before .before .before .read-file .ensures) (s .args .budget) (lent
-    (s .args .scalars .now) (s .args .values .now)) (c .before .before .layout .given .1) (c .refused .ensures)))
+    (s .args .scalars .now) (s .args .values .now)) (c .before .before .layout2 .given .1) (c .refused .ensures)))

@@ -8,4 +8,4 @@ pub modified-spec : {M : Type 1} → statement M
 modified-spec =
     tie.close
     (tie.spec (λ c κs. (c .before .before .pre .0 .blocks, c .before .before .pre .1))
-    (λ c. modified-tree _ (c .marks-between .ensures)))
+    (λ c. modified-tree _ _ (c .marks-between .ensures)))

@@ -10,7 +10,7 @@ use Rattle.scan.proofs.steady.first_unsteady.Statement.{statement}
 use Rattle.scan.proofs.steady.first_unsteady.Tie as tie
 
 abbrev Inv-loop : tie.InvT-loop
-Inv-loop w ends at₀ at = SteadyBefore w at
+Inv-loop w ends at₀ at = SteadyBefore w ends at
 
 abbrev μ-loop : tie.MeasureT-loop
 μ-loop w ends at₀ at = length w - at
@@ -18,19 +18,19 @@ abbrev μ-loop : tie.MeasureT-loop
 returns : tie.Need-returns Inv-loop μ-loop
 returns c =
     let test = c .before .before .before .before in
-    found-here _ _ (test .loop-test .taken) (test .before .loop .inv)
-    (subst (Tested _ _) (c .if2 .taken) (c .before .unsteady-at .ensures))
+    found-here _ _ _ (test .loop-test .taken) (test .before .loop .inv)
+    (subst (Tested _ _ _) (c .if2 .taken) (c .before .unsteady-at .ensures))
 
 loop-again : tie.Need-loop-again Inv-loop μ-loop
 loop-again c =
     let test = c .before .before in
-    passed-more _ _ (test .loop-test .taken) (test .before .loop .inv) (tested-else _ _ (c .if1 .taken))
+    passed-more _ _ _ (test .loop-test .taken) (test .before .loop .inv) (tested-else _ _ _ (c .if1 .taken))
 
 loop-again-2 : tie.Need-loop-again-2 Inv-loop μ-loop
 loop-again-2 c =
     let test = c .before .before .before .before in
-    passed-more _ _ (test .loop-test .taken) (test .before .loop .inv)
-    (subst (Tested _ _) (c .if2 .left) (c .before .unsteady-at .ensures))
+    passed-more _ _ _ (test .loop-test .taken) (test .before .loop .inv)
+    (subst (Tested _ _ _) (c .if2 .left) (c .before .unsteady-at .ensures))
 
 pub first-unsteady-spec : {M : Type 1} → statement M
 first-unsteady-spec =
@@ -38,7 +38,7 @@ first-unsteady-spec =
     (tie.spec
     Inv-loop
     μ-loop
-    (λ c. passed-none _)
+    (λ c. passed-none _ _)
     (λ c. search needs)
     (λ c. search needs)
     (λ c. search needs)
@@ -55,4 +55,4 @@ first-unsteady-spec =
     (λ c. search needs)
     (λ c. search needs)
     loop-again-2
-    (λ c. found-none _ _ (c .loop-test .left) (c .before .loop .inv)))
+    (λ c. found-none _ _ _ (c .loop-test .left) (c .before .loop .inv)))

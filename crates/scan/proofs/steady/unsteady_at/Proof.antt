@@ -12,14 +12,14 @@ use Rattle.scan.proofs.steady.unsteady_at.Tie as tie
 returns : tie.Need-returns
 returns c =
     let pre = c .before .before .before .before .pre in
-    tested-same _ _ (pre .inside) (pre .is-for) (c .if1 .taken)
+    tested-same _ _ _ (pre .inside) (pre .is-for) (c .if1 .taken)
 
 returns-2 : tie.Need-returns-2
 returns-2 c =
     let least = c .before .before .before in
     let if1 = least .before .before in
     let pre = if1 .before .before .before .before .pre in
-    tested-first _ _ _ (pre .places) _ _ (lesser-first _ _ _ (least .least .ensures .2)) (c .before .before .modified .ensures)
+    tested-first _ _ _ (pre .places) _ _ (lesser-first _ _ _ (least .least .ensures .2)) (c .before .before .marks-between .ensures)
     (pre .inside) (pre .is-for) (if1 .if1 .left) (sym (c .before .has-bit .ensures) ∙ c .if2 .taken)
 
 returns-3 : tie.Need-returns-3
@@ -27,8 +27,8 @@ returns-3 c =
     let least = c .before .before .before .before in
     let if1 = least .before .before in
     let pre = if1 .before .before .before .before .pre in
-    subst (Tested _ _) (sym (c .has-bit2 .ensures))
-    (tested-second _ _ _ (pre .places) _ _ (lesser-first _ _ _ (least .least .ensures .2)) (c .before .before .before .modified .ensures)
+    subst (Tested _ _ _) (sym (c .has-bit2 .ensures))
+    (tested-second _ _ _ (pre .places) _ _ (lesser-first _ _ _ (least .least .ensures .2)) (c .before .before .before .marks-between .ensures)
     (pre .inside) (pre .is-for) (if1 .if1 .left) (sym (c .before .before .has-bit .ensures) ∙ c .before .if2 .left))
 
 pub unsteady-at-spec : {M : Type 1} → statement M
@@ -45,7 +45,7 @@ unsteady-at-spec =
     (λ c. omega (arith, c .shared-slice-known4 .given (c .before .before .before .before .before .args .at)))
     (λ c κs. search needs)
     (λ c. omega (arith, c .before .before .before .before .before .before .pre .inside))
-    (λ c κs. (c .before .before .before .before .before .before .pre .places, c .least .ensures .1))
+    (λ c κs. (c .before .before .before .before .before .before .pre .places .blocks, c .least .ensures .1))
     (λ c κs. search needs)
     returns-2
     (λ c κs. search needs)

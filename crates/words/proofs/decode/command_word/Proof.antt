@@ -27,6 +27,7 @@ command-word-spec =
     (λ c. let h = c .if7 .left in rw (c .before .match .keys7, lt-leb (c .before .before .args .payload) 0 (omega arith)))
     (λ c. rw (c .before .match .keys8, le-leb _ _ (c .if8 .taken)))
     (λ c. rw (c .before .match .keys8, lt-leb _ _ (c .if8 .left)))
+    (λ c. rw (c .match .keys9))
     (λ c. let r = c .match .rest in simp (
       ne-eqb _ _ (r .1),
       ne-eqb _ _ (r .0 .1),
@@ -36,4 +37,5 @@ command-word-spec =
       ne-eqb _ _ (r .0 .0 .0 .0 .0 .1),
       ne-eqb _ _ (r .0 .0 .0 .0 .0 .0 .1),
       ne-eqb _ _ (r .0 .0 .0 .0 .0 .0 .0 .1),
+      ne-eqb _ _ (r .0 .0 .0 .0 .0 .0 .0 .0 .1),
     )))

@@ -22,6 +22,7 @@ flow-row-spec =
     (λ c. rw (c .match .keys12))
     (λ c. rw (c .match .keys13))
     (λ c. rw (c .match .keys14))
+    (λ c. rw (c .match .keys15))
     (λ c. let r = c .match .rest in simp (
       ne-eqb _ _ (r .1),
       ne-eqb _ _ (r .0 .1),
@@ -37,4 +38,5 @@ flow-row-spec =
       ne-eqb _ _ (r .0 .0 .0 .0 .0 .0 .0 .0 .0 .0 .0 .1),
       ne-eqb _ _ (r .0 .0 .0 .0 .0 .0 .0 .0 .0 .0 .0 .0 .1),
       ne-eqb _ _ (r .0 .0 .0 .0 .0 .0 .0 .0 .0 .0 .0 .0 .0 .1),
+      ne-eqb _ _ (r .0 .0 .0 .0 .0 .0 .0 .0 .0 .0 .0 .0 .0 .0 .1),
     )))
