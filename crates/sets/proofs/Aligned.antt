@@ -21,7 +21,7 @@ use Rattle.sets.specs.Piles.{countAt, writtenSet, pileNumbers, pilesNumb
 use Rattle.sets.specs.Aligned.{Parted, Aligns, Aligned}
 use Rattle.sets.specs.declared.item.View.{View}
 use Rattle.sets.specs.declared.item.View.the-variants.{Plain}
-use Rattle.sets.specs.declared.item.Item.{Item}
+use Rattle.sets.specs.declared.item.FormedMember.{FormedMember}
 use Rattle.sets.specs.declared.pile.Pile.{Pile}
 use Rattle.sets.specs.declared.pile.Pile.the-variants.{Empty, One, Set}
 use Rattle.sets.specs.declared.pile.Piles.{Piles}
@@ -90,7 +90,7 @@ module _ {file ends : List ℕ} where
             }));
       }
 
-  pub one-aligned : {n i next : ℕ} (item : Item) {b : Bool} {r : Rest} → MembersAt file ends n i → (n ≡ 0 → ⊥) →
+  pub one-aligned : {n i next : ℕ} (item : FormedMember) {b : Bool} {r : Rest} → MembersAt file ends n i → (n ≡ 0 → ⊥) →
       b ≡ sameHalves (writtenHalves file ends i) (itemHalves file ends item) → b ≡ true →
       next ≡ pastMember ends i → r .n ≡ n - 1 → r .at ≡ next → Aligns file ends n i (itemHalves file ends item ∷ []) r
   one-aligned {n} {i} {next} item {r = r} m f s t e g h = record {

@@ -20,7 +20,7 @@ use Rattle.sets.specs.Items.{seenItem, pairItem, certainItem, itemHalves
 use Rattle.sets.specs.Standing.{MemberAt, ViewAt, ItemAt, CanCompare, CanSee}
 use Rattle.sets.specs.declared.item.View.{View}
 use Rattle.sets.specs.declared.item.View.the-variants.{Plain, Under, Unless, Replaced}
-use Rattle.sets.specs.declared.item.Item.{Item}
+use Rattle.sets.specs.declared.item.FormedMember.{FormedMember}
 use Rattle.sets.proofs.Members.{antecedent-any, any-known}
 
 -- by view
@@ -30,22 +30,22 @@ module _ (ends : List ℕ) (a : ℕ) (view : View) (middle : ℕ) (m : middle �
   item-plain e = rw (e, m)
 
   pub item-under : (b : ℕ) → view ≡ Under b →
-      _≡_ {A = Item} (record { antecedent = And a b; consequent = Written middle }) (seenItem ends view a)
+      _≡_ {A = FormedMember} (record { antecedent = And a b; consequent = Written middle }) (seenItem ends view a)
   unfolding seenItem
   item-under b e = rw (e, m)
 
   pub item-unless : (b : ℕ) → view ≡ Unless b →
-      _≡_ {A = Item} (record { antecedent = AndNot a b; consequent = Written middle }) (seenItem ends view a)
+      _≡_ {A = FormedMember} (record { antecedent = AndNot a b; consequent = Written middle }) (seenItem ends view a)
   unfolding seenItem
   item-unless b e = rw (e, m)
 
   pub item-replaced : (put : Put) → view ≡ Replaced put →
-      _≡_ {A = Item} (record { antecedent = Changed a put; consequent = Exchanged middle put }) (seenItem ends view a)
+      _≡_ {A = FormedMember} (record { antecedent = Changed a put; consequent = Exchanged middle put }) (seenItem ends view a)
   unfolding seenItem
   item-replaced put e = rw (e, m)
 
 -- a written member compared with an item, consequents first
-module _ (file ends : List ℕ) (at : ℕ) (item : Item) (middle : ℕ) (m : middle ≡ endAt ends at) {b : Bool}
+module _ (file ends : List ℕ) (at : ℕ) (item : FormedMember) (middle : ℕ) (m : middle ≡ endAt ends at) {b : Bool}
     (e : b ≡ sameNumbers (part file ends middle) (consequentNumbers file ends (item .consequent))) where
   halves-by : (sameNumbers (part file ends at) (antecedentNumbers file ends (item .antecedent)) && b)
       ≡ sameHalves (writtenHalves file ends at) (itemHalves file ends item)
@@ -80,15 +80,15 @@ module _ {file ends : List ℕ} (o : EndsOf file ends) where
     consequent-at = record { ends-of = o; any = m .consequent; inside = v };
   }
 
-  pub seen-at : {a : ℕ} (view : View) {item : Item} → item ≡ seenItem ends view a → MemberAt file ends a →
+  pub seen-at : {a : ℕ} (view : View) {item : FormedMember} → item ≡ seenItem ends view a → MemberAt file ends a →
       ViewAt file ends view → ItemAt file ends item
   seen-at view e m v = subst (ItemAt file ends) (sym e) (seen-view view m v)
 
-  pub plain-at : {a : ℕ} {item : Item} → item ≡ seenItem ends Plain a → MemberAt file ends a → ItemAt file ends item
+  pub plain-at : {a : ℕ} {item : FormedMember} → item ≡ seenItem ends Plain a → MemberAt file ends a → ItemAt file ends item
   unfolding ViewAt
   plain-at e m = seen-at Plain e m tt
 
-  pub pair-at : {f b : ℕ} {item : Item} → item ≡ pairItem f b → AnyAt file ends f → AnyAt file ends b → ItemAt file ends item
+  pub pair-at : {f b : ℕ} {item : FormedMember} → item ≡ pairItem f b → AnyAt file ends f → AnyAt file ends b → ItemAt file ends item
   unfolding AntecedentAt ConsequentAt
   pair-at e x y =
       subst (ItemAt file ends) (sym e) (record { antecedent-at = any-known o x; consequent-at = any-known o y })
@@ -97,7 +97,7 @@ module _ {file ends : List ℕ} (o : EndsOf file ends) where
   unfolding AntecedentAt ConsequentAt
   certain-at y = record { antecedent-at = tt; consequent-at = any-known o y }
 
-pub see : {file ends : List ℕ} {at a : ℕ} {view : View} {item : Item} → CanSee file ends at a view →
+pub see : {file ends : List ℕ} {at a : ℕ} {view : View} {item : FormedMember} → CanSee file ends at a view →
     item ≡ seenItem ends view a → CanCompare file ends at item
 see {view = view} p e = record {
   ends-of = p .ends-of;

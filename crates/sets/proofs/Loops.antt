@@ -17,7 +17,7 @@ use Rattle.sets.specs.Items.{pastMember, Halves, itemHalves, seenAs, wri
 use Rattle.sets.specs.Lists.{seenAll, standsIn, withinAll, withoutAll}
 use Rattle.sets.specs.Standing.{MemberAt, MembersAt}
 use Rattle.sets.specs.declared.item.View.{View}
-use Rattle.sets.specs.declared.item.Item.{Item}
+use Rattle.sets.specs.declared.item.FormedMember.{FormedMember}
 use Rattle.sets.proofs.Equal.{sameHalves-sym}
 
 module _ (file ends : List ℕ) where
@@ -122,7 +122,7 @@ module _ (p q : List Halves) (x : Halves) (b : Bool) (e : b ≡ (standsIn x p ||
   rest-skip h z = rw (rest z, ← e, h)
 
 -- what the functions that compare items say, in the terms of the loops
-module _ (file ends : List ℕ) {item other : Item} (s : item ≡ other) {b : Bool} where
+module _ (file ends : List ℕ) {item other : FormedMember} (s : item ≡ other) {b : Bool} where
   pub same-as : (x : Halves) → b ≡ sameHalves x (itemHalves file ends item) → b ≡ sameHalves x (itemHalves file ends other)
   same-as x e = rw (← s) e
 

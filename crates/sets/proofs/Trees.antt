@@ -37,7 +37,7 @@ use Rattle.sets.specs.Trees.{stands-empty, stands-one, stands-plain, sta
 use Rattle.sets.specs.Trees.{stands-without}
 use Rattle.sets.specs.declared.item.View.{View}
 use Rattle.sets.specs.declared.item.View.the-variants.{Plain, Under, Unless, Replaced}
-use Rattle.sets.specs.declared.item.Item.{Item}
+use Rattle.sets.specs.declared.item.FormedMember.{FormedMember}
 use Rattle.sets.specs.declared.pile.Pile.{Pile}
 use Rattle.sets.specs.declared.pile.Piles.{Piles}
 use Rattle.sets.proofs.Equal as equal
@@ -91,7 +91,7 @@ pub record AllShown (file ends : List ℕ) (l : List Halves) (p : Members) : Typ
   pub fit-all : FitsAll p
 
 -- an item, half by half
-pub item-shows : {file ends : List ℕ} {item : Item} {φ : Expr Boolean} {k : Sort} {e : Expr k} →
+pub item-shows : {file ends : List ℕ} {item : FormedMember} {φ : Expr Boolean} {k : Sort} {e : Expr k} →
     AntecedentIs file ends (item .antecedent) φ → ConsequentIs file ends (item .consequent) e →
     (itemHalves file ends item ≡ halvesOf (member φ e)) × FitsMember (member φ e)
 unfolding itemHalves

@@ -17,21 +17,21 @@ use Rattle.compare.specs.declared.antecedent.Antecedent.the-variants.{Written a
 use Rattle.compare.specs.declared.consequent.Consequent.the-variants.{Written, Replaced as Exchanged}
 use Rattle.sets.specs.declared.item.View.{View}
 use Rattle.sets.specs.declared.item.View.the-variants.{Plain, Under, Unless, Replaced}
-use Rattle.sets.specs.declared.item.Item.{Item}
+use Rattle.sets.specs.declared.item.FormedMember.{FormedMember}
 
 abbrev pub pastMember : List ℕ → ℕ → ℕ
 pastMember ends at = endAt ends (endAt ends at)
 
-unfoldable pub seenItem : List ℕ → View → ℕ → Item
+unfoldable pub seenItem : List ℕ → View → ℕ → FormedMember
 seenItem ends Plain a = record { antecedent = Alone a; consequent = Written (endAt ends a) }
 seenItem ends (Under b) a = record { antecedent = And a b; consequent = Written (endAt ends a) }
 seenItem ends (Unless b) a = record { antecedent = AndNot a b; consequent = Written (endAt ends a) }
 seenItem ends (Replaced put) a = record { antecedent = Changed a put; consequent = Exchanged (endAt ends a) put }
 
-abbrev pub pairItem : ℕ → ℕ → Item
+abbrev pub pairItem : ℕ → ℕ → FormedMember
 pairItem f b = record { antecedent = Alone f; consequent = Written b }
 
-abbrev pub certainItem : ℕ → Item
+abbrev pub certainItem : ℕ → FormedMember
 certainItem b = record { antecedent = True; consequent = Written b }
 
 pub record Halves : Type 0 where
@@ -39,7 +39,7 @@ pub record Halves : Type 0 where
   pub right : List ℕ
 
 module _ (file ends : List ℕ) where
-  unfoldable pub itemHalves : Item → Halves
+  unfoldable pub itemHalves : FormedMember → Halves
   itemHalves item =
       record { left = antecedentNumbers file ends (item .antecedent); right = consequentNumbers file ends (item .consequent) }
 

@@ -19,7 +19,7 @@ use Rattle.compare.specs.Forms.{AntecedentAt, ConsequentAt}
 use Rattle.sets.specs.Items.{pastMember}
 use Rattle.sets.specs.declared.item.View.{View}
 use Rattle.sets.specs.declared.item.View.the-variants.{Plain, Under, Unless, Replaced}
-use Rattle.sets.specs.declared.item.Item.{Item}
+use Rattle.sets.specs.declared.item.FormedMember.{FormedMember}
 
 -- a member's two places are in the list of ends
 pub record CanPass (ends : List ℕ) (at : ℕ) : Type 0 where
@@ -37,11 +37,11 @@ module _ (file ends : List ℕ) where
   ViewAt (Unless b) = AnyAt file ends b
   ViewAt (Replaced put) = put .to ≤ length file
 
-  pub record ItemAt (item : Item) : Type 0 where
+  pub record ItemAt (item : FormedMember) : Type 0 where
     pub antecedent-at : AntecedentAt file ends (item .antecedent)
     pub consequent-at : ConsequentAt file ends (item .consequent)
 
-  pub record CanCompare (at : ℕ) (item : Item) : Type 0 where
+  pub record CanCompare (at : ℕ) (item : FormedMember) : Type 0 where
     pub ends-of : EndsOf file ends
     pub member : MemberAt at
     pub item-at : ItemAt item
@@ -58,7 +58,7 @@ module _ (file ends : List ℕ) where
   MembersAt (suc n) at = MemberAt at × MembersAt n (pastMember ends at)
 
   -- an item is looked for among the k members at `at`
-  pub record CanFind (k at : ℕ) (item : Item) : Type 0 where
+  pub record CanFind (k at : ℕ) (item : FormedMember) : Type 0 where
     pub ends-of : EndsOf file ends
     pub members : MembersAt k at
     pub item-at : ItemAt item

@@ -22,7 +22,7 @@ pub enum View {
 }
 
 // A member φ ⇒ E as the rules form it: φ and E, each compared in its own way.
-pub struct Item {
+pub struct FormedMember {
     pub antecedent: Antecedent,
     pub consequent: Consequent,
 }
@@ -37,25 +37,25 @@ pub fn past_member(ends: &[u32], at: usize) -> usize
 }
 
 // The member at a, seen as the view says.
-pub fn seen_item(ends: &[u32], a: usize, view: View) -> Item
+pub fn seen_item(ends: &[u32], a: usize, view: View) -> FormedMember
     requires { ⌜ a < length (now ends) ⌝ }
     ensures { λ r. ⌜ r ≡ seenItem (now (ends .entry)) view a ⌝ }
 {
     let middle = end_at(ends, a);
     match view {
-        View::Plain => Item {
+        View::Plain => FormedMember {
             antecedent: Antecedent::Written(a),
             consequent: Consequent::Written(middle),
         },
-        View::Under(b) => Item {
+        View::Under(b) => FormedMember {
             antecedent: Antecedent::And(a, b),
             consequent: Consequent::Written(middle),
         },
-        View::Unless(b) => Item {
+        View::Unless(b) => FormedMember {
             antecedent: Antecedent::AndNot(a, b),
             consequent: Consequent::Written(middle),
         },
-        View::Replaced(put) => Item {
+        View::Replaced(put) => FormedMember {
             antecedent: Antecedent::Replaced(a, put),
             consequent: Consequent::Replaced(middle, put),
         },
@@ -63,10 +63,10 @@ pub fn seen_item(ends: &[u32], a: usize, view: View) -> Item
 }
 
 // φ ⇒ E by the places of φ and E.
-pub fn pair_item(f: usize, b: usize) -> Item
+pub fn pair_item(f: usize, b: usize) -> FormedMember
     ensures { λ r. ⌜ r ≡ pairItem f b ⌝ }
 {
-    Item {
+    FormedMember {
         antecedent: Antecedent::Written(f),
         consequent: Consequent::Written(b),
     }
@@ -74,7 +74,7 @@ pub fn pair_item(f: usize, b: usize) -> Item
 
 // Whether the written member at `at` is the item: its antecedent as antecedents are compared, its consequent by words.
 // Consequents first: more members of a set differ in them.
-pub fn same_item(w: &[u32], ends: &[u32], at: usize, item: Item) -> bool
+pub fn same_item(w: &[u32], ends: &[u32], at: usize, item: FormedMember) -> bool
     requires { ⌜ CanCompare (now w) (now ends) «at» item ⌝ }
     ensures { λ r. ⌜ r ≡ sameHalves (writtenHalves (now (w .entry)) (now (ends .entry)) «at»)
         (itemHalves (now (w .entry)) (now (ends .entry)) item) ⌝ }
@@ -112,21 +112,21 @@ pub fn same_seen(w: &[u32], ends: &[u32], at: usize, a: usize, view: View) -> bo
     match view {
         View::Plain => same_pair(w, ends, at, a, middle),
         View::Under(b) => {
-            let item = Item {
+            let item = FormedMember {
                 antecedent: Antecedent::And(a, b),
                 consequent: Consequent::Written(middle),
             };
             same_item(w, ends, at, item)
         }
         View::Unless(b) => {
-            let item = Item {
+            let item = FormedMember {
                 antecedent: Antecedent::AndNot(a, b),
                 consequent: Consequent::Written(middle),
             };
             same_item(w, ends, at, item)
         }
         View::Replaced(put) => {
-            let item = Item {
+            let item = FormedMember {
                 antecedent: Antecedent::Replaced(a, put),
                 consequent: Consequent::Replaced(middle, put),
             };

@@ -1,4 +1,4 @@
-use crate::item::Item;
+use crate::item::FormedMember;
 use crate::item::View;
 use crate::item::past_member;
 use crate::item::same_item;
@@ -11,7 +11,7 @@ ghost use Rattle.sets.specs.Lists.{seenAll, written, standsIn, withinAll
 ghost use Rattle.sets.specs.Standing.{CanFind, CanLook, CanHold, CanEither, CanRest};
 
 // Whether the item is one of the k written members at `at`.
-pub fn has_item(w: &[u32], ends: &[u32], k: usize, at: usize, item: Item) -> bool
+pub fn has_item(w: &[u32], ends: &[u32], k: usize, at: usize, item: FormedMember) -> bool
     requires { ⌜ CanFind (now w) (now ends) k «at» item ⌝ }
     ensures { λ r. ⌜ r ≡ standsIn (itemHalves (now (w .entry)) (now (ends .entry)) item)
         (written (now (w .entry)) (now (ends .entry)) k «at») ⌝ }

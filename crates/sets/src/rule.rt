@@ -1,4 +1,4 @@
-use crate::item::Item;
+use crate::item::FormedMember;
 use crate::item::View;
 use crate::member::has_item;
 use crate::pile::Pile;
@@ -110,7 +110,7 @@ pub fn test_stands(w: &[u32], ends: &[u32], p: usize, b: usize) -> bool
     ensures { λ r. ⌜ TestStands (now (w .entry)) (now (ends .entry)) p b r ⌝ }
 {
     let k = count(w, p);
-    let item = Item {
+    let item = FormedMember {
         antecedent: Antecedent::True,
         consequent: Consequent::Written(b),
     };
