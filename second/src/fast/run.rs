@@ -228,11 +228,10 @@ impl Runner<'_> {
             }
             TRUTH => Ok(u64::from(payload(word))),
             NOT => Ok(1 ^ self.boolean(at + 1)?),
-            kind => {
-                let a = self.boolean(at + 1)?;
-                let b = self.boolean(self.parts.end(at + 1))?;
-                Ok(if kind == AND { a & b } else { a | b })
-            }
+            // a false left side settles an and, a true one an or
+            AND if self.boolean(at + 1)? == 0 => Ok(0),
+            OR if self.boolean(at + 1)? == 1 => Ok(1),
+            _ => self.boolean(self.parts.end(at + 1)),
         }
     }
 }

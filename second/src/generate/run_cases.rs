@@ -1,6 +1,7 @@
 //! Runs for the runner: at the ends of the 64-bit range, of the indexes and
 //! of the budget, and with two faults in one command, so that their order
-//! tells (document 01, "Runner").
+//! tells (document 01, "Runner"); with a range tested before what has no
+//! value outside it (request [1]).
 
 use super::limits::limit;
 use super::parts::{self, Pool};
@@ -113,11 +114,53 @@ fn faulty_array(rng: &mut Prng, size: usize) -> Array {
     Array::Update(Box::new(array), Box::new(index), Box::new(value))
 }
 
+fn comparison(rng: &mut Prng) -> Comparison {
+    *rng.pick(&[Comparison::Equal, Comparison::Less, Comparison::LessOrEqual])
+}
+
+/// The sides joined in their order, nested to the left or to the right.
+fn joined(rng: &mut Prng, by: fn(Bool, Bool) -> Bool, [a, b, c]: [Bool; 3]) -> Bool {
+    if rng.once_in(2) {
+        by(by(a, b), c)
+    } else {
+        by(a, by(b, c))
+    }
+}
+
+/// The range of x, then a comparison that may have no value outside it, all joined by and; or that x is outside, by or.
+/// Of the first scalars some are in the range, and of the others most would be refused.
+fn guarded_bool(rng: &mut Prng) -> Bool {
+    let x = edge(rng);
+    let (low, value, high) = if rng.once_in(3) {
+        (-1_000, operate(Operator::Times, x.clone(), x.clone()), 1_000)
+    } else {
+        let array = Array::Identifier(rng.below(2) as u32);
+        (0, Arith::Select(Box::new(array), Box::new(x.clone())), 63)
+    };
+    let [low, high] = [low, high].map(Arith::Constant);
+    let last = compare(comparison(rng), value, edge(rng));
+    if rng.once_in(2) {
+        let within = |a, b| compare(Comparison::LessOrEqual, a, b);
+        joined(rng, and, [within(low, x.clone()), within(x, high), last])
+    } else {
+        let outside = |a, b| compare(Comparison::Less, a, b);
+        joined(rng, or, [outside(x.clone(), low), outside(high, x), last])
+    }
+}
+
+/// A guarded test alone; what it gave is seen in the store.
+fn guarded_if(rng: &mut Prng) -> Form {
+    let seen = command(Form::AssignScalar(EDGES.len() as u32, Arith::Constant(-1)));
+    Form::If(guarded_bool(rng), Box::new(seen), Box::new(skip()))
+}
+
 fn faulty_bool(rng: &mut Prng, size: usize) -> Bool {
+    if rng.once_in(2) {
+        return guarded_bool(rng);
+    }
     if size == 0 || rng.once_in(3) {
-        let c = *rng.pick(&[Comparison::Equal, Comparison::Less, Comparison::LessOrEqual]);
         let inner = size.min(2);
-        return compare(c, faulty_arith(rng, inner), faulty_arith(rng, inner));
+        return compare(comparison(rng), faulty_arith(rng, inner), faulty_arith(rng, inner));
     }
     match rng.below(5) {
         0 => Bool::Truth(rng.once_in(2)),
@@ -135,6 +178,7 @@ fn faulty_command(rng: &mut Prng, pool: &Pool, size: usize) -> Command {
         0 => Form::Assert(faulty_bool(rng, 2)),
         1 => Form::AssignScalar(rng.below(8) as u32, faulty_arith(rng, 2)),
         2 => Form::AssignArray(rng.below(2) as u32, faulty_array(rng, 2)),
+        3 | 4 if size == 0 => guarded_if(rng),
         _ if size == 0 => Form::Skip,
         3 => {
             let then = faulty_command(rng, pool, size - 1);

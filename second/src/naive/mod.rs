@@ -1,5 +1,6 @@
-//! Naive: the second implementation, of the check and of the runner, over trees, each sentence of document 01 and of request [3]
-//! (procedures) as it stands. It was written from these alone and shares no code with the proved crates nor with `fast`.
+//! Naive: the second implementation, of the check and of the runner, over trees, each sentence of document 01 and of requests [3]
+//! (procedures) and [1] (what a test of the runner works out) as it stands. It was written from these alone and shares no code
+//! with the proved crates nor with `fast`.
 //!
 //! Uses: layout.
 //! For: what the proved code and `fast` are compared with; the generator, the viewers and the examples stand on it.

@@ -1,6 +1,6 @@
 //! Document 01, "Runner": the command is run on a lent store of 64-bit
 //! values, within a budget of steps. Request [3]: a call is one step, before
-//! those of its body.
+//! those of its body. Request [1]: a left side may settle an and or an or.
 
 use super::read::read;
 use crate::layout::syntax::*;
@@ -204,7 +204,8 @@ impl Runner<'_> {
         }
     }
 
-    /// "Both sides of and and or too."
+    /// Request [1]: "A false left side of and, or a true left side of or, shall
+    /// settle the test, and the right side is not worked out."
     fn boolean(&self, b: &Bool) -> Valued<bool> {
         match b {
             Bool::Truth(t) => Ok(*t),
@@ -217,16 +218,8 @@ impl Runner<'_> {
                     Comparison::LessOrEqual => left <= right,
                 })
             }
-            Bool::And(left, right) => {
-                let left = self.boolean(left)?;
-                let right = self.boolean(right)?;
-                Ok(left && right)
-            }
-            Bool::Or(left, right) => {
-                let left = self.boolean(left)?;
-                let right = self.boolean(right)?;
-                Ok(left || right)
-            }
+            Bool::And(left, right) => Ok(self.boolean(left)? && self.boolean(right)?),
+            Bool::Or(left, right) => Ok(self.boolean(left)? || self.boolean(right)?),
             Bool::Not(inner) => Ok(!self.boolean(inner)?),
         }
     }
