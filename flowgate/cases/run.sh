@@ -1,12 +1,14 @@
 # flowrun: stores as words and files, ends and refusals, what changed, and bad use.
 
-# 63:6 31:32 24:0 32:0 32:0 33:10 is a `for` over scalar 0 up to scalar 1; store 63:9 .. sets array 31 at the index scalar 0 to -1
+# 63:6 31:32 24:0 32:0 32:0 33:10 is a `for` over scalar 0 up to scalar 1; store 63:9 .. sets array 31 at the index scalar 0 to -1;
+# guarded 63:18 .. sets scalar 1 to 1 if scalar 0 is at most 63 and array 0 has 1 there, else to 2
 run_files() {
     words 63:6 31:32 24:0 32:0 32:0 33:10 > upto
     words 63:9 28:31 18:0 16:31 2:0 1:67108863 32:0 32:0 33:10 > put
     words 63:8 27:0 3:2 2:0 2:0 32:0 32:0 33:10 > square
     words 63:6 26:0 9:0 32:0 32:0 33:10 > false
     words 63:6 27:0 2:31 32:0 32:0 33:10 > take
+    words 63:18 29:0 10:0 8:2 2:0 1:63 8:0 4:0 16:0 2:0 1:1 27:1 1:1 27:1 1:2 32:0 32:0 33:10 > guarded
 }
 
 runs_ended() {
@@ -29,6 +31,14 @@ END
 # take: ended after 1 step
 x0=0
 END
+    lines 0 guarded 2 x0=63 'a0[63]=1' << 'END'
+# guarded: ended after 2 steps
+x1=1
+END
+    lines 0 guarded 2 x0=64 << 'END'
+# guarded: ended after 2 steps
+x1=2
+END
     input=upto
     lines 0 - 11 x1=3 << 'END'
 # -: ended after 11 steps
@@ -50,6 +60,9 @@ END
 END
     lines 1 put 1 x0=64 << 'END'
 # put:1: refused 15: an index is outside 0 to 63; after 0 steps
+END
+    lines 1 guarded 2 x0=-1 << 'END'
+# guarded:1: refused 15: an index is outside 0 to 63; after 0 steps
 END
     lines 1 square 1 x0=3037000500 << 'END'
 # square:1: refused 14: a value leaves the signed 64-bit range; after 0 steps
@@ -260,5 +273,5 @@ all_runs() {
         esac
     done < table
     tried "$count"
-    [ "$count" -ge 265 ] || wrong "tests/runs.tsv: it has $count runs"
+    [ "$count" -ge 389 ] || wrong "tests/runs.tsv: it has $count runs"
 }
