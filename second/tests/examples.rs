@@ -176,11 +176,16 @@ fn the_guard_does_what_the_figure_says() {
 }
 
 /// The example, the store that its program is run from, and what comes of it.
-const RUNS: [(&str, &str, &str, &str); 13] = [
+const RUNS: [(&str, &str, &str, &str); 18] = [
     ("guard-procedure", "0=1,1=5,4=1,5=6,2=1", "ended", "0=0,6=1,7=5,8=1,9=6,10=1,12=5"),
     ("guard-procedure", "4=1,5=6", "ended", "2=1,3=6,4=0,9=6,10=1,11=6,12=6"),
     ("lookup", "0=63,95=9", "ended", "1=9"),
     ("lookup", "0=64,95=9", "refused 12 2", ""),
+    ("lookup-guarded", "1=7,2=5,32=1", "ended", "2=7"),
+    ("lookup-guarded", "0=63,1=7,2=5,95=1", "ended", "2=7"),
+    ("lookup-guarded", "0=63,1=7,2=5,94=1", "ended", "2=0"),
+    ("lookup-guarded", "0=64,1=7,2=5", "ended", "2=0"),
+    ("lookup-guarded", "0=-1,1=7,2=5", "ended", "2=0"),
     ("message", "0=1,32=5,33=6,98=7", "ended", "96=5,97=6"),
     ("message", "32=5,33=6,98=7", "ended", ""),
     ("scrub", "1=2,32=4,33=5,34=6,35=7", "ended", "0=4,2=3,33=0,34=0"),

@@ -46,6 +46,11 @@ fn before_assignment(c: &Command, q: &Set) -> Set {
     })
 }
 
+/// What rule 6 asks for before an if, with true for φ0: each set under the test or its denial, and the test.
+fn before_if(test: &Bool, s: &Set, t: &Set) -> Set {
+    [under(s, test), under(t, &not(test.clone())), agree![test.clone()]].concat()
+}
+
 /// (P, a scalar assignment, Q): P grows by these members to what rule 3 asks for.
 fn assignment(c: &Command, p: &Set, new: &Set, q: &Set) -> Box<Flow> {
     flow_of(FlowRule::F7 { m: before_assignment(c, q), set: grow(p, new), flow: flow_of(FlowRule::F3) })
@@ -91,6 +96,31 @@ fn lookup_narrow() -> Example {
     lookup_with("lookup-narrow", about, 31)
 }
 
+/// A letter is passed on if the guard's table has a 1 at its sender's number, and that number is in the range.
+fn lookup_guarded() -> Example {
+    let about = "A range and a lookup in one test: a letter is passed on if its sender is in the table of permitted ones.\n\
+        `out` derives from `in` where the sender is permitted, and from whether it is; of the sender's number and of the\n\
+        table nothing else is told. A number outside the range settles the test.\nAccepted.";
+    let (letter, out) = (1, 2);
+    let test = and(range(63), compare(Comparison::Equal, select(TABLE, x(INDEX)), number(1)));
+    let (s, t) = (agree![x(letter)], agree![number(0)]);
+    let pre = vec![member(test.clone(), x(letter)), member(always(), test.clone())];
+    let m = before_if(&test, &s, &t);
+    let set = grow(&pre, &m[..2]);
+    let (then, otherwise) = (flow_of(FlowRule::F3), flow_of(FlowRule::F3));
+    let flow = flow_of(FlowRule::F6 { s, t, phi0: always(), then, otherwise, before: before_of(BeforeRule::B29) });
+    Example {
+        name: "lookup-guarded",
+        about,
+        names: Names { scalars: &["from", "in", "out"], arrays: &["permitted"] },
+        procedures: Vec::new(),
+        program: if_else(test, assign(out, x(letter)), assign(out, number(0))),
+        pre,
+        post: agree![x(out)],
+        evidence: flow_of(FlowRule::F7 { m, set, flow }),
+    }
+}
+
 // message
 
 const OPEN: u32 = 0;
@@ -104,7 +134,7 @@ fn message_with(name: &'static str, about: &'static str, second: i64) -> Example
     let post = agree![array(OUT)];
     let m = before_assignment(&put_at(1, 1), &post);
     let s = before_assignment(&put_at(0, 0), &m);
-    let pre = [under(&s, &flag(OPEN)), under(&post, &not(flag(OPEN))), agree![flag(OPEN)]].concat();
+    let pre = before_if(&flag(OPEN), &s, &post);
     let evidence = flow_of(FlowRule::F6 {
         s,
         t: post.clone(),
@@ -201,15 +231,10 @@ fn wage_without_hours() -> Example {
     wage_with("wage-without-hours", about, false)
 }
 
-/// What rule 6 asks for before the if: each sum under the test or its denial, and the test.
-fn total_cases(test: &Bool, s: &Set, t: &Set) -> Set {
-    [under(s, test), under(t, &not(test.clone())), agree![test.clone()]].concat()
-}
-
 /// The if of one round: the sum by cases, all that the loop keeps besides by rule 10.
 fn total_round(i: &Set, is_first: fn(Arith) -> Bool, sums: [Set; 2]) -> Box<Flow> {
     let [s, t] = sums;
-    let cases = total_cases(&is_first(x(Q)), &s, &t);
+    let cases = before_if(&is_first(x(Q)), &s, &t);
     let mut rest = before_assignment(&assign(Q, next()), i);
     rest.retain(|member| member.e != x(SUM).into());
     let new = [agree![next(), test(next()), is_first(next())], s.clone(), t.clone(), cases[..2].to_vec()].concat();
@@ -291,6 +316,7 @@ pub fn examples() -> Vec<Example> {
     vec![
         lookup(),
         lookup_narrow(),
+        lookup_guarded(),
         message(),
         message_crossed(),
         scrub(),
