@@ -14,13 +14,14 @@ pub struct Program {
     bodies: fn() -> Vec<Command>,
 }
 
-pub const PROGRAMS: [Program; 6] = [
+pub const PROGRAMS: [Program; 7] = [
     Program { name: "loop", does: "a tight `for` with an if and a sum", make: tight, bodies: Vec::new },
     Program { name: "arithmetic", does: "a while over sums, differences and products", make: arithmetic, bodies: Vec::new },
     Program { name: "nest", does: "a `for` in a `for`", make: nest, bodies: Vec::new },
     Program { name: "elements", does: "an array's elements counted up, one by one", make: elements, bodies: Vec::new },
     Program { name: "mailbox", does: "steps of the mailbox guard", make: mailbox, bodies: Vec::new },
     Program { name: "calls", does: "a `for` over a procedure that calls another", make: calls, bodies: called },
+    Program { name: "guarded", does: "an array looked up where the index is in the range", make: guarded, bodies: Vec::new },
 ];
 
 impl Program {
@@ -55,7 +56,7 @@ fn tight() -> Command {
     repeat(0, 1, if_else(test, set(4, plus(scalar(4), scalar(0))), skip()))
 }
 
-/// while 0 < 1 and 4 < 5 + 1: (0 := 0 + 1; 4 := 0 × 3 − (4 + 7); 5 := 4 × 4)
+/// while 0 < 1 and not 5 < 0: (0 := 0 + 1; 4 := 0 × 3 − (4 + 7); 5 := 4 × 4)
 fn arithmetic() -> Command {
     let less = |a, b| compare(Comparison::Less, a, b);
     let test = and(less(scalar(0), scalar(1)), not(less(scalar(5), number(0))));
@@ -75,15 +76,30 @@ fn nest() -> Command {
     repeat(4, 3, repeat(5, 3, set(6, plus(scalar(6), scalar(5)))))
 }
 
-/// for 4 up to 2: (array 0 at 5 counted up; if 5 < 63 then 5 := 5 + 1 else 5 := 0)
+/// for 4 up to 2: (array 0 at 5 counted up; 5 := the next index up to 63)
 fn elements() -> Command {
     let array = || Box::new(Array::Identifier(0));
     let index = || Box::new(scalar(5));
     let more = plus(Arith::Select(array(), index()), number(1));
     let count = command(Form::AssignArray(0, Array::Update(array(), index(), Box::new(more))));
-    let test = compare(Comparison::Less, scalar(5), number(63));
-    let next = if_else(test, set(5, plus(scalar(5), number(1))), set(5, number(0)));
-    repeat(4, 2, sequence(count, next))
+    repeat(4, 2, sequence(count, next_index(63)))
+}
+
+/// if 5 < last then 5 := 5 + 1 else 5 := 0
+fn next_index(last: i64) -> Command {
+    let test = compare(Comparison::Less, scalar(5), number(last));
+    if_else(test, set(5, plus(scalar(5), number(1))), set(5, number(0)))
+}
+
+/// for 4 up to 2: (if (0 ≤ 5 and 5 ≤ 63) and array 0 at 5 = 0 then 6 := 6 + 1 else skip; 5 := the next index up to 127).
+/// Half the time the range settles the test (request [1]).
+fn guarded() -> Command {
+    let at_most = |a, b| compare(Comparison::LessOrEqual, a, b);
+    let range = and(at_most(number(0), scalar(5)), at_most(scalar(5), number(63)));
+    let found = Arith::Select(Box::new(Array::Identifier(0)), Box::new(scalar(5)));
+    let test = and(range, compare(Comparison::Equal, found, number(0)));
+    let count = if_else(test, set(6, plus(scalar(6), number(1))), skip());
+    repeat(4, 2, sequence(count, next_index(127)))
 }
 
 /// for 4 up to 2: call procedure 1
