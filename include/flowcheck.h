@@ -12,7 +12,7 @@
 
 /* The version of these calls and of what their numbers mean. It is written here alone. */
 #define FLOWCHECK_VERSION_MAJOR 1
-#define FLOWCHECK_VERSION_MINOR 1
+#define FLOWCHECK_VERSION_MINOR 2
 #define FLOWCHECK_VERSION_PATCH 0
 #define FLOWCHECK_QUOTE(a, b, c) #a "." #b "." #c
 #define FLOWCHECK_QUOTED(a, b, c) FLOWCHECK_QUOTE(a, b, c)
@@ -51,6 +51,7 @@ uint32_t flow_postcondition(const uint8_t *file, size_t count);
 /* Runs the file's program in the lent store, without judging its evidence, for at most `budget` steps. `n` must be FLOW_SCALARS and `k`
  * FLOW_VALUES: array a's index i is value FLOW_INDEXES * a + i. The upper 32 bits of the answer are the steps finished. The lower 32
  * are 0 if the run ended, and the store is then the ending store; else number * 65,536 + place, the number one of 1 to 7 and 10 to 16.
+ * The right side of an and whose left side is false, and of an or whose left side is true, is not worked out: it gives no 14 and no 15.
  * For 1 to 11 and 16 no step is finished and the store is untouched. For 12 to 15 the place is that of the command, in a procedure's
  * body if it stands there, and the store is as before the step that was due. */
 uint64_t flow_run(const uint8_t *file, size_t count, int64_t *scalars, size_t n, int64_t *values, size_t k, size_t budget);
