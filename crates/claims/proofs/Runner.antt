@@ -11,6 +11,7 @@ use Rattle.rules.specs.Context.{Limits}
 use Rattle.layout.specs.File.{File}
 use Rattle.execution.specs.Lent.{Lent, storeOf}
 use Rattle.execution.specs.Ran.{Answer, Ran, runOf}
+use Rattle.execution.specs.Refusal.{refusal}
 use Rattle.execution.specs.Executes.{Executes, ends, stops}
 use Rattle.execution.proofs.ReadFile.{ReadingNumber, file-refused}
 use Rattle.execution.proofs.Order.{not-read-is, over-budget-is, ill-sized-is}
@@ -19,9 +20,9 @@ use Rattle.execution.proofs.Exact.{held-itself, executes-number, executed, repo
 use Rattle.claims.specs.Runner.{Starts, OfRun, Runner}
 
 -- what the definition comes to is an answer of a run
-of-run : {f : File} {s : Store} {budget : ℕ} {a : Answer} {n : ℕ} {t : Store} → Executes f s budget a n t → OfRun a
-of-run (ends u r) = tt
-of-run (stops u due said) = executes-number (stops u due said)
+of-run : (budget : ℕ) {f : File} {s : Store} {a : Answer} {n : ℕ} {t : Store} → Executes (refusal budget) f s a n t → OfRun a
+of-run budget (ends u r) = tt
+of-run budget (stops u due said) = executes-number budget (stops u due said)
 
 -- a refusal at reading is none of a run
 not-of-run : (k : ℕ) → ReadingNumber k → (12 ≤ k) × (k ≤ 15) → ⊥
@@ -31,7 +32,7 @@ module _ (limits : Limits) (bytes : List ℕ) (budget : ℕ) (m : Lent) where
   ran : (f : File) → Starts limits bytes budget m f → OfRun (runOf limits bytes budget m .answer)
   ran f h =
       let x = executed limits bytes budget m f (h .end) (h .reads) (h .affordable) (h .sized) (storeOf m) (held-itself m) in
-      subst OfRun (sym (x .reports .answer)) (of-run (x .executes))
+      subst OfRun (sym (x .reports .answer)) (of-run budget (x .executes))
 
   only-run : {r : Ran} → StepJudged limits bytes budget m r → OfRun (r .answer) → (f : File) × Starts limits bytes budget m f
   only-run (not-read {k = k} {p = p} e) x = absurd (not-of-run k (file-refused limits bytes k p e) x)

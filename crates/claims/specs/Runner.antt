@@ -1,5 +1,5 @@
--- Demand 2 of the runner: it gives the end, store and step count of the language's definition, or stops where document 01
--- says and nowhere else.
+-- Demand 2 of the runner: it gives the end, store and step count of the language's definition, or stops where document 01, with the
+-- order of request [1] of document 02, says and nowhere else.
 -- Trusted. Assumes nothing.
 --     Starts    the file reads, and the budget and the lent store are such that its program is run
 --     OfRun     the answers of a run: it ended, or 12 to 15 is said
@@ -14,6 +14,7 @@ use Rattle.layout.specs.Reading.{read, fault}
 use Rattle.layout.specs.File.{File, fileOf}
 use Rattle.execution.specs.Lent.{Lent, HeldBy}
 use Rattle.execution.specs.Ran.{Answer, done, refused, wellSized, notRun, runOf}
+use Rattle.execution.specs.Refusal.{refusal}
 use Rattle.execution.specs.Executes.{Executes, Reports}
 
 pub record Starts (limits : Limits) (bytes : List ℕ) (budget : ℕ) (m : Lent) (f : File) : Type 0 where
@@ -40,7 +41,7 @@ pub record Runner (limits : Limits) (bytes : List ℕ) (budget : ℕ) (m : Lent)
   -- the definition, from every store that holds the lent values, comes to what the runner reports ..
   pub sound : (f : File) → Starts limits bytes budget m f → (s : Store) → HeldBy m s →
       (a : Answer) × (n : ℕ) × (t : Store)
-      × Executes f s budget a n t × Reports (runOf limits bytes budget m) a n t
+      × Executes (refusal budget) f s a n t × Reports (runOf limits bytes budget m) a n t
   -- .. and to nothing else
   pub complete : (f : File) → Starts limits bytes budget m f → (s : Store) → HeldBy m s → (a : Answer) (n : ℕ)
-      (t : Store) → Executes f s budget a n t → Reports (runOf limits bytes budget m) a n t
+      (t : Store) → Executes (refusal budget) f s a n t → Reports (runOf limits bytes budget m) a n t

@@ -1,6 +1,6 @@
 -- Where the operands of an expression stand, and that they can be worked out.
 -- Assumes nothing.
---     left                                              thrice the words left from a place on
+--     left                                              the words left from a place on, four times
 --     Operand                                           an operand stands at a place, which the list of ends has
 --     end-is, moved                                     the end of an expression is in the list of ends; what stands behind it
 --     only-operand, first-operand, second-operand       the operands, by the parts
@@ -16,7 +16,7 @@ use Rattle.heads.specs.Stands.{PartAt, ExpressionStands}
 use Rattle.heads.proofs.Parts.{expression-inside, One, Two, Three}
 
 abbrev pub left : List ℕ → ℕ → ℕ
-left w at = 3 * (length w - at)
+left w at = 4 * (length w - at)
 
 -- an expression of any sort
 abbrev pub part : (k : Sort) → Expr k → Part

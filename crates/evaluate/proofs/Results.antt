@@ -2,13 +2,15 @@
 -- Assumes nothing.
 --     after-both                                                           one outcome after another
 --     held-worked                                                          a number as the code holds it
---     constant-worked, scalar-worked, operation-worked, select-worked      arithmetic
+--     constant-worked, scalar-worked, operation-worked                     arithmetic
+--     element-worked, select-worked                                        a select, from an array of the store and from any
 --     identifier-filled, zeros-filled, update-filled                       arrays
 --     compare-tested, truth-tested, and-tested, or-tested, not-tested      booleans
+--     and-settled, or-settled                                              by the left side alone
 use mathlib.Core.Path.{_≡_, refl, sym, ap, _∙_}
-use mathlib.Core.Bool.{Bool, true, false, not, _&&_, _||_}
+use mathlib.Core.Bool.{Bool, true, false, not, cond, _&&_}
 use mathlib.Core.List.{List}
-use Prim.Native.Nat.{ℕ, _+_, _<_}
+use Prim.Native.Nat.{ℕ, _+_, _*_, _<_}
 use native.Mathlib.Omega.{arith}
 use borrow.Author.Tests.{leb-true}
 use lib.Dec.{leb}
@@ -18,6 +20,7 @@ use mir.Syntax.{w64}
 use mir.Val.{SFits, toZ, ofZ}
 use Rattle.laws.proofs.Bools.{and-right}
 use Rattle.language.specs.Syntax as syntax
+use Rattle.language.specs.Syntax.{select}
 use Rattle.language.specs.Store.{sameInteger, put, apply, relate}
 use Rattle.execution.specs.Lent.{lent, storeOf, elementAt, elements}
 use Rattle.execution.specs.Evaluate.{Evaluation, worked, stops, onWorked, tested, index, evaluate}
@@ -153,6 +156,30 @@ module _ {w ends : List ℕ} {ss vs : List ℤ} {at : ℕ} {s : List ℕ} where
         (onward (λ v. worked (not v)) (f .is (t .first) p (t .first-at)) (answered q));
   }
 
+  -- the left side settles the test, whose value is then its own
+  module _ {a : Bool} {s₁ : List ℕ} (f : Evaluates syntax.Boolean w ends ss vs (at + 1) s a s₁) where
+    pub and-settled : booleanAt w at ≡ And → a ≡ false → Evaluates syntax.Boolean w ends ss vs at s a s₁
+    unfolding evaluate
+    and-settled h i = record {
+      is = λ e p x.
+          let t = boolean-parts e x h in
+          let m = storeOf (lent ss vs) in
+          answered-as (sym (ap (λ y. evaluate y m) (t .is)))
+          (onward (λ v. cond v (evaluate (t .second) m) (worked false)) (f .is (t .first) (t .middle) (t .first-at))
+          (rw i (answered refl)));
+    }
+
+    pub or-settled : booleanAt w at ≡ Or → a ≡ true → Evaluates syntax.Boolean w ends ss vs at s a s₁
+    unfolding evaluate
+    or-settled h i = record {
+      is = λ e p x.
+          let t = boolean-parts e x h in
+          let m = storeOf (lent ss vs) in
+          answered-as (sym (ap (λ y. evaluate y m) (t .is)))
+          (onward (λ v. cond v (worked true) (evaluate (t .second) m)) (f .is (t .first) (t .middle) (t .first-at))
+          (rw i (answered refl)));
+    }
+
   -- the second operand stands where the first ends
   module _ {q : ℕ} (next : q ≡ getD ends (at + 1) 0) {s₁ s₂ : List ℕ} where
     module _ {a b : ℤ} (f : Evaluates syntax.Arithmetic w ends ss vs (at + 1) s a s₁)
@@ -189,35 +216,49 @@ module _ {w ends : List ℕ} {ss vs : List ℤ} {at : ℕ} {s : List ℕ} where
             (answered (i ∙ held-two (relate (comparisonMeant c)) fa fb))));
       }
 
+    -- the left side does not settle the test, so that the right side's value is the test's
     module _ {a b : Bool} (f : Evaluates syntax.Boolean w ends ss vs (at + 1) s a s₁)
-        (g : Evaluates syntax.Boolean w ends ss vs q s₁ b s₂) {r : Bool} where
-      pub and-tested : booleanAt w at ≡ And → r ≡ (a && b) → Evaluates syntax.Boolean w ends ss vs at s r s₂
+        (g : Evaluates syntax.Boolean w ends ss vs q s₁ b s₂) where
+      pub and-tested : booleanAt w at ≡ And → a ≡ true → Evaluates syntax.Boolean w ends ss vs at s b s₂
       unfolding evaluate
       and-tested h i = record {
         is = λ e p x.
             let t = boolean-parts e x h in
             let m = storeOf (lent ss vs) in
             answered-as (sym (ap (λ y. evaluate y m) (t .is)))
-            (onward (λ v. onWorked (evaluate (t .second) m) λ z. worked (v && z))
-            (f .is (t .first) (t .middle) (t .first-at))
-            (onward (λ z. worked (a && z)) (g .is (t .second) p (moved (t .first) next (t .first-at) (t .second-at)))
-            (answered i)));
+            (onward (λ v. cond v (evaluate (t .second) m) (worked false)) (f .is (t .first) (t .middle) (t .first-at))
+            (rw i (g .is (t .second) p (moved (t .first) next (t .first-at) (t .second-at)))));
       }
 
-      pub or-tested : booleanAt w at ≡ Or → r ≡ (a || b) → Evaluates syntax.Boolean w ends ss vs at s r s₂
+      pub or-tested : booleanAt w at ≡ Or → a ≡ false → Evaluates syntax.Boolean w ends ss vs at s b s₂
       unfolding evaluate
       or-tested h i = record {
         is = λ e p x.
             let t = boolean-parts e x h in
             let m = storeOf (lent ss vs) in
             answered-as (sym (ap (λ y. evaluate y m) (t .is)))
-            (onward (λ v. onWorked (evaluate (t .second) m) λ z. worked (v || z))
-            (f .is (t .first) (t .middle) (t .first-at))
-            (onward (λ z. worked (a || z)) (g .is (t .second) p (moved (t .first) next (t .first-at) (t .second-at)))
-            (answered i)));
+            (onward (λ v. cond v (worked true) (evaluate (t .second) m)) (f .is (t .first) (t .middle) (t .first-at))
+            (rw i (g .is (t .second) p (moved (t .first) next (t .first-at) (t .second-at)))));
       }
 
-    -- an array, then an index n that is tested
+    -- an array of the store, then an index n that is tested
+    pub element-worked : {a : ℕ} {i z : ℤ} {n : ℕ} → Evaluates syntax.Arithmetic w ends ss vs q s i s₁ → SFits w64 i →
+        Indexes s₁ (toZ w64 (ofZ w64 i)) n s₂ → arithmeticAt w at ≡ Select → arrayAt w (at + 1) ≡ Identifier a → SFits w64 z →
+        z ≡ getD vs (64 * a + n) (pos 0) → Evaluates syntax.Arithmetic w ends ss vs at s (toZ w64 (ofZ w64 z)) s₂
+    unfolding evaluate
+    element-worked {a} g fi k h y fz j = record {
+      is = λ e p x.
+          let t = arithmetic-parts e x h in
+          let m = storeOf (lent ss vs) in
+          let second = moved (t .first) next (t .first-at) (t .second-at) in
+          answered-as
+          (sym (ap (λ y. evaluate y m) (t .is)
+          ∙ ap (λ y. evaluate (select y (t .second)) m) (array-parts (t .first) (t .first-at) y .0)))
+          (onward (λ v. worked (elementAt vs a v))
+          (onward (λ v. index (worked v)) (g .is (t .second) p second) (indexed fi k)) (answered (back fz ∙ j)));
+    }
+
+    -- any array, then an index n that is tested
     module _ {l : List ℤ} {i : ℤ} {n : ℕ} {s₃ : List ℕ} (f : Fills w ends ss vs (at + 1) s l s₁)
         (g : Evaluates syntax.Arithmetic w ends ss vs q s₁ i s₂) (fi : SFits w64 i)
         (k : Indexes s₂ (toZ w64 (ofZ w64 i)) n s₃) where

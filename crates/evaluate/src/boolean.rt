@@ -1,4 +1,5 @@
-// Boolean expressions. The words left from a place on fall.
+// Boolean expressions. A false left side settles an and, a true one an or, and the right side is not looked at (document 02,
+// request [1]). The words left from a place on fall.
 use super::Progress;
 use super::expression::eval_operand;
 use ends::end_at;
@@ -31,15 +32,11 @@ pub fn eval_boolean(
         BooleanWord::Truth(t) => t,
         BooleanWord::And => {
             let a = eval_boolean(w, ends, at + 1, scalars, values, progress);
-            let second = end_at(ends, at + 1);
-            let b = eval_boolean(w, ends, second, scalars, values, progress);
-            a && b
+            a && eval_boolean(w, ends, end_at(ends, at + 1), scalars, values, progress)
         }
         BooleanWord::Or => {
             let a = eval_boolean(w, ends, at + 1, scalars, values, progress);
-            let second = end_at(ends, at + 1);
-            let b = eval_boolean(w, ends, second, scalars, values, progress);
-            a || b
+            a || eval_boolean(w, ends, end_at(ends, at + 1), scalars, values, progress)
         }
         BooleanWord::Not => {
             let a = eval_boolean(w, ends, at + 1, scalars, values, progress);

@@ -63,8 +63,33 @@ pub fn eval_arithmetic(
     }
 }
 
-// A select stands at the place: array, then index.
+// A select stands at the place: array, then index. Of an array of the store only the value at the index is read.
 fn eval_select(
+    w: &[u32; 8192],
+    ends: &[u32; 8753],
+    at: usize,
+    scalars: &[i64; 32],
+    values: &[i64; 2048],
+    progress: &mut Progress,
+) -> i64
+    requires { ⌜ CanSelect (now w) (now ends) «at» ⌝ }
+    ensures { λ r. ⌜ Evaluates Arithmetic (now (w .entry)) (now (ends .entry)) (now (scalars .entry)) (now (values .entry))
+        «at» (now (progress .entry)) r (now (progress .exit)) ⌝ }
+{
+    let head = array_head(w, at + 1);
+    match head {
+        ArrayWord::Identifier(a) => {
+            let second = end_at(ends, at + 1);
+            let i = eval_operand(w, ends, second, scalars, values, progress);
+            let n = to_index(i, progress);
+            value_at(values, 64 * a as usize + n)
+        }
+        _ => select_whole(w, ends, at, scalars, values, progress),
+    }
+}
+
+// The same of any array, whose 64 values are worked out.
+fn select_whole(
     w: &[u32; 8192],
     ends: &[u32; 8753],
     at: usize,

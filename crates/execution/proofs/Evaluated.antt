@@ -4,6 +4,7 @@
 --     Near                 equal values; arrays equal at 0 to 63
 --     WorkedOut            an outcome: a value with a property, or a refusal
 --     after, mapped        operands one after the other; what is made of one
+--     and-worked, or-worked    the right side of and and or, where it is needed
 --     evaluated            the law
 use mathlib.Core.Path.{_≡_, refl, sym, ap, ap₂, subst, _∙_}
 use mathlib.Core.Bool.{Bool, true, false, not, cond, _&&_, _||_}
@@ -103,6 +104,32 @@ near-put : (f g : ℤ → ℤ) {i j v w : ℤ} → Near Array f g → i ≡ j �
 near-put f g {i} {j} {v} {w} n e d k l =
     ap₂ (λ x y. cond (sameInteger x (pos k)) y (f (pos k))) e d ∙ ap (cond (sameInteger j (pos k)) w) (n k l)
 
+-- the only operand
+only : {A : Type 0} {W : A → Type 0} {r : Option ℕ} {o : Evaluation A} → WorkedOut W r o → WorkedOut W (first (r ∷ [])) o
+unfolding first
+only (is-worked w) = is-worked w
+only is-stopped = is-stopped
+
+-- sides of and and or, worth x and y: the right one is worked out where the left one does not settle the test
+module _ {x y : Bool} {r q : Option ℕ} {left right : Evaluation Bool} (l : WorkedOut (λ v. v ≡ x) r left)
+    (k : WorkedOut (λ v. v ≡ y) q right) where
+  pub and-worked : WorkedOut (λ v. v ≡ (x && y)) (first (r ∷ cond x q none ∷ []))
+      (onWorked left λ v. cond v right (worked false))
+  and-worked = after _ l λ v e.
+      subst (λ x. WorkedOut (λ w. w ≡ (x && y)) (first (cond x q none ∷ [])) (cond v right (worked false))) e (by-left v)
+    where
+      by-left : (v : Bool) → WorkedOut (λ w. w ≡ (v && y)) (first (cond v q none ∷ [])) (cond v right (worked false))
+      by-left true = only k
+      by-left false = only (is-worked refl)
+
+  pub or-worked : WorkedOut (λ v. v ≡ (x || y)) (first (r ∷ cond x none q ∷ [])) (onWorked left λ v. cond v (worked true) right)
+  or-worked = after _ l λ v e.
+      subst (λ x. WorkedOut (λ w. w ≡ (x || y)) (first (cond x none q ∷ [])) (cond v (worked true) right)) e (by-left v)
+    where
+      by-left : (v : Bool) → WorkedOut (λ w. w ≡ (v || y)) (first (cond v none q ∷ [])) (cond v (worked true) right)
+      by-left true = only (is-worked refl)
+      by-left false = only k
+
 -- the lent store m, and a store s that holds its values
 module _ (m : Lent) (s : Store) (held : HeldBy m s) where
   abbrev pub Evaluated : {k : Sort} → Expr k → Type 0
@@ -120,8 +147,8 @@ module _ (m : Lent) (s : Store) (held : HeldBy m s) where
   evaluated (compare r a b) h =
       after _ (evaluated a (h .0)) λ v p. last (relate r v) (evaluated b (h .1)) λ w q. ap₂ (relate r) p q
   evaluated (truth t) h = is-worked refl
-  evaluated (and b c) h = after _ (evaluated b (h .0)) λ v p. last (_&&_ v) (evaluated c (h .1)) λ w q. ap₂ _&&_ p q
-  evaluated (or b c) h = after _ (evaluated b (h .0)) λ v p. last (_||_ v) (evaluated c (h .1)) λ w q. ap₂ _||_ p q
+  evaluated (and b c) h = and-worked (evaluated b (h .0)) (evaluated c (h .1))
+  evaluated (or b c) h = or-worked (evaluated b (h .0)) (evaluated c (h .1))
   evaluated (neg b) h = mapped not (evaluated b h) λ v p. ap not p
   evaluated (array a) h = is-worked (λ i l. held .arrays-held a i h l)
   evaluated zeros h = is-worked (λ i l. refl)

@@ -2,6 +2,7 @@
 -- is what the definition comes to, and the definition comes to nothing else.
 -- Assumes nothing.
 --     held-itself, held-once    some store holds a lent store; no two lent stores are held by one
+--     not-before                a step that is refused is not among those that are unrefused
 --     executes-once             the definition comes to one answer, after one count of steps, in one store
 --     executes-number           a refusal that it comes to is 12 to 15
 --     executed, reported        it comes to what the runner reports; the runner reports what it comes to
@@ -27,11 +28,11 @@ use Rattle.execution.specs.Run.{End, ended, stopped, run}
 use Rattle.execution.specs.Due.{Step}
 use Rattle.execution.specs.Ran.{Answer, done, refused, Ran, ranOf, wellSized, bodyPlace, runOf}
 use Rattle.execution.specs.Refusal.{refusal}
-use Rattle.execution.specs.Executes.{DueIn, Unrefused, Executes, ends, stops, Reports}
+use Rattle.execution.specs.Executes.{DueIn, Refusals, Unrefused, Executes, ends, stops, Reports}
 use Rattle.execution.proofs.Assigned.{Sized}
 use Rattle.language.proofs.Once.{one-end, one-count}
 use Rattle.execution.proofs.Before.{due-before}
-use Rattle.execution.proofs.Refusal.{Number, number, refusal-within, refusal-left}
+use Rattle.execution.proofs.Refusal.{Number, a-number, number, refusal-within, refusal-left}
 use Rattle.execution.proofs.OneStep.{due-once}
 use Rattle.execution.proofs.Agrees.{PassesBefore, agrees-ended, agrees-stopped}
 use Rattle.execution.proofs.RunAgrees.{CommandAgrees, run-agrees}
@@ -87,42 +88,45 @@ by-count {A} j n earlier later same = go (ltb j n) refl (ltb n j) refl
         same (omega arith)
 
 -- a step that is refused is not among those before a count that are unrefused
-not-before : {A : Type 0} {f : File} {s : Store} {budget n i k p : ℕ} {d : Step} {t : Store} →
-    Unrefused f s budget n → DueIn f s i d p t → refusal budget i d t ≡ some k → i < n → A
-not-before {k = k} u due said l = absurd (Option·none-ne-some k (sym (u .unrefused due l) ∙ said))
+pub not-before : {A : Type 0} {said : Refusals} {f : File} {s : Store} {n i k p : ℕ} {d : Step} {t : Store} →
+    Unrefused said f s n → DueIn f s i d p t → said i d t ≡ some k → i < n → A
+not-before {k = k} u due e l = absurd (Option·none-ne-some k (sym (u .unrefused due l) ∙ e))
 
 pub record SameEnd (a : Answer) (n : ℕ) (t : Store) (a′ : Answer) (n′ : ℕ) (t′ : Store) : Type 0 where
   pub same-answer : a ≡ a′
   pub same-count : n ≡ n′
   pub same-store : t ≡ t′
 
-pub executes-once : {f : File} {s : Store} {budget : ℕ} {a : Answer} {n : ℕ} {t : Store}
+pub executes-once : {said : Refusals} {f : File} {s : Store} {a : Answer} {n : ℕ} {t : Store}
     {a′ : Answer} {n′ : ℕ} {t′ : Store} →
-    Executes f s budget a n t → Executes f s budget a′ n′ t′ → SameEnd a n t a′ n′ t′
+    Executes said f s a n t → Executes said f s a′ n′ t′ → SameEnd a n t a′ n′ t′
 executes-once (ends u r) (ends u′ r′) =
     record { same-answer = refl; same-count = one-count r r′; same-store = one-end r r′ }
-executes-once (ends u r) (stops u′ due said) = not-before u due said (due-before due r)
-executes-once (stops u due said) (ends u′ r) = not-before u′ due said (due-before due r)
-executes-once {budget = budget} (stops {n = n} {k = k} {d = d} {t = t} u due said)
-    (stops {n = n′} {k = k′} {d = d′} {t = t′} u′ due′ said′) =
-    by-count n n′ (not-before u′ due said) (not-before u due′ said′) λ e.
-    let x = due-once due due′ e in
-    let here : refusal budget n d t ≡ refusal budget n′ d′ t′ = cc (e, x .same-step, x .same-store) in
-    let numbers : k ≡ k′ = cc (said, said′, here) in
+executes-once (ends u r) (stops u′ due e) = not-before u due e (due-before due r)
+executes-once (stops u due e) (ends u′ r) = not-before u′ due e (due-before due r)
+executes-once {said} (stops {n = n} {k = k} {d = d} {t = t} u due e) (stops {n = n′} {k = k′} {d = d′} {t = t′} u′ due′ e′) =
+    by-count n n′ (not-before u′ due e) (not-before u due′ e′) λ q.
+    let x = due-once due due′ q in
+    let here : said n d t ≡ said n′ d′ t′ = cc (q, x .same-step, x .same-store) in
+    let numbers : k ≡ k′ = cc (e, e′, here) in
     record {
       same-answer = cc (numbers, x .same-place);
-      same-count = e;
+      same-count = q;
       same-store = x .same-store;
     }
 
 -- a refusal that it comes to is 12 to 15
-pub executes-number : {f : File} {s : Store} {budget k p n : ℕ} {t : Store} →
-    Executes f s budget (refused k p) n t → (12 ≤ k) × (k ≤ 15)
-executes-number {budget = budget} {n = n} {t} (stops {d = d} u due said) = subst Number said (number budget n d t)
+pub executes-number : (budget : ℕ) {f : File} {s : Store} {k p n : ℕ} {t : Store} →
+    Executes (refusal budget) f s (refused k p) n t → (12 ≤ k) × (k ≤ 15)
+executes-number budget {n = n} {t} (stops {d = d} u due e) = bounds (subst (Number 12) e (number budget n d t))
+  where
+    bounds : {k : ℕ} → Number 12 (some k) → (12 ≤ k) × (k ≤ 15)
+    bounds (a-number l h) = (l, h)
 
 -- ---- The definition comes to what a run on a budget reports.
 
-passed : {f : File} {s : Store} {budget n : ℕ} → PassesBefore (DueIn f s) n → n ≤ budget → Unrefused f s budget n
+passed : {f : File} {s : Store} {budget n : ℕ} → PassesBefore (DueIn f s) n → n ≤ budget →
+    Unrefused (refusal budget) f s n
 passed {budget = budget} g b = record {
   unrefused = λ {k} {d} {p} {t} x l. refusal-within k budget d t (omega arith) ∙ g .passes-before x l;
 }
@@ -131,7 +135,7 @@ pub record Executed (f : File) (s : Store) (budget : ℕ) (r : Ran) : Type 0 whe
   pub answer : Answer
   pub count : ℕ
   pub last : Store
-  pub executes : Executes f s budget answer count last
+  pub executes : Executes (refusal budget) f s answer count last
   pub reports : Reports r answer count last
 
 -- the run of a file's main program agrees with the definition
@@ -165,7 +169,7 @@ module _ (limits : Limits) (bytes : List ℕ) (budget : ℕ) (m : Lent) (f : Fil
         (run-executed (run-agrees (f .main .command) (file-small limits bytes f p e) (f .main .start) budget m s
         (record { sized = sized-of m h; held = held })))
 
-    pub reported : (a : Answer) (n : ℕ) (t : Store) → Executes f s budget a n t →
+    pub reported : (a : Answer) (n : ℕ) (t : Store) → Executes (refusal budget) f s a n t →
         Reports (runOf limits bytes budget m) a n t
     reported a n t x =
         let y = executed in

@@ -6,6 +6,7 @@
 --     Steps, OneStep                the steps of each command; one step at most is due
 --     Agrees, RunAgrees             a run on a budget agrees with the definition
 --     Order, Exact                  the runner's answer on bytes
+--     Strict                        request [1] of document 02 against the order before it
 pub mod Small
 pub mod ReadFile
 pub mod Evaluated
@@ -18,3 +19,4 @@ pub mod Agrees
 pub mod RunAgrees
 pub mod Order
 pub mod Exact
+pub mod Strict

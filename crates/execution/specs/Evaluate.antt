@@ -1,11 +1,11 @@
--- Expressions as the runner works them out (document 01, "Runner"): operands go left first, both sides of and and or
--- too; an index is tested as soon as it is worked out.
+-- Expressions as the runner works them out (document 01, "Runner"): operands go left first; an index is tested as soon as
+-- it is worked out. A false left side settles an and, a true one an or (document 02, request [1]).
 -- Trusted. Assumes nothing.
 --     Evaluation, onWorked    what was worked out, or the number of the refusal that stops it; going on from it
 --     inRange, isIndex        the signed 64-bit range; an index 0 to 63
 --     tested, index           a value that is tested; an index, tested
 --     evaluate                an expression in a store
-use mathlib.Core.Bool.{Bool, true, false, not, _&&_, _||_}
+use mathlib.Core.Bool.{Bool, true, false, not, cond, _&&_}
 use Prim.Native.Nat.{ℕ}
 use lib.IntN.{ℤ, pos, negsuc}
 use lib.Signed.{leZ}
@@ -35,7 +35,7 @@ tested false k z = stops k
 abbrev pub index : Evaluation ℤ → Evaluation ℤ
 index o = onWorked o λ i. tested (isIndex i) 15 i
 
--- refusal 14 at an operation, 15 at an index
+-- refusal 14 at an operation, 15 at an index; a right side of and or or that is not needed is not worked out
 unfoldable pub evaluate : {k : Sort} → Expr k → Store → Evaluation (Value k)
 evaluate (constant z) s = worked z
 evaluate (scalar x) s = worked (s .scalars x)
@@ -44,8 +44,8 @@ evaluate (operation o a b) s = onWorked (evaluate a s) λ v. onWorked (evaluate 
 evaluate (select h i) s = onWorked (evaluate h s) λ f. onWorked (index (evaluate i s)) λ v. worked (f v)
 evaluate (compare r a b) s = onWorked (evaluate a s) λ v. onWorked (evaluate b s) λ w. worked (relate r v w)
 evaluate (truth t) s = worked t
-evaluate (and b c) s = onWorked (evaluate b s) λ v. onWorked (evaluate c s) λ w. worked (v && w)
-evaluate (or b c) s = onWorked (evaluate b s) λ v. onWorked (evaluate c s) λ w. worked (v || w)
+evaluate (and b c) s = onWorked (evaluate b s) λ v. cond v (evaluate c s) (worked false)
+evaluate (or b c) s = onWorked (evaluate b s) λ v. cond v (worked true) (evaluate c s)
 evaluate (neg b) s = onWorked (evaluate b s) λ v. worked (not v)
 evaluate (array a) s = worked (s .arrays a)
 evaluate zeros s = worked (λ i. pos 0)

@@ -2,12 +2,13 @@
 -- at the first step that is refused.
 -- Trusted. Assumes nothing.
 --     DueIn        the step that is due in the main program of a file
---     Unrefused    no refusal is said of the steps before a count
---     Executes     `Executes f s budget a n t`: from s, the main program of f comes to the answer a after n steps, in the store t
+--     Refusals     `said n d t`: the refusal that is said of the step d after n steps in the store t, if any
+--     Unrefused    nothing is said of the steps before a count
+--     Executes     `Executes said f s a n t`: from s, the main program of f comes to the answer a after n steps, in the store t
 --     Reports      the runner reports this answer, this count and the values of this store
 use mathlib.Core.Path.{_≡_}
 use mathlib.Core.Bool.{true}
-use mathlib.Core.Option.{none, some}
+use mathlib.Core.Option.{Option, none, some}
 use Prim.Native.Nat.{ℕ, _<_}
 use Rattle.language.specs.Store.{Store}
 use Rattle.language.specs.Runs.{Runs}
@@ -15,20 +16,23 @@ use Rattle.layout.specs.File.{File}
 use Rattle.execution.specs.Lent.{HeldBy}
 use Rattle.execution.specs.Ran.{Answer, done, refused, Ran, wellSized, bodyPlace}
 use Rattle.execution.specs.Due.{Step, Due}
-use Rattle.execution.specs.Refusal.{refusal}
 
 -- the step that is due in the main program
 abbrev pub DueIn : File → Store → ℕ → Step → ℕ → Store → Type 0
 DueIn f s n d p t = Due (bodyPlace f) (f .main .command) (f .main .start) s n d p t
 
-pub record Unrefused (f : File) (s : Store) (budget n : ℕ) : Type 0 where
-  pub unrefused : {k : ℕ} {d : Step} {p : ℕ} {t : Store} → DueIn f s k d p t → k < n → refusal budget k d t ≡ none
+-- the runner's is `refusal budget`
+abbrev pub Refusals : Type 0
+Refusals = ℕ → Step → Store → Option ℕ
+
+pub record Unrefused (said : Refusals) (f : File) (s : Store) (n : ℕ) : Type 0 where
+  pub unrefused : {k : ℕ} {d : Step} {p : ℕ} {t : Store} → DueIn f s k d p t → k < n → said k d t ≡ none
 
 -- at a refusal the store is as before the step that was due
-pub data Executes (f : File) (s : Store) (budget : ℕ) : Answer → ℕ → Store → Type 0 where
-  ends : {n : ℕ} {t : Store} → Unrefused f s budget n → Runs (f .main .command) n s t → Executes f s budget done n t
-  stops : {n k p : ℕ} {d : Step} {t : Store} → Unrefused f s budget n → DueIn f s n d p t →
-      refusal budget n d t ≡ some k → Executes f s budget (refused k p) n t
+pub data Executes (said : Refusals) (f : File) (s : Store) : Answer → ℕ → Store → Type 0 where
+  ends : {n : ℕ} {t : Store} → Unrefused said f s n → Runs (f .main .command) n s t → Executes said f s done n t
+  stops : {n k p : ℕ} {d : Step} {t : Store} → Unrefused said f s n → DueIn f s n d p t → said n d t ≡ some k →
+      Executes said f s (refused k p) n t
 
 pub record Reports (r : Ran) (a : Answer) (n : ℕ) (t : Store) : Type 0 where
   pub answer : r .answer ≡ a

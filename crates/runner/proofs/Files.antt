@@ -17,6 +17,7 @@ use Rattle.layout.specs.File.{File, wordsRead, fileOf}
 use Rattle.execution.specs.Lent.{Lent}
 use Rattle.execution.specs.Ran.{bodyPlace, runOf}
 use Rattle.claims.proofs.Runner.{runner}
+use Rattle.claims.proofs.AsBefore.{unchanged}
 use Rattle.context.specs.Contexts.{limitsOf}
 use Rattle.context.specs.declared.Context.{Context}
 use Rattle.context.specs.declared.Refusal.{Refusal}
@@ -144,4 +145,5 @@ run-of {limits} l {bytes} {budget} {m} {m′} {r} f =
       scalars-left = ap (λ x. x .store .scalars) e;
       values-left = ap (λ x. x .store .values) e;
       exact = runner rules.standard bytes budget m;
+      as-before = unchanged rules.standard bytes budget m;
     }

@@ -1,5 +1,5 @@
--- What the runner promises (document 01, "Runner" and "Judging order" 1 to 7 and 10 to 15; document 02, request [3]): the answer, the steps
--- finished and the store afterwards are those of the definition, and demand 2 holds of the definition there.
+-- What the runner promises (document 01, "Runner" and "Judging order" 1 to 7 and 10 to 15; document 02, requests [1] and [3]): the answer, the
+-- steps finished and the store afterwards are those of the definition, and demand 2 holds of the definition there.
 -- Trusted. Assumes nothing.
 --     answerMeant    the code's answer, as the definition's
 --     RunOf          from the lent store m, the answer r and the store m′
@@ -11,6 +11,7 @@ use Rattle.execution.specs.Lent.{Lent}
 use Rattle.execution.specs.Ran as definition
 use Rattle.execution.specs.Ran.{done, refused, runOf}
 use Rattle.claims.specs.Runner.{Runner}
+use Rattle.claims.specs.AsBefore.{AsBefore}
 use Rattle.runner.specs.declared.Answer.{Answer}
 use Rattle.runner.specs.declared.Answer.the-variants.{Done, Refused}
 use Rattle.runner.specs.declared.Ran.{Ran}
@@ -26,3 +27,5 @@ pub record RunOf (bytes : List ℕ) (budget : ℕ) (m : Lent) (r : Ran) (m′ : 
   pub values-left : m′ .values ≡ (runOf standard bytes budget m) .store .values
   -- the definition ends as the language's, or stops where document 01 says and nowhere else
   pub exact : Runner standard bytes budget m
+  -- and where both sides of and and or have a value its result is what it was before request [1]
+  pub as-before : AsBefore standard bytes budget m

@@ -1,4 +1,4 @@
-// The runner (document 01, "Runner"; document 02, request [3]): reads as refusals 1 to 7 and 16, then 10 and 11, and runs the main
+// The runner (document 01, "Runner"; document 02, requests [1] and [3]): reads as refusals 1 to 7 and 16, then 10 and 11, and runs the main
 // program's command in the lent store without judging the evidence.
 mod program; // program.rt: refusals 1 to 7, 16 and 10 to 15 in order
 

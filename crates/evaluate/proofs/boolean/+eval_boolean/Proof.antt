@@ -7,6 +7,7 @@ use Prim.Native.Nat.{ℕ, _<_}
 use Rattle.heads.proofs.Parts.{expression-early, boolean-allowed, boolean-parts}
 use Rattle.evaluate.proofs.Places.{left, only-operand, first-operand, second-operand}
 use Rattle.evaluate.proofs.Results.{compare-tested, truth-tested, and-tested, or-tested, not-tested}
+use Rattle.evaluate.proofs.Results.{and-settled, or-settled}
 use borrow.Author.Needs.{needs}
 use borrow.Fn.PlainCycle.{Measures, is, falls, and}
 use Rattle.evaluate.proofs.boolean.eval_boolean.Reads as eval-boolean
@@ -59,30 +60,32 @@ pub +eval-boolean-spec : {M : Type 1} → statement M
     let x = boolean-parts (p .tree) (p .there) (sym (c .before .before .before .boolean-head .ensures) ∙ c .before
     .enum-told .given .1) in let o = first-operand x in let m = (c .before .before .before .before .before) .pre .0 in
     (omega arith, o .can))
-    (λ c. let i = expression-early ((c .before .before .before .before .before .before .before) .pre .1) in omega arith)
-    (λ c κs. let p = (c .before .before .before .before .before .before .before) .pre .1 in
-    let x = boolean-parts (p .tree) (p .there) (sym (c .before .before .before .before .before .boolean-head .ensures)
-    ∙ c .before .before .before .enum-told .given .1) in let h = first-operand x .listed in omega arith)
-    (λ c κs. let p = (c .before .before .before .before .before .before .before .before .before) .pre .1 in
-    let x = boolean-parts (p .tree) (p .there) (sym (c .before .before .before .before .before .before .before
-    .boolean-head .ensures) ∙ c .before .before .before .before .before .enum-told .given .1) in
-    let o = second-operand x (c .before .end-at2 .ensures) in let m =
-    (c .before .before .before .before .before .before .before .before .before) .pre .0 in (omega arith, o .can))
+    (λ c. let i = expression-early ((c .before .before .before .before .before .before .before .before) .pre .1) in omega arith)
+    (λ c κs. let p = (c .before .before .before .before .before .before .before .before) .pre .1 in
+    let x = boolean-parts (p .tree) (p .there) (sym (c .before .before .before .before .before .before .boolean-head
+    .ensures) ∙ c .before .before .before .before .enum-told .given .1) in
+    let h = first-operand x .listed in omega arith)
+    (λ c κs. let p = (c .before .before .before .before .before .before .before .before .before .before) .pre .1 in
+    let x = boolean-parts (p .tree) (p .there) (sym (c .before .before .before .before .before .before .before .before
+    .boolean-head .ensures) ∙ c .before .before .before .before .before .before .enum-told .given .1) in
+    let o = second-operand x (c .before .end-at2 .ensures) in let m = (c .before .before .before .before .before
+    .before .before .before .before .before) .pre .0 in (omega arith, o .can))
     (λ c. search needs)
     (λ c. let i = expression-early ((c .before .before .before .before) .pre .1) in omega arith)
     (λ c κs. let p = (c .before .before .before .before .before) .pre .1 in
     let x = boolean-parts (p .tree) (p .there) (sym (c .before .before .before .boolean-head .ensures) ∙ c .before
     .enum-told2 .given .1) in let o = first-operand x in let m =
     (c .before .before .before .before .before) .pre .0 in (omega arith, o .can))
-    (λ c. let i = expression-early ((c .before .before .before .before .before .before .before) .pre .1) in omega arith)
-    (λ c κs. let p = (c .before .before .before .before .before .before .before) .pre .1 in
-    let x = boolean-parts (p .tree) (p .there) (sym (c .before .before .before .before .before .boolean-head .ensures)
-    ∙ c .before .before .before .enum-told2 .given .1) in let h = first-operand x .listed in omega arith)
-    (λ c κs. let p = (c .before .before .before .before .before .before .before .before .before) .pre .1 in
-    let x = boolean-parts (p .tree) (p .there) (sym (c .before .before .before .before .before .before .before
-    .boolean-head .ensures) ∙ c .before .before .before .before .before .enum-told2 .given .1) in
-    let o = second-operand x (c .before .end-at3 .ensures) in let m =
-    (c .before .before .before .before .before .before .before .before .before) .pre .0 in (omega arith, o .can))
+    (λ c. let i = expression-early ((c .before .before .before .before .before .before .before .before) .pre .1) in omega arith)
+    (λ c κs. let p = (c .before .before .before .before .before .before .before .before) .pre .1 in
+    let x = boolean-parts (p .tree) (p .there) (sym (c .before .before .before .before .before .before .boolean-head
+    .ensures) ∙ c .before .before .before .before .enum-told2 .given .1) in
+    let h = first-operand x .listed in omega arith)
+    (λ c κs. let p = (c .before .before .before .before .before .before .before .before .before .before) .pre .1 in
+    let x = boolean-parts (p .tree) (p .there) (sym (c .before .before .before .before .before .before .before .before
+    .boolean-head .ensures) ∙ c .before .before .before .before .before .before .enum-told2 .given .1) in
+    let o = second-operand x (c .before .end-at3 .ensures) in let m = (c .before .before .before .before .before
+    .before .before .before .before .before) .pre .0 in (omega arith, o .can))
     (λ c. search needs)
     (λ c. let i = expression-early ((c .before .before .before .before) .pre .1) in omega arith)
     (λ c κs. let p = (c .before .before .before .before .before) .pre .1 in
@@ -98,26 +101,20 @@ pub +eval-boolean-spec : {M : Type 1} → statement M
     .head .given .1) (c .relate .ensures))
     (λ c. truth-tested (c .before .head2 .given .0 .0) (sym (c .before .before .before .boolean-head .ensures) ∙ c
     .before .head2 .given .1))
-    (λ c. and-tested (c .before .before .before .end-at2 .ensures)
-    (c .before .before .before .before .before .eval-boolean .ensures) (c .before .eval-boolean2 .ensures) (sym
-    (c .before .before .before .before .before .before .before .before .before .boolean-head .ensures) ∙ c .before
-    .before .before .before .before .before .before .enum-told .given .1)
-    (rw (c .if1 .taken)))
-    (λ c. and-tested (c .before .before .before .end-at2 .ensures)
-    (c .before .before .before .before .before .eval-boolean .ensures) (c .before .eval-boolean2 .ensures) (sym
-    (c .before .before .before .before .before .before .before .before .before .boolean-head .ensures) ∙ c .before
-    .before .before .before .before .before .before .enum-told .given .1)
-    (rw (c .if1 .left)))
-    (λ c. or-tested (c .before .before .before .end-at3 .ensures)
-    (c .before .before .before .before .before .eval-boolean3 .ensures) (c .before .eval-boolean4 .ensures) (sym
-    (c .before .before .before .before .before .before .before .before .before .boolean-head .ensures) ∙ c .before
-    .before .before .before .before .before .before .enum-told2 .given .1)
-    (rw (c .if2 .taken)))
-    (λ c. or-tested (c .before .before .before .end-at3 .ensures)
-    (c .before .before .before .before .before .eval-boolean3 .ensures) (c .before .eval-boolean4 .ensures) (sym
-    (c .before .before .before .before .before .before .before .before .before .boolean-head .ensures) ∙ c .before
-    .before .before .before .before .before .before .enum-told2 .given .1)
-    (rw (c .if2 .left)))
+    (λ c. and-tested (c .before .before .end-at2 .ensures) (c .before .before .before .before .before .eval-boolean
+    .ensures) (c .eval-boolean2 .ensures)
+    (sym (c .before .before .before .before .before .before .before .before .before .boolean-head .ensures) ∙ c .before
+    .before .before .before .before .before .before .enum-told .given .1) (c .before .before .before .before .if1 .taken))
+    (λ c. and-settled (c .before .eval-boolean .ensures)
+    (sym (c .before .before .before .before .before .boolean-head .ensures) ∙ c .before .before .before .enum-told
+    .given .1) (c .if1 .left))
+    (λ c. or-settled (c .before .eval-boolean3 .ensures)
+    (sym (c .before .before .before .before .before .boolean-head .ensures) ∙ c .before .before .before .enum-told2
+    .given .1) (c .if2 .taken))
+    (λ c. or-tested (c .before .before .end-at3 .ensures) (c .before .before .before .before .before .eval-boolean3
+    .ensures) (c .eval-boolean4 .ensures)
+    (sym (c .before .before .before .before .before .before .before .before .before .boolean-head .ensures) ∙ c .before
+    .before .before .before .before .before .before .enum-told2 .given .1) (c .before .before .before .before .if2 .left))
     (λ c. not-tested (sym (c .before .before .before .before .boolean-head .ensures) ∙ c .before .before .enum-told3
     .given .1) (c .eval-boolean5 .ensures) refl)
     (λ c. let p = (c .before .before .before .before) .pre .1 in
