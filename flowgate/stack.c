@@ -266,7 +266,8 @@ static void try_file(char *at)
 
 /* ---- files as deep as may be, word by word */
 
-enum { CONSTANT = 1, SCALAR = 2, OPERATOR = 3, SELECT = 4, LESS = 8, TRUTH = 9, AND = 10, OR = 11, NOT = 12, ARRAY = 16, UPDATE = 18 };
+enum { CONSTANT = 1, SCALAR = 2, OPERATOR = 3, SELECT = 4, LESS = 8, TRUTH = 9, AND = 10, OR = 11, NOT = 12 };
+enum { ARRAY = 16, ZERO = 17, UPDATE = 18 };
 enum { SKIP = 24, SEQUENCE = 25, ASSERT = 26, TO_SCALAR = 27, TO_ARRAY = 28, IF = 29, WHILE = 30, FOR = 31, CALL = 38, TABLE = 62 };
 enum { SET = 32, FLOW = 33, IMPLICATION = 34, BEFORE = 35, FIRST_WORD = 63, DEEPEST = 128 };
 
@@ -296,13 +297,13 @@ static void end(void)
     bytes = 4 * words;
 }
 
-/* So many times: the word, and after it, if there is one, an operand of one word with payload 1. */
+/* So many times: the word, and after it, if there is one, an operand of one word: zero everywhere, or another with payload 1. */
 static void nest(int times, uint32_t kind, uint32_t payload, uint32_t leaf)
 {
     while (times-- > 0) {
         put(kind, payload);
         if (leaf) {
-            put(leaf, 1);
+            put(leaf, leaf != ZERO);
         }
     }
 }
@@ -405,11 +406,13 @@ static const struct deep {
     uint32_t command;
 } deep[] = {
     {"nots", NOT, 0, TRUTH, 0, 0, ASSERT},
+    {"ands", AND, TRUTH, TRUTH, 0, 0, ASSERT},
     {"ors", OR, TRUTH, TRUTH, 0, 0, ASSERT},
     {"ands on the left", AND, 0, TRUTH, TRUTH, 1, ASSERT},
     {"sums", OPERATOR, SCALAR, SCALAR, 0, 0, TO_SCALAR},
     {"sums on the left", OPERATOR, 0, SCALAR, SCALAR, 1, TO_SCALAR},
     {"selects", SELECT, ARRAY, SCALAR, 0, 0, TO_SCALAR},
+    {"selects from zeros", SELECT, ZERO, SCALAR, 0, 0, TO_SCALAR},
     {"updates", UPDATE, 0, ARRAY, SCALAR, 2, TO_ARRAY},
 };
 enum { DEEP = sizeof deep / sizeof deep[0] };

@@ -22,7 +22,7 @@ use Rattle.claims.specs.Runner.{Starts, OfRun, Runner}
 -- what the definition comes to is an answer of a run
 of-run : (budget : ℕ) {f : File} {s : Store} {a : Answer} {n : ℕ} {t : Store} → Executes (refusal budget) f s a n t → OfRun a
 of-run budget (ends u r) = tt
-of-run budget (stops u due said) = executes-number budget (stops u due said)
+of-run budget (stops u due e) = executes-number budget (stops u due e)
 
 -- a refusal at reading is none of a run
 not-of-run : (k : ℕ) → ReadingNumber k → (12 ≤ k) × (k ≤ 15) → ⊥

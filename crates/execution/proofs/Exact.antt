@@ -28,7 +28,7 @@ use Rattle.execution.specs.Run.{End, ended, stopped, run}
 use Rattle.execution.specs.Due.{Step}
 use Rattle.execution.specs.Ran.{Answer, done, refused, Ran, ranOf, wellSized, bodyPlace, runOf}
 use Rattle.execution.specs.Refusal.{refusal}
-use Rattle.execution.specs.Executes.{DueIn, Refusals, Unrefused, Executes, ends, stops, Reports}
+use Rattle.execution.specs.Executes.{DueIn, RefusalOrder, Unrefused, Executes, ends, stops, Reports}
 use Rattle.execution.proofs.Assigned.{Sized}
 use Rattle.language.proofs.Once.{one-end, one-count}
 use Rattle.execution.proofs.Before.{due-before}
@@ -88,7 +88,7 @@ by-count {A} j n earlier later same = go (ltb j n) refl (ltb n j) refl
         same (omega arith)
 
 -- a step that is refused is not among those before a count that are unrefused
-pub not-before : {A : Type 0} {said : Refusals} {f : File} {s : Store} {n i k p : ℕ} {d : Step} {t : Store} →
+pub not-before : {A : Type 0} {said : RefusalOrder} {f : File} {s : Store} {n i k p : ℕ} {d : Step} {t : Store} →
     Unrefused said f s n → DueIn f s i d p t → said i d t ≡ some k → i < n → A
 not-before {k = k} u due e l = absurd (Option·none-ne-some k (sym (u .unrefused due l) ∙ e))
 
@@ -97,7 +97,7 @@ pub record SameEnd (a : Answer) (n : ℕ) (t : Store) (a′ : Answer) (n′ : �
   pub same-count : n ≡ n′
   pub same-store : t ≡ t′
 
-pub executes-once : {said : Refusals} {f : File} {s : Store} {a : Answer} {n : ℕ} {t : Store}
+pub executes-once : {said : RefusalOrder} {f : File} {s : Store} {a : Answer} {n : ℕ} {t : Store}
     {a′ : Answer} {n′ : ℕ} {t′ : Store} →
     Executes said f s a n t → Executes said f s a′ n′ t′ → SameEnd a n t a′ n′ t′
 executes-once (ends u r) (ends u′ r′) =
@@ -151,11 +151,11 @@ run-executed (agrees-ended k l {m = m} {t = t} r f h e) = record {
   executes = ends (passed f (omega arith)) r;
   reports = record { answer = refl; steps = omega arith; held = h .held; sized = well-sized m (h .sized) };
 }
-run-executed {budget = budget} (agrees-stopped k l {number = i} {p = p} {d = d} {m = m} {t = t} due said f h e) = record {
+run-executed {budget = budget} (agrees-stopped k l {number = i} {p = p} {d = d} {m = m} {t = t} due q f h e) = record {
   answer = refused i p;
   count = k;
   last = t;
-  executes = stops (passed f (omega arith)) due (refusal-left k l budget d t e ∙ said);
+  executes = stops (passed f (omega arith)) due (refusal-left k l budget d t e ∙ q);
   reports = record { answer = refl; steps = omega arith; held = h .held; sized = well-sized m (h .sized) };
 }
 

@@ -1,7 +1,8 @@
 -- Refusals of a step: their numbers, and what is said with so many steps left.
 -- Assumes nothing.
 --     Number, number              none, or at least so much and at most 15; 12 to 15 of every step's refusal
---     both-number, operation-number, select-number, update-number    of operands, one after the other
+--     both-number                 of two refusals, the first
+--     expression-number           14 or 15 of an expression's
 --     refusal-within              13 is not said while a step is left
 --     refusalLeft, refusal-left   the refusal of a step with so many steps left; it is that after so many steps
 use mathlib.Core.Path.{_≡_, refl}
@@ -54,26 +55,16 @@ index-number z l = first-number _ l (unless-number (isIndex z) 15 (omega arith) 
 value-number : (z : ℤ) → Number 14 (first (unless (inRange z) 14 ∷ []))
 value-number z = first-number _ [] (unless-number (inRange z) 14 (omega arith) (omega arith)) none-number
 
--- what is said of operands, one after the other
-pub operation-number : (r q : Option ℕ) (z : ℤ) → Number 14 r → Number 14 q →
-    Number 14 (first (r ∷ q ∷ unless (inRange z) 14 ∷ []))
-operation-number r q z h k = first-number r _ h (first-number q _ k (value-number z))
-
-pub select-number : (r q : Option ℕ) (z : ℤ) → Number 14 r → Number 14 q →
-    Number 14 (first (r ∷ q ∷ unless (isIndex z) 15 ∷ []))
-select-number r q z h k = first-number r _ h (first-number q _ k (index-number z [] none-number))
-
-pub update-number : (r q : Option ℕ) (z : ℤ) (o : Option ℕ) → Number 14 r → Number 14 q → Number 14 o →
-    Number 14 (first (r ∷ q ∷ unless (isIndex z) 15 ∷ o ∷ []))
-update-number r q z o h k j = first-number r _ h (first-number q _ k (index-number z _ (first-number o [] j none-number)))
-
-expression-number : {k : Sort} (e : Expr k) (s : Store) → Number 14 (refusalOf e s)
+pub expression-number : {k : Sort} (e : Expr k) (s : Store) → Number 14 (refusalOf e s)
 unfolding refusalOf
 expression-number (constant z) s = no-number
 expression-number (scalar x) s = no-number
 expression-number (operation o a b) s =
-    operation-number _ _ (value (operation o a b) s) (expression-number a s) (expression-number b s)
-expression-number (select h i) s = select-number _ _ (value i s) (expression-number h s) (expression-number i s)
+    first-number _ _ (expression-number a s) (first-number _ _ (expression-number b s)
+    (value-number (value (operation o a b) s)))
+expression-number (select h i) s =
+    first-number _ _ (expression-number h s) (first-number _ _ (expression-number i s)
+    (index-number (value i s) [] none-number))
 expression-number (compare r a b) s = both-number _ _ (expression-number a s) (expression-number b s)
 expression-number (truth t) s = no-number
 expression-number (and b c) s =
@@ -84,7 +75,8 @@ expression-number (neg b) s = expression-number b s
 expression-number (array a) s = no-number
 expression-number zeros s = no-number
 expression-number (update h i a) s =
-    update-number _ _ (value i s) _ (expression-number h s) (expression-number i s) (expression-number a s)
+    first-number _ _ (expression-number h s) (first-number _ _ (expression-number i s)
+    (index-number (value i s) _ (first-number _ [] (expression-number a s) none-number)))
 
 from-12 : (r : Option ℕ) → Number 14 r → Number 12 r
 from-12 none h = no-number

@@ -35,7 +35,7 @@ tested false k z = stops k
 abbrev pub index : Evaluation ℤ → Evaluation ℤ
 index o = onWorked o λ i. tested (isIndex i) 15 i
 
--- refusal 14 at an operation, 15 at an index; a right side of and or or that is not needed is not worked out
+-- refusal 14 at an operation, 15 at an index; the right side of an and or an or that its left side settles is not worked out
 unfoldable pub evaluate : {k : Sort} → Expr k → Store → Evaluation (Value k)
 evaluate (constant z) s = worked z
 evaluate (scalar x) s = worked (s .scalars x)

@@ -5,7 +5,7 @@
 --     Ran         the runner's answer on bytes
 --     Due         the step that is due after so many steps, by the language's definition
 --     Refusal     the refusal that is said of such a step
---     Executes    what a run on a budget comes to, by the language's definition
+--     Executes    what a run comes to, by the language's definition and an order of refusals
 --     Strict      the refusals by the order before request [1] of document 02
 pub mod Lent
 pub mod Evaluate

@@ -2,7 +2,7 @@
 -- Assumes nothing.
 --     refused-file-by           1 to 7 and 16
 --     can-run-file, ran-file    the words of a file that they let pass; its run
---     run-of                    the definition's answer on bytes, with demand 2
+--     run-of                    the definition's answer on bytes, with demand 2 and request [1]
 use mathlib.Core.Path.{_≡_, refl, sym, ap, subst, _∙_}
 use mathlib.Core.List.{List}
 use Prim.Native.Nat.{ℕ, _+_, _*_, _/_, _%_}
