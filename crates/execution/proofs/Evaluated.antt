@@ -1,11 +1,11 @@
 -- What the runner works out is the value that the language's definition gives, from every store that holds the lent
 -- values; and where it stops, it stops by the refusal that the expression meets first. By induction on the expression.
 -- Assumes nothing.
---     Near                 equal values; arrays equal at 0 to 63
---     WorkedOut            an outcome: a value with a property, or a refusal
---     after, mapped        operands one after the other; what is made of one
---     and-worked, or-worked    the right side of and and or, where it is needed
---     evaluated            the law
+--     Near                     equal values; arrays equal at 0 to 63
+--     WorkedOut                an outcome: a value with a property, or a refusal
+--     after, mapped            operands one after the other; what is made of one
+--     and-worked, or-worked    and and or, whose right side is worked out where the left one does not settle the test
+--     evaluated                the law
 use mathlib.Core.Path.{_≡_, refl, sym, ap, ap₂, subst, _∙_}
 use mathlib.Core.Bool.{Bool, true, false, not, cond, _&&_, _||_}
 use mathlib.Core.List.{List, [], _∷_}

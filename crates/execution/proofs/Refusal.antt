@@ -3,6 +3,7 @@
 --     Number, number              none, or at least so much and at most 15; 12 to 15 of every step's refusal
 --     both-number                 of two refusals, the first
 --     expression-number           14 or 15 of an expression's
+--     first-one                   of one refusal, itself
 --     refusal-within              13 is not said while a step is left
 --     refusalLeft, refusal-left   the refusal of a step with so many steps left; it is that after so many steps
 use mathlib.Core.Path.{_≡_, refl}
@@ -101,7 +102,7 @@ abbrev pub refusalLeft : ℕ → Step → Store → Option ℕ
 refusalLeft zero d s = some 13
 refusalLeft (suc l) d s = stepRefusal d s
 
-first-one : (r : Option ℕ) → first (r ∷ []) ≡ r
+pub first-one : (r : Option ℕ) → first (r ∷ []) ≡ r
 unfolding first
 first-one none = refl
 first-one (some k) = refl

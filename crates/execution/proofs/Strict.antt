@@ -25,7 +25,7 @@ use Rattle.execution.specs.Ran.{Answer}
 use Rattle.execution.specs.Executes.{RefusalOrder, Unrefused, Executes, ends, stops}
 use Rattle.execution.specs.Strict.{strictRefusalOf, strictStepRefusal, strictRefusal, BothValued, SidesValued}
 use Rattle.execution.specs.Strict.{Valued, KeptAnswer, kept-number, kept-valued}
-use Rattle.execution.proofs.Refusal.{Number, no-number, a-number, both-number, expression-number}
+use Rattle.execution.proofs.Refusal.{Number, no-number, a-number, both-number, expression-number, first-one}
 use Rattle.language.proofs.Once.{one-count}
 use Rattle.execution.proofs.Before.{due-before}
 use Rattle.execution.proofs.Exact.{not-before}
@@ -178,10 +178,6 @@ module _ (budget : ℕ) where
   unfolding first
   said-below-14 n d s k l e = by-budget (ltb n budget) e
     where
-      first-one : (r : Option ℕ) → first (r ∷ []) ≡ r
-      first-one none = refl
-      first-one (some j) = refl
-
       by-budget : (t : Bool) → first (unless t 13 ∷ strictStepRefusal d s ∷ []) ≡ some k →
           first (unless t 13 ∷ stepRefusal d s ∷ []) ≡ some k
       by-budget true e = first-one _ ∙ step-below-14 d s k l (sym (first-one _) ∙ e)
