@@ -1,10 +1,13 @@
 //! Document 01, "Rules" and refusals 8 and 9 of "Judging order": one pass
 //! over the evidence words in file order; at a word its conditions are tried
 //! as written, then its children follow. Request [3]: the evidence of each
-//! procedure goes before that of the main program.
+//! procedure goes before that of the main program. Request [2]: antecedents
+//! and the assertions of rules 20 to 32 are compared plain (`plain.rs`);
+//! consequents, and commands in rules 14 and 30, are compared by words.
 
 use super::implies::{implies, Verdict};
 use super::modified::{modified_by, of_bool, of_expression, of_set};
+use super::plain::{equal, plain};
 use super::read::read;
 use super::replace::{self, Replacement};
 use super::sets::*;
@@ -231,7 +234,7 @@ impl Judge<'_> {
         match (&evidence.rule, &c.form) {
             (BeforeRule::B20 { phi1: left, phi2: right, then, otherwise }, Form::If(b, c1, c2)) => {
                 let made = or(and(left.clone(), b.clone()), and(right.clone(), not(b.clone())));
-                need(*phi == made, place)?;
+                need(equal(phi, &made), place)?;
                 let x = self.necessary(left, c1, phi2, then)?;
                 let y = self.necessary(right, c2, phi2, otherwise)?;
                 Ok(1 + x + y)
@@ -243,7 +246,7 @@ impl Judge<'_> {
                 Ok(1 + x)
             }
             (BeforeRule::B22, Form::Skip) => {
-                need(phi == phi2, place)?;
+                need(equal(phi, phi2), place)?;
                 Ok(1)
             }
             (BeforeRule::B23 { phi1, first, second }, Form::Sequence(c1, c2)) => {
@@ -252,19 +255,19 @@ impl Judge<'_> {
                 Ok(1 + x + y)
             }
             (BeforeRule::B24, Form::AssignScalar(x, right)) => {
-                need(*phi == replace::in_bool(phi2, Replacement::Scalar(*x, right)), place)?;
+                need(equal(phi, &replace::in_bool(phi2, Replacement::Scalar(*x, right))), place)?;
                 Ok(1)
             }
             (BeforeRule::B25, Form::AssignArray(h, right)) => {
-                need(*phi == replace::in_bool(phi2, Replacement::Array(*h, right)), place)?;
+                need(equal(phi, &replace::in_bool(phi2, Replacement::Array(*h, right))), place)?;
                 Ok(1)
             }
             (BeforeRule::B26, Form::Assert(b)) => {
-                need(*phi == and(phi2.clone(), b.clone()), place)?;
+                need(equal(phi, &and(phi2.clone(), b.clone())), place)?;
                 Ok(1)
             }
             (BeforeRule::B27, _) => {
-                need(phi == phi2, place)?;
+                need(equal(phi, phi2), place)?;
                 need(!of_bool(phi2).meets(&modified_by(c, self.procedures)), place)?;
                 Ok(1)
             }
@@ -274,7 +277,7 @@ impl Judge<'_> {
                 Ok(1 + x)
             }
             (BeforeRule::B29, _) => {
-                need(*phi == Bool::Truth(true), place)?;
+                need(plain(phi) == Bool::Truth(true), place)?;
                 Ok(1)
             }
             (BeforeRule::B30 { d, inner }, Form::For(x, m, body)) => {
