@@ -32,7 +32,7 @@ impl Judge<'_> {
             13 => {
                 need(f.kind(c) == WHILE && f.same(p, q), at)?;
                 let test = c + 1;
-                need(f.members(p).any(|m| f.words[m] == TRUE_WORD && f.equal(m + 1, test)), at)?;
+                need(f.members(p).any(|m| f.is_true(m) && f.equal(f.end(m), test)), at)?;
                 self.flow(p, f.end(test), q, first)
             }
             14 => {

@@ -1,6 +1,6 @@
 //! Rules 13 to 19 of implication between sets: a goal (P, Q).
 
-use super::implies::plain;
+use super::implies::positive;
 use super::layout::*;
 use super::sets::Piece::*;
 use super::{need, Judge, Judged};
@@ -12,7 +12,7 @@ impl Judge<'_> {
             13 => need(f.each_stands_in(q, p), at),
             14 => {
                 need(f.payload(p) == 0, at)?;
-                f.members(q).try_for_each(|member| self.implies(&[plain(member)], None, at))
+                f.members(q).try_for_each(|member| self.implies(&[positive(member)], None, at))
             }
             15 => need(f.payload(p) == 0 && f.one(q).is_some() && f.identifiers[f.end(q + 1)] == 0, at),
             16 => self.set_rule_16(p, q, at),
@@ -20,7 +20,7 @@ impl Judge<'_> {
             18 => {
                 need(f.one(p).is_some() && f.one(q).is_some(), at)?;
                 need(f.equal(f.end(p + 1), f.end(q + 1)), at)?;
-                self.implies(&[plain(q + 1)], Some(p + 1), at)
+                self.implies(&[positive(q + 1)], Some(p + 1), at)
             }
             // rule 19
             _ => need(f.one(q).is_some() && self.has_operands(p, q + 1), at),

@@ -32,7 +32,7 @@ pub struct Literal {
     pub negated: bool,
 }
 
-pub fn plain(part: usize) -> Literal {
+pub fn positive(part: usize) -> Literal {
     Literal { part, negated: false }
 }
 

@@ -1,6 +1,7 @@
-//! Fast: the check and the runner again, plain and for speed, from document 01 and requests [3] and [1]: what one writes where
+//! Fast: the check and the runner again, plain and for speed, from document 01 and requests [3], [1] and [2]: what one writes where
 //! nothing has to be proved. Nothing is allocated or cleared: the caller lends the arrays. A part of the file is its place among
-//! the words, a goal is such places, and each part's end and identifiers are worked out once, while it is read.
+//! the words, a goal is such places, and each part's end and identifiers, and each boolean's plain form, are worked out once, while
+//! it is read.
 //!
 //! Uses: nothing.
 //! For: the benchmark compares the proved code with it; a third answer where the check and the runner are compared.
@@ -9,6 +10,7 @@ mod flow;
 mod implication;
 mod implies;
 mod layout;
+mod plain;
 mod pre;
 mod read;
 mod run;
@@ -17,6 +19,7 @@ mod sets;
 pub use run::run;
 
 use layout::{MOST_PROCEDURES, MOST_WORDS};
+use plain::Plain;
 
 /// A refusal: number × 65,536 + place. As wide as what a part's reading gives, so that a result is handed back in registers.
 type Refused = u64;
@@ -35,7 +38,13 @@ pub struct Work {
 impl Work {
     pub const fn new() -> Work {
         let procedures = [Four { command: 0, pre: 0, post: 0, evidence: 0 }; MOST_PROCEDURES];
-        let parts = Parts { words: [0; MOST_WORDS], ends: [0; MOST_WORDS], identifiers: [0; MOST_WORDS], procedures };
+        let parts = Parts {
+            words: [0; MOST_WORDS],
+            ends: [0; MOST_WORDS],
+            identifiers: [0; MOST_WORDS],
+            plain: [Plain::NONE; MOST_WORDS],
+            procedures,
+        };
         Work { parts, numbers: [0; MOST_WORDS] }
     }
 }
@@ -53,6 +62,8 @@ struct Parts {
     ends: [u16; MOST_WORDS],
     /// Of an expression or a set: the identifiers in it. Of a command: those it modifies. Bit x is scalar x, bit 32 + a array a.
     identifiers: [u64; MOST_WORDS],
+    /// Of a boolean: its plain form.
+    plain: [Plain; MOST_WORDS],
     /// By table place.
     procedures: [Four; MOST_PROCEDURES],
 }
@@ -107,11 +118,6 @@ impl Parts {
         let words = &self.words[part..self.end(part)];
         let end = place + words.len();
         (self.words.get(place..end)? == words).then_some(end)
-    }
-
-    /// The same of one word.
-    fn after_word(&self, place: usize, word: u32) -> Option<usize> {
-        (*self.words.get(place)? == word).then_some(place + 1)
     }
 }
 

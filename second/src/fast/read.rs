@@ -1,7 +1,9 @@
-//! Refusals 1 to 7 and 16. Each part that is read leaves its end and its identifiers; refusals 16 and 7 are seen on the way
-//! and said last. A body calls only procedures before it, so what a call modifies is known when the call is read.
+//! Refusals 1 to 7 and 16. Each part that is read leaves its end and its identifiers, a boolean its plain form too; refusals 16
+//! and 7 are seen on the way and said last. A body calls only procedures before it, so what a call modifies is known when the call
+//! is read.
 
 use super::layout::*;
+use super::plain::Plain;
 use super::{refusal, Four, Parts, Refused};
 
 /// A file that was read: the count of its procedures, the places of the main program's parts, and the count of all evidence words.
@@ -132,11 +134,20 @@ impl Reader<'_> {
     }
 
     fn boolean_from(&mut self, place: usize, word: u32, depth: u32) -> Read {
+        self.parts.plain[place] = Plain::written(place);
         let identifiers = match (kind(word), payload(word)) {
             (COMPARISON, 0..=2) => self.arithmetic(depth + 1)? | self.arithmetic(depth + 1)?,
             (TRUTH, 0..=1) => 0,
-            (AND | OR, 0) => self.boolean(depth + 1)? | self.boolean(depth + 1)?,
-            (NOT, 0) => self.boolean(depth + 1)?,
+            (AND | OR, 0) => {
+                let both = self.boolean(depth + 1)? | self.boolean(depth + 1)?;
+                self.parts.drop_in_pair(place);
+                both
+            }
+            (NOT, 0) => {
+                let one = self.boolean(depth + 1)?;
+                self.parts.drop_in_not(place);
+                one
+            }
             _ => return Err(refusal(5, place)),
         };
         self.done(place, identifiers)

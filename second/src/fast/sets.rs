@@ -1,7 +1,6 @@
 //! Written sets compared with those that the rules make, which are never built: a made set is a few pieces, each a written set
-//! and what is done to its members.
+//! and what is done to its members. Request [2]: antecedents are compared plain, consequents by words.
 
-use super::layout::*;
 use super::Parts;
 
 #[derive(Clone, Copy)]
@@ -12,7 +11,7 @@ pub enum Piece {
     UnderNot(usize, usize),
     /// The set with the part `by` for the identifier that is this word.
     Replaced { set: usize, identifier: u32, by: usize },
-    /// The members of the first set that do not stand in the second.
+    /// The members of the first set that do not stand in the second by words.
     Without(usize, usize),
     /// One member.
     Member(usize, usize),
@@ -42,7 +41,7 @@ impl Parts {
     }
 
     /// A member's words are its antecedent's and its consequent's, without a gap.
-    fn member_end(&self, member: usize) -> usize {
+    pub fn member_end(&self, member: usize) -> usize {
         self.end(self.end(member))
     }
 
@@ -51,8 +50,12 @@ impl Parts {
         (self.payload(set) == 1).then_some(set + 1)
     }
 
-    fn equal_members(&self, a: usize, b: usize) -> bool {
-        self.words[a] == self.words[b] && self.same_words(a, self.member_end(a), b, self.member_end(b))
+    /// "Rule 17's "without" stays by words."
+    fn stands_by_words(&self, member: usize, set: usize) -> bool {
+        let end = self.member_end(member);
+        self.members(set).any(|other| {
+            self.words[member] == self.words[other] && self.same_words(member, end, other, self.member_end(other))
+        })
     }
 
     pub fn stands_in(&self, member: usize, set: usize) -> bool {
@@ -76,7 +79,9 @@ impl Parts {
     fn stands_in_piece(&self, member: usize, piece: Piece) -> bool {
         match piece {
             Piece::Member(phi, e) => self.is_pair(member, phi, e),
-            Piece::Without(set, but) => self.stands_in(member, set) && !self.stands_in(member, but),
+            Piece::Without(set, but) => {
+                self.members(set).any(|from| self.equal_members(member, from) && !self.stands_by_words(from, but))
+            }
             Piece::Written(set) => self.stands_in(member, set),
             Piece::Under(set, _) | Piece::UnderNot(set, _) | Piece::Replaced { set, .. } => {
                 self.members(set).any(|from| self.is_made(member, from, piece))
@@ -88,7 +93,7 @@ impl Parts {
         match piece {
             Piece::Member(phi, e) => self.members(p).any(|member| self.is_pair(member, phi, e)),
             Piece::Without(set, but) => {
-                self.members(set).all(|from| self.stands_in(from, but) || self.stands_in(from, p))
+                self.members(set).all(|from| self.stands_by_words(from, but) || self.stands_in(from, p))
             }
             Piece::Written(set) => self.each_stands_in(set, p),
             Piece::Under(set, _) | Piece::UnderNot(set, _) | Piece::Replaced { set, .. } => {
@@ -98,32 +103,22 @@ impl Parts {
     }
 
     fn is_pair(&self, member: usize, phi: usize, e: usize) -> bool {
-        self.equal(member, phi) && self.equal(self.end(member), e)
+        self.equal(self.end(member), e) && self.equal_plain(member, phi)
     }
 
     /// Whether the written member is what the piece makes of its member `from`.
+    #[inline(always)]
     fn is_made(&self, member: usize, from: usize, piece: Piece) -> bool {
         match piece {
             Piece::Under(_, test) => self.is_under(member, from, test, false),
             Piece::UnderNot(_, test) => self.is_under(member, from, test, true),
-            Piece::Replaced { identifier, by, .. } => {
-                self.is_replaced(member, self.member_end(member), from, self.member_end(from), identifier, by)
-            }
+            Piece::Replaced { identifier, by, .. } => self.is_member_replaced(member, from, identifier, by),
             _ => self.equal_members(member, from),
         }
     }
 
     fn is_under(&self, member: usize, from: usize, test: usize, negated: bool) -> bool {
-        let all = || {
-            let mut at = self.after_word(member, AND_WORD)?;
-            at = self.after(at, from)?;
-            if negated {
-                at = self.after_word(at, NOT_WORD)?;
-            }
-            at = self.after(at, test)?;
-            self.after(at, self.end(from))
-        };
-        all().is_some()
+        self.equal(self.end(member), self.end(from)) && self.is_and(member, from, test, negated)
     }
 
     /// Whether the words from `at` to `end` are those from `from` to `from_end` with the part `by` for each `identifier`.
