@@ -49,7 +49,7 @@ impl Tally {
             Answer::Refused(r) => r.number,
         };
         *self.answers.entry((format!("{kind:?}"), number)).or_default() += 1;
-        if kind == Kind::Accepted && number != 0 {
+        if matches!(kind, Kind::Accepted | Kind::Tidied) && number != 0 {
             writeln!(out, "file {i} was made to be accepted: {}", answer.line())?;
             self.differences += 1;
         }

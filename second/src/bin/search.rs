@@ -1,13 +1,14 @@
 //! `search [SEED [FILES [PAIRS]]] [refused]`: a bounded search for a counterexample
 //! to demand 3. Accepted generated files (made backwards, or nearly readable,
-//! mutated or near misses and accepted all the same) are run from PAIRS pairs
-//! of stores each. With `refused`, the files are instead those refused with 8
+//! mutated, with true put in and taken out, or near misses and accepted all the
+//! same) are run from PAIRS pairs of stores each. With `refused`, the files are instead those refused with 8
 //! or 9, to show that the search can find something. Exit status 1 if an
 //! accepted file has a counterexample.
 
 use second::compare::pairs::{try_pair, Found};
 use second::generate::mutate::mutate;
 use second::generate::nearly::nearly;
+use second::generate::plain::{by_words, tidied};
 use second::generate::prng::Prng;
 use second::generate::{accepted, file_prng, near_miss};
 use second::naive::judge::{check, Answer};
@@ -23,14 +24,16 @@ type Counts = [u64; 6];
 
 /// One of the files that are looked at, of every sort.
 fn any_file(rng: &mut Prng, refused: bool) -> Vec<u8> {
-    match rng.below(4) {
+    match rng.below(6) {
         0 => nearly(rng),
         1 => {
             let base = accepted(rng);
             mutate(rng, &base)
         }
         2 => near_miss(rng),
+        3 => by_words(rng),
         _ if refused => near_miss(rng),
+        4 => tidied(rng),
         _ => accepted(rng),
     }
 }

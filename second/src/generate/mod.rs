@@ -1,4 +1,5 @@
-//! Generate: the seeded generator of accepted files, mutations, nearly readable files, files at the limits, and runs.
+//! Generate: the seeded generator of accepted files, the same with true put in and taken out, mutations, nearly readable files, files
+//! at the limits, and runs.
 //!
 //! Uses: layout, naive, tool.
 //! For: the programs that compare, the tests, and rows; any file can be made again by its seed and number.
@@ -8,6 +9,7 @@ pub mod limits;
 pub mod mutate;
 pub mod nearly;
 pub mod parts;
+pub mod plain;
 pub mod prng;
 pub mod procedures;
 pub mod prove;
@@ -95,6 +97,10 @@ pub fn count_rules(bytes: &[u8], counts: &mut RuleCounts) {
 pub enum Kind {
     Accepted,
     NearMiss,
+    /// Accepted, with true put into antecedents and taken out of them.
+    Tidied,
+    /// The same where words count.
+    ByWords,
     Mutated,
     Nearly,
     Limit,
@@ -103,17 +109,20 @@ pub enum Kind {
 /// File number `i` of a seed, alone: any one can be made again.
 pub fn mixed(seed: u64, i: u64) -> (Kind, Vec<u8>) {
     let mut rng = file_prng(seed, i);
-    match rng.below(10) {
+    match rng.below(12) {
         0 | 1 => (Kind::Accepted, accepted(&mut rng)),
         2 | 3 => (Kind::NearMiss, near_miss(&mut rng)),
         4..=6 => {
             let base = match rng.below(8) {
                 0 => limit(&mut rng),
                 1 => nearly(&mut rng),
+                2 => plain::tidied(&mut rng),
                 _ => accepted(&mut rng),
             };
             (Kind::Mutated, mutate(&mut rng, &base))
         }
+        9 => (Kind::Tidied, plain::tidied(&mut rng)),
+        10 => (Kind::ByWords, plain::by_words(&mut rng)),
         7 | 8 => (Kind::Nearly, nearly(&mut rng)),
         _ => (Kind::Limit, limit(&mut rng)),
     }

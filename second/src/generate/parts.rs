@@ -81,7 +81,12 @@ pub fn comparison(rng: &mut Prng, pool: &Pool, size: usize) -> Bool {
     compare(c, arith(rng, pool, size), arith(rng, pool, size))
 }
 
+/// Now and then with "true and" or "and true" (request [2]).
 pub fn boolean(rng: &mut Prng, pool: &Pool, size: usize) -> Bool {
+    if rng.once_in(12) {
+        let b = boolean(rng, pool, size);
+        return if rng.once_in(2) { and(always(), b) } else { and(b, always()) };
+    }
     if size == 0 || rng.once_in(2) {
         if rng.once_in(6) {
             return Bool::Truth(rng.once_in(2));

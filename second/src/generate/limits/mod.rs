@@ -2,6 +2,7 @@
 //! comparisons, 32,768 bytes, 16 procedures; and files of which two refusals
 //! are true, so that their order tells.
 
+mod chains;
 mod deep;
 mod loops;
 mod many;
@@ -15,7 +16,8 @@ use crate::layout::words::{bytes_of, pack};
 
 /// A file near one of the check's limits, on either side.
 pub fn limit(rng: &mut Prng) -> Vec<u8> {
-    match rng.below(13) {
+    match rng.below(15) {
+        13 | 14 => chains::chains(rng),
         8 => loops::loops(rng),
         9 => procedures::nest(rng),
         10 | 11 => procedures::calls(rng),

@@ -1,5 +1,6 @@
 //! Mutations of a file: words changed, put in, taken out, swapped, bits
-//! flipped, expressions exchanged, procedures changed; the word count mended or not.
+//! flipped, expressions exchanged, true put in and taken out, procedures
+//! changed; the word count mended or not.
 
 mod procedures;
 
@@ -43,7 +44,7 @@ fn mutate_once(rng: &mut Prng, words: &mut Vec<u32>) {
     if take_apart(1, words[1]).kind == 62 && rng.once_in(5) {
         return change_procedures(rng, words);
     }
-    match rng.below(24) {
+    match rng.below(26) {
         0 => words[at] = any_word(rng),
         1 => words.insert(at, any_word(rng)),
         2 => {
@@ -70,6 +71,7 @@ fn mutate_once(rng: &mut Prng, words: &mut Vec<u32>) {
         20 => change_counter(rng, words),
         // A rule of another number that carries and has as much.
         21 | 22 => change_rule(rng, words),
+        23 | 24 => change_true(rng, words),
         // A run of words twice.
         _ => {
             let end = (at + 1 + rng.below(4)).min(words.len());
@@ -110,6 +112,32 @@ fn change_rule(rng: &mut Prng, words: &mut [u32]) {
             _ => continue,
         };
         words[at] = pack(word.kind, *rng.pick(alike));
+        return;
+    }
+}
+
+/// "true and" or "and true" put to some boolean, or taken from it (request [2]).
+fn change_true(rng: &mut Prng, words: &mut Vec<u32>) {
+    let start = rng.below(words.len());
+    let (and, truth) = (pack(10, 0), pack(9, 1));
+    let put = rng.once_in(2);
+    for i in 0..words.len() {
+        let at = (start + i) % words.len();
+        let boolean = class_and_parts(words[at]).is_some_and(|(class, _)| class == 2);
+        let Some(end) = tree_end(words, at).filter(|_| boolean) else { continue };
+        if put && rng.once_in(2) {
+            words.splice(at..at, [and, truth]);
+        } else if put {
+            words.insert(end, truth);
+            words.insert(at, and);
+        } else if words[at] == and && words[at + 1] == truth {
+            words.drain(at..at + 2);
+        } else if words[at] == and && words[end - 1] == truth && tree_end(words, at + 1) == Some(end - 1) {
+            words.remove(end - 1);
+            words.remove(at);
+        } else {
+            continue;
+        }
         return;
     }
 }
