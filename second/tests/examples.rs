@@ -308,3 +308,11 @@ fn the_contract_is_that_of_figure_3() {
     let shown: Vec<String> = outputs.into_iter().map(|e| NAMES.expression(e)).collect();
     assert_eq!(shown, ["OUT_0_DAT", "OUT_1_DAT"]);
 }
+
+/// The tidied guard has the program and the contract of the other, and less words of evidence.
+#[test]
+fn the_tidied_guard_is_the_guard() {
+    let [both, tidied] = ["guard-both", "guard-tidied"].map(|name| read(&bytes(name)).expect("readable"));
+    assert_eq!((both.command, both.pre, both.post), (tidied.command, tidied.pre, tidied.post));
+    assert_eq!(bytes("guard-both").len() - bytes("guard-tidied").len(), 4 * 24);
+}

@@ -1,10 +1,12 @@
 //! Certificates of `examples/` as trees: the text and the file of one, and short ways to write the trees.
 
+use crate::generate::plain::booleans::{Booleans, Stands};
 use crate::layout::syntax::*;
 use crate::layout::words::bytes_of;
 use crate::layout::write::file_words_with;
 use crate::naive::judge::operands_of;
 use crate::naive::modified::of_expression;
+use crate::naive::plain::plain;
 use crate::naive::read::read;
 use crate::view::annotate::annotate;
 use crate::view::show::Names;
@@ -43,6 +45,19 @@ impl Example {
         let body = annotate(&file, &self.names).expect("each rule fits its command");
         format!("{head}\n{body}")
     }
+}
+
+/// The certificate with every antecedent and every carried assertion plain; consequents and commands are as they were.
+pub fn tidied(example: Example) -> Example {
+    let mut file = read(&example.bytes()).expect("an example reads");
+    let mut change = |stands, b: &mut Bool| {
+        if matches!(stands, Stands::Antecedent | Stands::Without) {
+            *b = plain(b);
+        }
+    };
+    Booleans { change: &mut change }.file(&mut file);
+    let File { procedures, command, pre, post, evidence, .. } = file;
+    Example { procedures, program: command, pre, post, evidence: Box::new(evidence), ..example }
 }
 
 /// A flag: an integer that is 1 when it is set.

@@ -192,6 +192,12 @@ fn both() -> Example {
     good("guard-both", about, pre, post, flow_of(FlowRule::F9 { s, s2, t, t2, first, second }))
 }
 
+/// The same as a generator writes it that tidies true ∧ φ to φ (request [2]).
+fn both_tidied() -> Example {
+    let about = "guard-both as a generator writes it that tidies true ∧ φ to φ in every antecedent.\nAccepted.";
+    Example { name: "guard-tidied", about, ..tidied(both()) }
+}
+
 /// The trap of rule 6: nobody asks that the two runs agree on the test.
 fn without_the_test() -> Example {
     let pre = TO_0.contract()[..2].to_vec();
@@ -225,5 +231,5 @@ fn crossed() -> Example {
 }
 
 pub fn examples() -> Vec<Example> {
-    vec![output_0(), output_1(), both(), without_the_test(), rule_18_turned(), crossed()]
+    vec![output_0(), output_1(), both(), both_tidied(), without_the_test(), rule_18_turned(), crossed()]
 }
