@@ -12,7 +12,7 @@
 
 /* The version of these calls and of what their numbers mean. It is written here alone. */
 #define FLOWCHECK_VERSION_MAJOR 1
-#define FLOWCHECK_VERSION_MINOR 2
+#define FLOWCHECK_VERSION_MINOR 3
 #define FLOWCHECK_VERSION_PATCH 0
 #define FLOWCHECK_QUOTE(a, b, c) #a "." #b "." #c
 #define FLOWCHECK_QUOTED(a, b, c) FLOWCHECK_QUOTE(a, b, c)
@@ -38,7 +38,8 @@ extern "C" {
 #endif
 
 /* Checks the file of `count` bytes. Accepted: the count of its evidence words, below 65,536. Refused: number * 65,536 + place, the
- * number one of 1 to 9 and 16 (flow_meaning). */
+ * number one of 1 to 9 and 16 (flow_meaning). Antecedents, and the assertions of rules 20 to 32, are compared without their "true and"
+ * and "and true"; consequents are compared by words. */
 uint32_t flow_check(const uint8_t *file, size_t count);
 
 /* Where the program, the precondition and the postcondition of an accepted file stand: the place of the part's first word * 65,536 + the
