@@ -13,7 +13,7 @@ pub struct Kind {
     most: u32,
 }
 
-pub const KINDS: [Kind; 8] = [
+pub const KINDS: [Kind; 10] = [
     Kind { name: "shared", tries: "an antecedent judged at every leaf of a tree of ifs", make: shared, most: 1_000 },
     Kind { name: "members", tries: "a set whose antecedents each imply false", make: members, most: 64 },
     Kind { name: "chain", tries: "a chain of implications", make: chain, most: 115 },
@@ -22,6 +22,8 @@ pub const KINDS: [Kind; 8] = [
     Kind { name: "replace", tries: "a long right side put into every member", make: replace, most: 64 },
     Kind { name: "deep", tries: "expressions as deep as may be", make: deep, most: 64 },
     Kind { name: "calls", tries: "what 16 procedures modify that each call the one below twice, asked at every leaf", make: calls, most: 2_000 },
+    Kind { name: "plain", tries: "an assertion among trues, compared at every leaf of a tree of ifs", make: plain, most: 1_000 },
+    Kind { name: "plain-sets", tries: "a set and its reverse, each antecedent in a chain of trues", make: plain_sets, most: 64 },
 ];
 
 impl Kind {
@@ -177,6 +179,46 @@ fn nest_of_calls(set: &Set) -> Vec<Procedure> {
     (0..MOST_PROCEDURES).map(one).collect()
 }
 
+/// `true ∧ (true ∧ ..)` around a boolean, or `(.. ∧ true) ∧ true`.
+fn chain_of_trues(length: u32, b: Bool, right: bool) -> Bool {
+    (0..length).fold(b, |b, _| if right { and(always(), b) } else { and(b, always()) })
+}
+
+/// The boolean in the middle of so many chains of 40 trues, nested to the right and to the left by turns.
+fn among_trues(chains: u32, b: &Bool) -> Bool {
+    let leaf = |i: u32| if i == chains / 2 { b.clone() } else { chain_of_trues(39, always(), i % 2 == 0) };
+    tree(0, chains + 1, &leaf, &and)
+}
+
+/// Request [2]. About half of the file is the assertion φ' among trues, half are ifs with test true: rules 28 and 20 at an if, where φ
+/// is tidied, and rules 28 and 22 at a leaf, where φ is the assertion alone.
+fn plain(ifs: u32) -> Vec<u32> {
+    let alone = compare(Comparison::Less, Arith::Scalar(0), number(1));
+    let leaf = |_| *before_of(BeforeRule::B28 { phi1: alone.clone(), inner: before_of(BeforeRule::B22) });
+    let node = |a, b| {
+        let (then, otherwise) = (Box::new(a), Box::new(b));
+        let inner = before_of(BeforeRule::B20 { phi1: always(), phi2: always(), then, otherwise });
+        *before_of(BeforeRule::B28 { phi1: or(always(), not(always())), inner })
+    };
+    let c = tree(0, ifs + 1, &|_| skip(), &|a, b| if_else(always(), a, b));
+    let before = Box::new(tree(0, ifs + 1, &leaf, &node));
+    let set = |phi: Bool| vec![member(phi, Arith::Scalar(1))];
+    let q = set(among_trues(ifs.div_ceil(5), &alone));
+    file_words(&c, &set(always()), &q, &flow_of(FlowRule::F11 { before }))
+}
+
+/// Request [2], rule 1: the antecedents alone tell the members apart, each in a chain of trues; P is the reverse of Q, nested to the other
+/// side.
+fn plain_sets(count: u32) -> Vec<u32> {
+    let one = |n: u32, right| {
+        let phi = compare(Comparison::Less, Arith::Scalar(0), number(n));
+        member(chain_of_trues(29, phi, right), Arith::Scalar(1))
+    };
+    let p: Set = (0..count).rev().map(|n| one(n, n % 2 == 0)).collect();
+    let q: Set = (0..count).map(|n| one(n, n % 2 == 1)).collect();
+    file_words(&skip(), &p, &q, &flow_of(FlowRule::F1))
+}
+
 /// Files that take much stack: evidence as deep as may be, and under it a rule that walks an expression as deep as may be.
 pub fn deepest() -> Vec<Vec<u8>> {
     const DEEP: u32 = 125;
@@ -194,7 +236,26 @@ pub fn deepest() -> Vec<Vec<u8>> {
     files.extend([plus_left, plus_right, selects].map(|e| replaced_below(Expression::Arith(e))));
     files.push(replaced_below(Expression::Array(updates)));
     files.extend([nots, left, right].map(|e| replaced_below(Expression::Bool(e))));
+    let never = || Bool::Truth(false);
+    let ways: [fn(Bool, Bool) -> Bool; 5] = [|e, _| not(e), or, |e, f| or(f, e), and, |e, f| and(f, e)];
+    for way in ways {
+        let deep = |last| (0..DEEP).fold(last, |e, _| way(e, never()));
+        files.push(compared_below(deep(and(always(), never())), deep(never())));
+    }
     files
+}
+
+/// Rule 13 of flow again and again, then rule 1: antecedents that are equal once a "true and" is dropped below.
+fn compared_below(phi: Bool, psi: Bool) -> Vec<u8> {
+    let test = Member { phi: always(), e: Expression::Bool(always()) };
+    let [p, q] = [phi, psi].map(|phi| [test.clone(), member(phi, number(5))]);
+    let mut c = skip();
+    let mut evidence = flow_of(FlowRule::F1);
+    for _ in 0..125 {
+        c = command(Form::While(always(), Box::new(c)));
+        evidence = flow_of(FlowRule::F13 { body: evidence });
+    }
+    bytes_of(&file_words(&c, &p, &q, &evidence))
 }
 
 /// Rule 28 again and again, then rule 21, whose condition has the antecedent of Q.

@@ -134,7 +134,8 @@ Written by `./benchmark`, which measures again and writes this file and its pict
 called once through its C function, against
 
 - **fast**: a plain fast version in Rust (`second/src/fast`), written for speed where nothing has to be proved: places in the word
-  array, each part's end and identifiers worked out once, truth tables of 64 assignments in a number, arrays lent by the caller;
+  array, each part's end, identifiers and plain form worked out once, truth tables of 64 assignments in a number, arrays lent by the
+  caller;
 - **second**: the naive second implementation in Rust (`second/src/naive`), trees built on the heap;
 - **yardstick**: another plain Rust version, of which only the counts in `tests/usual/expected` and `tests/worst/expected` are here.
 
@@ -148,8 +149,8 @@ const FILES: &str = "![The proved check's instructions against the others', file
 
 ## The check, file by file
 
-The files are in `tests/usual` (steps of the mailbox guard of paper 000, chains of steps, and a step with a procedure) and `tests/worst`. Instructions are the
-proved check's.
+The files are in `tests/usual` (steps of the mailbox guard of paper 000, chains of steps, a step with a procedure, and a step that is tidied) and
+`tests/worst`. Instructions are the proved check's.
 ";
 
 const GROWTH: &str = "## How the cost grows
