@@ -447,6 +447,32 @@ static void try_replaced(const struct deep *which, uint32_t assignment, uint32_t
     try_check(name, &due);
 }
 
+/* Rule 13 at each while of a nest, and below it rule 1: antecedents as deep as may be, P's with a "true and" at the last level. */
+static void try_compared(const struct deep *which)
+{
+    char name[80];
+    uint64_t due = DEEPEST;
+    int i;
+
+    begin();
+    nest(DEEPEST - 1, WHILE, 0, TRUTH);
+    put(SKIP, 0);
+    for (i = 0; i < 2; i++) {
+        nest(1, SET, 2, TRUTH);
+        put(TRUTH, 1);
+        nest(DEEPEST - 3, which->kind, 0, which->leaf);
+        nest(1 - i, AND, 0, TRUTH);
+        put(TRUTH, 0);
+        nest((DEEPEST - 3) * which->times, which->after, 1, 0);
+        put(SCALAR, 0);
+    }
+    nest(DEEPEST - 1, FLOW, 13, 0);
+    put(FLOW, 1);
+    end();
+    snprintf(name, sizeof name, "rule 1 at depth 128, antecedents of %s", which->name);
+    try_check(name, &due);
+}
+
 /* So many `for` loops, over scalars of their own. */
 static void put_fors(int fors)
 {
@@ -593,6 +619,9 @@ static void try_deepest(void)
     for (i = 0; i < (int)DEEP; i++) {
         try_replaced(&deep[i], TO_SCALAR, SCALAR);
         try_replaced(&deep[i], TO_ARRAY, ARRAY);
+        if (deep[i].command == ASSERT) {
+            try_compared(&deep[i]);
+        }
     }
     for (i = 0; i < 2; i++) {
         for (whiles = DEEPEST - 1 - fors[i]; whiles >= 0; whiles -= whiles > DEEPEST - 8 - fors[i] ? 1 : 30) {
