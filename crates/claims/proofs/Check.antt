@@ -9,6 +9,7 @@ use Prim.Native.Nat.{ℕ}
 use native.Mathlib.Omega.{arith}
 use Rattle.rules.specs.Assertion.{Secure}
 use Rattle.rules.specs.Context.{Limits, Context, alone, itemAt}
+use Rattle.rules.specs.Sets.{SamePlain}
 use Rattle.rules.specs.Judge.{Verdict, accepted, refused}
 use Rattle.rules.proofs.Judged.{Accepts, also-is, also-accepts, flow-judged}
 use Rattle.rules.proofs.Stores.{Valid}
@@ -29,13 +30,13 @@ acceptance : (v : Verdict) → Accepts v → (n : ℕ) × (v ≡ accepted n)
 acceptance (accepted n) h = (n, refl)
 acceptance (refused k i) h = absurd h
 
-programs-derived : (Γ : Context) (l : List Program) (f : Program) → Accepts (judgePrograms Γ l f) → Derivations Γ l f
+programs-derived : (Γ : Context) (l : List Program) (f : Program) → Accepts (judgePrograms Γ l f) → Derivations SamePlain Γ l f
 unfolding judgePrograms
 programs-derived Γ [] f a = flow-judged Γ (f .evidence) (f .pre) (f .command) (f .post) .sound a
 programs-derived Γ (g ∷ l) f a = also-is _ _ a λ x y.
     (flow-judged Γ (g .evidence) (g .pre) (g .command) (g .post) .sound x, programs-derived (after Γ g) l f y)
 
-programs-accepted : (Γ : Context) (l : List Program) (f : Program) → Derivations Γ l f → Accepts (judgePrograms Γ l f)
+programs-accepted : (Γ : Context) (l : List Program) (f : Program) → Derivations SamePlain Γ l f → Accepts (judgePrograms Γ l f)
 unfolding judgePrograms
 programs-accepted Γ [] f d = flow-judged Γ (f .evidence) (f .pre) (f .command) (f .post) .complete d
 programs-accepted Γ (g ∷ l) f d =
@@ -43,7 +44,7 @@ programs-accepted Γ (g ∷ l) f d =
     (programs-accepted (after Γ g) l f (d .1))
 
 -- ---- demand 3, on trees
-program-secure : (Γ : Context) (f : Program) → Valid Γ → ProgramResolved Γ f → Derivation Γ f →
+program-secure : (Γ : Context) (f : Program) → Valid Γ → ProgramResolved Γ f → Derivation SamePlain Γ f →
     Secure (f .pre) (f .command) (f .post)
 program-secure Γ f v r d = flow-secure Γ v d (r .carried) (record { calls = r .command })
 
@@ -56,7 +57,7 @@ valid-after Γ f v s = record {
   ];
 }
 
-programs-secure : (Γ : Context) (l : List Program) (f : Program) → Valid Γ → ProgramsResolved Γ l f → Derivations Γ l f →
+programs-secure : (Γ : Context) (l : List Program) (f : Program) → Valid Γ → ProgramsResolved Γ l f → Derivations SamePlain Γ l f →
     Contracts l f
 programs-secure Γ [] f v r d = program-secure Γ f v r d
 programs-secure Γ (g ∷ l) f v r d =
@@ -73,7 +74,7 @@ module _ (limits : Limits) (bytes : List ℕ) where
   stood f end e = file-stood limits (wordsOf bytes) f end (file-words limits bytes f end e)
 
   -- what is read, when it is accepted, derives its contracts
-  derives : (r : Reading File) → fileOf limits bytes ≡ r → Accepts (judged limits r) → Derives limits bytes
+  derives : (r : Reading File) → fileOf limits bytes ≡ r → Accepts (judged limits r) → Derives SamePlain limits bytes
   derives (read f end) h a = record {
     file = f;
     end = end;

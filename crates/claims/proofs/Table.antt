@@ -7,6 +7,7 @@ use Rattle.language.specs.Modifies.{identifiers}
 use Rattle.rules.specs.Words.{words, commandWords}
 use Rattle.rules.specs.Context.{standard}
 use Rattle.rules.specs.Replace.{replace}
+use Rattle.rules.specs.Plain.{plain}
 use Rattle.rules.specs.Sets.{setIdentifiers}
 use Rattle.rules.specs.Condition.{test, byForm}
 use Rattle.rules.specs.Judge.{oneMore, judgeWord, flowRule, judge}
@@ -24,7 +25,7 @@ use Rattle.claims.specs.Table.{AllRight, starredRows}
 
 pub table-right : AllRight starredRows
 unfolding starredRows verdictOf fileOf wordsOf wordsRead programs parts finish callsTested steadyFile unsteadyAt firstPlace standard judgePrograms
-    words commandWords replace test byForm oneMore judgeWord flowRule judge _⊛_ several wordDue expression command set evidence value
+    words commandWords replace plain test byForm oneMore judgeWord flowRule judge _⊛_ several wordDue expression command set evidence value
     identifiers setIdentifiers evaluate turns run runFile runOf
 table-right =
     (refl, (refl, (refl, (refl, (refl, (refl, (refl, (refl, (refl, (refl, ((refl, refl, refl), ((refl, refl, refl), ((refl, refl, refl), tt)))))))))))))

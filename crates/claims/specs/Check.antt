@@ -1,4 +1,5 @@
--- Demands 2 and 3 of the check on bytes (document 02, request [3]: for the main program and for each procedure).
+-- Demands 2 and 3 of the check on bytes (document 02, request [3]: for the main program and for each procedure). Derivations are of any
+-- sameness of antecedents: that of the check is `SamePlain`, that before request [2] `SameByWords`.
 -- Trusted. Assumes nothing.
 --     Derivation     the evidence of a program derives its contract
 --     Derivations    that of each procedure does, under those before it, and that of the main program
@@ -11,6 +12,7 @@ use mathlib.Core.List.{List, [], _∷_}
 use Prim.Native.Nat.{ℕ}
 use Rattle.rules.specs.Assertion.{Secure}
 use Rattle.rules.specs.Context.{Limits, Context, alone}
+use Rattle.rules.specs.Sets.{Sameness, SamePlain}
 use Rattle.rules.specs.Derivation.{Flow}
 use Rattle.rules.specs.Judge.{accepted}
 use Rattle.layout.specs.Bytes.{wordsOf}
@@ -20,22 +22,22 @@ use Rattle.layout.specs.File.{File, fileOf}
 use Rattle.layout.specs.Counted.{countEvidence}
 use Rattle.layout.specs.Verdict.{verdictOf}
 
-abbrev pub Derivation : Context → Program → Type 0
-Derivation Γ f = Flow Γ (f .evidence) (f .pre) (f .command) (f .post)
+abbrev pub Derivation : Sameness → Context → Program → Type 0
+Derivation S Γ f = Flow S Γ (f .evidence) (f .pre) (f .command) (f .post)
 
-abbrev pub Derivations : Context → List Program → Program → Type 0
-Derivations Γ [] f = Derivation Γ f
-Derivations Γ (g ∷ l) f = Derivation Γ g × Derivations (after Γ g) l f
+abbrev pub Derivations : Sameness → Context → List Program → Program → Type 0
+Derivations S Γ [] f = Derivation S Γ f
+Derivations S Γ (g ∷ l) f = Derivation S Γ g × Derivations S (after Γ g) l f
 
-pub record Derives (limits : Limits) (bytes : List ℕ) : Type 0 where
+pub record Derives (S : Sameness) (limits : Limits) (bytes : List ℕ) : Type 0 where
   pub file : File
   pub end : ℕ
   pub reads : fileOf limits bytes ≡ read file end
-  pub derivations : Derivations (alone limits) (file .procedures) (file .main)
+  pub derivations : Derivations S (alone limits) (file .procedures) (file .main)
 
 pub record Demand2 (limits : Limits) (bytes : List ℕ) : Type 0 where
-  pub sound : (n : ℕ) → verdictOf limits bytes ≡ accepted n → Derives limits bytes
-  pub complete : Derives limits bytes → (n : ℕ) × (verdictOf limits bytes ≡ accepted n)
+  pub sound : (n : ℕ) → verdictOf limits bytes ≡ accepted n → Derives SamePlain limits bytes
+  pub complete : Derives SamePlain limits bytes → (n : ℕ) × (verdictOf limits bytes ≡ accepted n)
   -- the count is that of the evidence words of the file
   pub counted : (n : ℕ) → verdictOf limits bytes ≡ accepted n → n ≡ countEvidence (wordsOf bytes)
 

@@ -1,9 +1,11 @@
 -- What is claimed of the definitions, on bytes.
---     Check       demands 2 and 3, of the check
---     Runner      demand 2, of the runner
---     AsBefore    request [1] of document 02 against the order before it
---     Table       document 01's starred rows
+--     Check            demands 2 and 3, of the check
+--     Runner           demand 2, of the runner
+--     AsBefore         request [1] of document 02 against the order before it
+--     StillAccepted    request [2] of document 02 against the rules before it
+--     Table            document 01's starred rows
 pub mod Check
 pub mod Runner
 pub mod AsBefore
+pub mod StillAccepted
 pub mod Table

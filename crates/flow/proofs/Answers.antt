@@ -13,6 +13,7 @@ use Rattle.layout.specs.Reading.{Reading, read, fault}
 use Rattle.layout.specs.File.{File, fileOf}
 use Rattle.layout.specs.Verdict.{judged, verdictOf}
 use Rattle.claims.proofs.Check.{demand-2, demand-3}
+use Rattle.claims.proofs.StillAccepted.{still-accepted}
 use Rattle.context.specs.Contexts.{limitsOf}
 use Rattle.context.specs.declared.Context.{Context}
 use Rattle.reader.specs.Program.{places}
@@ -58,4 +59,5 @@ checked bytes r q e h = record {
   answer = outcome-answer standard bytes r q e h;
   exact = demand-2 standard bytes;
   secure = demand-3 standard bytes;
+  still-accepted = still-accepted standard bytes;
 }

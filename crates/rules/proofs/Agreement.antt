@@ -13,10 +13,9 @@
 use mathlib.Core.Path.{_≡_, refl, sym, _∙_, ap, ap₂, subst, subst₂}
 use mathlib.Core.Bool.{Bool, true, false, not, _&&_, _||_, cond}
 use mathlib.Core.List.{List, [], _∷_, _++_}
-use mathlib.Core.Logic.{_⊎_, inl, inr}
 use mathlib.Core.Option.{Option, none, some}
 use Prim.Native.Nat.{ℕ}
-use Rattle.laws.proofs.Bools.{and-left, and-right, and-both, or-cases, clash}
+use Rattle.laws.proofs.Bools.{and-left, and-right, and-both}
 use Rattle.language.specs.Syntax.{Sort, Arithmetic, Boolean, Array, Expr, constant, scalar, operation, select}
 use Rattle.language.specs.Syntax.{compare, truth, and, or, neg, array, zeros, update, Assignment, Command}
 use Rattle.language.specs.Store.{Store, Value, apply, relate, value}
@@ -24,18 +23,19 @@ use Rattle.language.specs.Runs.{assigned, Runs}
 use Rattle.language.specs.Modifies.{Identifier, identifiers}
 use Rattle.language.proofs.Values.{AllInBoth, same-value}
 use Rattle.language.proofs.Kept.{kept}
-use Rattle.rules.specs.Words.{words, sameWords}
 use Rattle.rules.specs.Assertion.{Member, Members, member, OneValue, SameValue, Holds, Agree}
 use Rattle.rules.specs.Replace.{replacement, replaceMembers}
-use Rattle.rules.specs.Sets.{SameAntecedent, SameConsequent, SameMember, StandsIn, stands-here, stands-later}
+use Rattle.rules.specs.Sets.{SamePlain, SameConsequent, SameMember, StandsIn, stands-here, stands-later}
 use Rattle.rules.specs.Sets.{Within, Same, under, listed, without, operands, setIdentifiers, Unmodified}
-use Rattle.rules.proofs.Unique.{same-tree, expression-unique}
-use Rattle.rules.proofs.Decides.{sameWords-decides}
+use Rattle.rules.proofs.Unique.{same-tree}
+use Rattle.rules.proofs.Plain.{plain-value, same-plain, words-antecedent}
+use Rattle.rules.proofs.Monotone.{stands-monotone}
+use Rattle.rules.proofs.Decides.{listed-decides}
 use Rattle.rules.proofs.Replaced.{replaced-assigned}
 
 -- antecedents that are compared as the same have one value
-pub antecedent-value : (φ ψ : Expr Boolean) → SameAntecedent φ ψ → (s : Store) → value φ s ≡ value ψ s
-antecedent-value φ ψ h s = ap (λ φ. value φ s) (expression-unique φ ψ h)
+pub antecedent-value : (φ ψ : Expr Boolean) → SamePlain φ ψ → (s : Store) → value φ s ≡ value ψ s
+antecedent-value φ ψ h s = sym (plain-value φ s) ∙ ap (λ φ. value φ s) (same-plain φ ψ h) ∙ plain-value ψ s
 
 -- consequents that are compared as the same have one value in two stores together
 pub consequent-value : {j k : Sort} (d : Expr j) (e : Expr k) → SameConsequent d e → (s t : Store) →
@@ -49,24 +49,24 @@ one-value Boolean h = h
 one-value Array h = λ i. ap (λ f. f i) h
 
 module _ (s t : Store) where
-  pub same-holds : {m n : Member} → SameMember m n → Holds n s t → Holds m s t
+  pub same-holds : {m n : Member} → SameMember SamePlain m n → Holds n s t → Holds m s t
   same-holds {m} {n} h a i j =
       let same = antecedent-value (m .antecedent) (n .antecedent) (h .antecedents) in
       consequent-value (n .consequent) (m .consequent) (sym (h .consequents)) s t
       (a (sym (same s) ∙ i) (sym (same t) ∙ j))
 
-  pub standing : {m : Member} {p : Members} → StandsIn m p → Agree p s t → Holds m s t
+  pub standing : {m : Member} {p : Members} → StandsIn SamePlain m p → Agree p s t → Holds m s t
   standing (stands-here h) a = same-holds h (a .0)
   standing (stands-later h) a = standing h (a .1)
 
-  pub agree-within : (q p : Members) → Within q p → Agree p s t → Agree q s t
+  pub agree-within : (q p : Members) → Within SamePlain q p → Agree p s t → Agree q s t
   agree-within [] p h a = tt
   agree-within (m ∷ q) p h a = (standing (h .0) a, agree-within q p (h .1) a)
 
-  pub agree-same : (p q : Members) → Same p q → Agree p s t → Agree q s t
+  pub agree-same : (p q : Members) → Same SamePlain p q → Agree p s t → Agree q s t
   agree-same p q h a = agree-within q p (h .second) a
 
-  pub agree-back : (p q : Members) → Same p q → Agree q s t → Agree p s t
+  pub agree-back : (p q : Members) → Same SamePlain p q → Agree q s t → Agree p s t
   agree-back p q h a = agree-within p q (h .first) a
 
   pub agree-left : (p q : Members) → Agree (p ++ q) s t → Agree p s t
@@ -101,20 +101,7 @@ module _ (s t : Store) where
 
   -- a member that is listed, by words, holds where the list does
   listed-holds : (m : Member) (p : Members) → listed m p ≡ true → Agree p s t → Holds m s t
-  listed-holds m [] h a = clash h refl
-  listed-holds m (n ∷ p) h a = go (or-cases _ (listed m p) h) (λ k. listed-holds m p k (a .1))
-    where
-      alike : Bool
-      alike = sameWords (words (m .antecedent)) (words (n .antecedent))
-          && sameWords (words (m .consequent)) (words (n .consequent))
-
-      go : ((alike ≡ true) ⊎ (listed m p ≡ true)) → (listed m p ≡ true → Holds m s t) → Holds m s t
-      go (inl e) r = same-holds (record {
-        antecedents = sameWords-decides _ _ .sound (and-left _ _ e);
-        consequents = sameWords-decides _ _ .sound
-            (and-right (sameWords (words (m .antecedent)) (words (n .antecedent))) _ e);
-      }) (a .0)
-      go (inr e) r = r e
+  listed-holds m p h a = standing (stands-monotone words-antecedent (listed-decides m p .sound h)) a
 
   pub agree-without : (p q : Members) → Agree q s t → Agree (without p q) s t → Agree p s t
   agree-without [] q a b = tt

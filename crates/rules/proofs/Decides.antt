@@ -3,8 +3,10 @@
 --     sameWord-decides, sameWords-decides                                 equality of words
 --     sameAntecedent-decides, sameConsequent-decides, sameMember-decides  sameness of the parts of members, of members
 --     stands-decides, within-decides, same-decides                        of sets
+--     listed-decides                                                      rule 17's "without" is by words
 --     unmodified-decides, isEmpty-decides                                 no identifier is modified; a list is empty
 use mathlib.Core.Path.{_≡_, refl, sym, ap₂, subst}
+use mathlib.Core.Bool.{Bool, _&&_, _||_}
 use mathlib.Core.Logic.{_⊎_, inl, inr}
 use mathlib.Core.List.{List, [], _∷_, head-eq-of-cons-eq, tail-eq-of-cons-eq, cons≢nil, nil≢cons}
 use Prim.Native.Nat.{ℕ}
@@ -15,9 +17,10 @@ use Rattle.language.specs.Syntax.{Sort, Boolean, Expr, Command}
 use Rattle.language.specs.Modifies.{Identifier, modifies}
 use Rattle.language.proofs.Integers.{sameInteger-decides}
 use Rattle.rules.specs.Words.{Word, word, forWord, words, sameWord, sameWords}
+use Rattle.rules.specs.Plain.{plain}
 use Rattle.rules.specs.Assertion.{Member, Members}
-use Rattle.rules.specs.Sets.{SameAntecedent, SameConsequent, SameMember, StandsIn, stands-here, stands-later}
-use Rattle.rules.specs.Sets.{Within, Same, Unmodified}
+use Rattle.rules.specs.Sets.{Sameness, SamePlain, SameByWords, SameConsequent, SameMember, StandsIn, stands-here, stands-later}
+use Rattle.rules.specs.Sets.{Within, Same, listed, Unmodified}
 use Rattle.rules.specs.Tests.{sameAntecedent, sameConsequent, sameMember, stands, within, same}
 use Rattle.rules.specs.Tests.{unmodified, isEmpty}
 
@@ -47,39 +50,49 @@ sameWords-decides (v ∷ k) (w ∷ l) =
     (λ h. (head-eq-of-cons-eq h, tail-eq-of-cons-eq h))
     (decides-and (sameWord-decides v w) (sameWords-decides k l))
 
-pub sameAntecedent-decides : (φ ψ : Expr Boolean) → Decides (sameAntecedent φ ψ) (SameAntecedent φ ψ)
-sameAntecedent-decides φ ψ = sameWords-decides (words φ) (words ψ)
+pub sameAntecedent-decides : (φ ψ : Expr Boolean) → Decides (sameAntecedent φ ψ) (SamePlain φ ψ)
+sameAntecedent-decides φ ψ = sameWords-decides (words (plain φ)) (words (plain ψ))
 
 pub sameConsequent-decides : {j k : Sort} (d : Expr j) (e : Expr k) →
     Decides (sameConsequent d e) (SameConsequent d e)
 sameConsequent-decides d e = sameWords-decides (words d) (words e)
 
-pub sameMember-decides : (m n : Member) → Decides (sameMember m n) (SameMember m n)
-sameMember-decides m n =
-    decides-map
-    (λ h. record { antecedents = h .0; consequents = h .1 })
-    (λ h. (h .antecedents, h .consequents))
-    (decides-and
-    (sameAntecedent-decides (m .antecedent) (n .antecedent))
-    (sameConsequent-decides (m .consequent) (n .consequent)))
+-- by any sameness of antecedents that a test decides
+module _ {S : Sameness} where
+  member-decides : {a : Bool} (m n : Member) → Decides a (S (m .antecedent) (n .antecedent)) →
+      Decides (a && sameConsequent (m .consequent) (n .consequent)) (SameMember S m n)
+  member-decides m n d =
+      decides-map
+      (λ h. record { antecedents = h .0; consequents = h .1 })
+      (λ h. (h .antecedents, h .consequents))
+      (decides-and d (sameConsequent-decides (m .consequent) (n .consequent)))
 
-stands-cases : {m n : Member} {p : Members} → StandsIn m (n ∷ p) → SameMember m n ⊎ StandsIn m p
-stands-cases (stands-here h) = inl h
-stands-cases (stands-later h) = inr h
+  stands-cases : {m n : Member} {p : Members} → StandsIn S m (n ∷ p) → SameMember S m n ⊎ StandsIn S m p
+  stands-cases (stands-here h) = inl h
+  stands-cases (stands-later h) = inr h
 
-pub stands-decides : (m : Member) (p : Members) → Decides (stands m p) (StandsIn m p)
+  here-or-later : {a b : Bool} {m n : Member} {p : Members} → Decides a (SameMember S m n) → Decides b (StandsIn S m p) →
+      Decides (a || b) (StandsIn S m (n ∷ p))
+  here-or-later d e = decides-map (elim [ inl h ↦ stands-here h | inr h ↦ stands-later h ]) stands-cases (decides-or d e)
+
+pub sameMember-decides : (m n : Member) → Decides (sameMember m n) (SameMember SamePlain m n)
+sameMember-decides m n = member-decides m n (sameAntecedent-decides (m .antecedent) (n .antecedent))
+
+pub stands-decides : (m : Member) (p : Members) → Decides (stands m p) (StandsIn SamePlain m p)
 stands-decides m [] = decides-no (elim [ ])
-stands-decides m (n ∷ p) =
-    decides-map
-    (elim [ inl h ↦ stands-here h | inr h ↦ stands-later h ])
-    stands-cases
-    (decides-or (sameMember-decides m n) (stands-decides m p))
+stands-decides m (n ∷ p) = here-or-later (sameMember-decides m n) (stands-decides m p)
 
-pub within-decides : (p q : Members) → Decides (within p q) (Within p q)
+-- a member is listed exactly when it stands in the set by words
+pub listed-decides : (m : Member) (p : Members) → Decides (listed m p) (StandsIn SameByWords m p)
+listed-decides m [] = decides-no (elim [ ])
+listed-decides m (n ∷ p) =
+    here-or-later (member-decides m n (sameWords-decides (words (m .antecedent)) (words (n .antecedent)))) (listed-decides m p)
+
+pub within-decides : (p q : Members) → Decides (within p q) (Within SamePlain p q)
 within-decides [] q = decides-yes tt
 within-decides (m ∷ p) q = decides-and (stands-decides m q) (within-decides p q)
 
-pub same-decides : (p q : Members) → Decides (same p q) (Same p q)
+pub same-decides : (p q : Members) → Decides (same p q) (Same SamePlain p q)
 same-decides p q =
     decides-map
     (λ h. record { first = h .0; second = h .1 })

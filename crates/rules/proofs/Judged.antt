@@ -11,15 +11,16 @@ use Rattle.language.specs.Syntax.{Boolean, Expr, Command, ifElse}
 use Rattle.language.specs.Modifies.{identifiers}
 use Rattle.rules.specs.Assertion.{Members}
 use Rattle.rules.specs.Context.{Context, itemAt}
-use Rattle.rules.specs.Sets.{operands, setIdentifiers}
+use Rattle.rules.specs.Sets.{SamePlain, operands, setIdentifiers}
 use Rattle.rules.specs.Tests.{same}
 use Rattle.rules.specs.Evidence.{FlowEvidence, SetEvidence, PreEvidence, by, assertion, command, members, child}
 use Rattle.rules.specs.Evidence.{done, _&_, flow1, flow2, flow3, flow4, flow5, flow6, flow7, flow8, flow9, flow10}
 use Rattle.rules.specs.Evidence.{flow11, flow12, flow13, flow14, flow31, set13, set14, set15, set16, set17, set18, set19}
 use Rattle.rules.specs.Evidence.{pre20, pre21, pre22, pre23, pre24, pre25, pre26, pre27, pre28, pre29, pre30, pre32}
-use Rattle.rules.specs.Derivation.{Necessary, rule-20, rule-21, rule-22, rule-23, rule-24, rule-25, rule-26}
-use Rattle.rules.specs.Derivation.{rule-27, rule-28, rule-29, rule-30, rule-32, Follows, set-rule-13, set-rule-14}
-use Rattle.rules.specs.Derivation.{set-rule-15, set-rule-16, set-rule-17, set-rule-18, set-rule-19, Flow}
+use Rattle.rules.specs.Derivation as derivation
+use Rattle.rules.specs.Derivation.{rule-20, rule-21, rule-22, rule-23, rule-24, rule-25, rule-26}
+use Rattle.rules.specs.Derivation.{rule-27, rule-28, rule-29, rule-30, rule-32, set-rule-13, set-rule-14}
+use Rattle.rules.specs.Derivation.{set-rule-15, set-rule-16, set-rule-17, set-rule-18, set-rule-19}
 use Rattle.rules.specs.Derivation.{rule-1, rule-2, rule-3, rule-4, rule-5, rule-6, rule-7, rule-8, rule-9}
 use Rattle.rules.specs.Derivation.{rule-10, rule-11, rule-12, rule-13, rule-14, rule-31}
 use Rattle.rules.specs.Condition.{Result, passes, fails, tooLarge, test, _then_, byForm, onEmpty, onOne, onSome}
@@ -32,6 +33,16 @@ use Rattle.rules.proofs.Passes.{Passes, test-passes, then-passes}
 use Rattle.rules.proofs.Implication.{implication-passes, eachImpliesFalse-passes}
 use Rattle.rules.proofs.Forms.{skip-is, sequence-is, assert-is, scalar-is, array-is, if-is, while-is, for-is}
 use Rattle.rules.proofs.Forms.{call-is, empty-is, one-is, some-is}
+
+-- by the rules with request [2]
+abbrev Necessary : Context → PreEvidence → Expr Boolean → Command → Expr Boolean → Type 0
+Necessary = derivation.Necessary SamePlain
+
+abbrev Follows : Context → SetEvidence → Members → Members → Type 0
+Follows = derivation.Follows SamePlain
+
+abbrev Flow : Context → FlowEvidence → Members → Command → Members → Type 0
+Flow = derivation.Flow SamePlain
 
 abbrev pub Accepts : Verdict → Type 0
 Accepts (accepted n) = Unit {0}

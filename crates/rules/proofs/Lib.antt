@@ -1,6 +1,8 @@
 -- Laws of the rules' definitions.
 --     Spell          the trees that words spell
 --     Unique         one tree has a given spelling
+--     Plain          the plain form of a boolean
+--     Monotone       the rules are monotone in the sameness of antecedents
 --     Decides        the tests of sets decide their statements
 --     Passes         conditions that pass exactly when a statement holds
 --     Table          the table decides the sentence of "Implies"
@@ -14,6 +16,8 @@
 --     Sound          the rules are sound
 pub mod Spell
 pub mod Unique
+pub mod Plain
+pub mod Monotone
 pub mod Decides
 pub mod Passes
 pub mod Table

@@ -22,7 +22,7 @@ use Rattle.rules.specs.Words.{commandWords}
 use Rattle.rules.specs.Assertion.{Members, member, one, Holds, Agree, Secure}
 use Rattle.rules.specs.Context.{Procedure, Context, itemAt}
 use Rattle.rules.specs.Resolved.{Resolved, Carried}
-use Rattle.rules.specs.Sets.{Same, under, without}
+use Rattle.rules.specs.Sets.{SamePlain, Same, under, without}
 use Rattle.rules.specs.Implies.{Implies}
 use Rattle.rules.specs.Evidence.{PreEvidence, SetEvidence, FlowEvidence}
 use Rattle.rules.specs.Derivation.{Necessary, rule-20, rule-21, rule-22, rule-23, rule-24, rule-25, rule-26}
@@ -62,7 +62,7 @@ module _ (Γ : Context) where
       let after = needs-while b φ φ₀ φ′ c h k w f (inside-kept w r i) q v in
       implies-holds Γ _ _ h s (and-both (f _ _ _ i r after) e)
 
-  pub necessary-sound : {k : PreEvidence} {φ φ′ : Expr Boolean} {c : Command} → Necessary Γ k φ c φ′ →
+  pub necessary-sound : {k : PreEvidence} {φ φ′ : Expr Boolean} {c : Command} → Necessary SamePlain Γ k φ c φ′ →
       Carried (Γ .procedures) k → Fits Γ c →
       (n : ℕ) (s t : Store) → StoreFits Γ s → Runs c n s t → value φ′ t ≡ true → value φ s ≡ true
   unfolding value
@@ -91,7 +91,7 @@ module _ (Γ : Context) where
       necessary-sound f x (record { calls = d }) _ s t i (meant d (fits-meaning w) h r) v
   necessary-sound (rule-32 f) (x, _) w n s t i (runs-call r) v = necessary-sound f x (fits-called w) _ s t i r v
 
-  pub follows-sound : {k : SetEvidence} {p q : Members} → Follows Γ k p q → (s t : Store) → Start Γ s t →
+  pub follows-sound : {k : SetEvidence} {p q : Members} → Follows SamePlain Γ k p q → (s t : Store) → Start Γ s t →
       Agree p s t → Agree q s t
   follows-sound (set-rule-13 {p = p} {q = q} h) s t g a = agree-within s t q p h a
   follows-sound (set-rule-14 {q = q} h) s t g a = eachImpliesFalse-agree Γ q h s t
@@ -113,7 +113,7 @@ module _ (Γ : Context) where
 
 -- the parts of rule 6's P
 module _ (s t : Store) (p s₁ t₁ : Members) (b φ₀ : Expr Boolean)
-    (h : Same p (under s₁ b ++ (under t₁ (neg b) ++ one φ₀ b))) (a : Agree p s t) where
+    (h : Same SamePlain p (under s₁ b ++ (under t₁ (neg b) ++ one φ₀ b))) (a : Agree p s t) where
   all : Agree (under s₁ b ++ (under t₁ (neg b) ++ one φ₀ b)) s t
   all = agree-same s t p _ h a
 
@@ -141,7 +141,7 @@ called-body : {Γ : Context} {n : ℕ} {c : Command} {k : Procedure} → Fits Γ
 called-body w e = let f = w .calls .1 in let b = w .calls .2 in cc
 
 module _ (Γ : Context) (valid : Valid Γ) where
-  pub flow-sound : {k : FlowEvidence} {p q : Members} {c : Command} → Flow Γ k p c q →
+  pub flow-sound : {k : FlowEvidence} {p q : Members} {c : Command} → Flow SamePlain Γ k p c q →
       Carried (Γ .procedures) k → Fits Γ c →
       (i j : ℕ) (s t s′ t′ : Store) → Start Γ s t → Runs c i s s′ → Runs c j t t′ → Agree p s t → Agree q s′ t′
   flow-sound (rule-1 {p = p} {q = q} h) _ w i j s t s′ t′ g runs-skip runs-skip a = agree-same s t p q h a
@@ -206,7 +206,7 @@ module _ (Γ : Context) (valid : Valid Γ) where
       agree-back s′ t′ q (k .post) h′ (valid .secure n k e .secure _ _ s t s′ t′ (agree-same s t p (k .pre) h a)
       (run-of body r) (run-of body u))
 
-  pub flow-secure : {k : FlowEvidence} {p q : Members} {c : Command} → Flow Γ k p c q → Carried (Γ .procedures) k →
+  pub flow-secure : {k : FlowEvidence} {p q : Members} {c : Command} → Flow SamePlain Γ k p c q → Carried (Γ .procedures) k →
       Fits Γ c → Secure p c q
   flow-secure f e w = record {
     secure = λ i j s t s′ t′ a r u.

@@ -3,6 +3,7 @@
 --     Assertion     members, and agreement of two stores
 --     Context       the limits, and what a program is judged under
 --     Replace       substitution
+--     Plain         booleans without "true and" and "and true"
 --     Sets          sets compared and made
 --     Implies       the implication over distinct comparisons
 --     Tests         the statements of Sets and Implies as tests; laws tie them
@@ -15,6 +16,7 @@ pub mod Words
 pub mod Assertion
 pub mod Context
 pub mod Replace
+pub mod Plain
 pub mod Sets
 pub mod Implies
 pub mod Tests

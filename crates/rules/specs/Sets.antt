@@ -1,12 +1,14 @@
--- Sets compared and made (document 01, "Language" and "Rules").
+-- Sets compared and made (document 01, "Language" and "Rules"; document 02, request [2]).
 -- Trusted. Assumes nothing.
---     SameAntecedent, SameConsequent    antecedents and assertions compared; consequents compared
---     SameMember                        members compared: both
---     StandsIn, Within, Same            a member stands in a set; each of a set does; two sets are the same
---     under                             a set under B
---     listed, without                   a member is listed, by words; T without S' (rule 17)
---     operands                          φ ⇒ each operand (rule 19)
---     setIdentifiers, Unmodified        the identifiers of a set; no identifier is modified
+--     Sameness                      which antecedents, and assertions of rules 20 to 30, are the same
+--     SamePlain, SameByWords        those of one plain form, as the rules have it; those of the same words, as before request [2]
+--     SameConsequent                consequents compared
+--     SameMember                    members compared: both
+--     StandsIn, Within, Same        a member stands in a set; each of a set does; two sets are the same
+--     under                         a set under B
+--     listed, without               a member is listed, by words; T without S' (rule 17)
+--     operands                      φ ⇒ each operand (rule 19)
+--     setIdentifiers, Unmodified    the identifiers of a set; no identifier is modified
 use mathlib.Core.Path.{_≡_}
 use mathlib.Core.Bool.{Bool, false, _&&_, _||_, cond}
 use mathlib.Core.List.{List, [], _∷_, _++_}
@@ -15,39 +17,49 @@ use Rattle.language.specs.Syntax.{Sort, Boolean, Expr, constant, scalar, operat
 use Rattle.language.specs.Syntax.{neg, array, zeros, update, Command}
 use Rattle.language.specs.Modifies.{Identifier, modifies, identifiers}
 use Rattle.rules.specs.Words.{words, sameWords}
+use Rattle.rules.specs.Plain.{plain}
 use Rattle.rules.specs.Assertion.{Member, Members, member}
 
--- antecedents, and assertions of rules 20 to 30, are compared by words
-abbrev pub SameAntecedent : Expr Boolean → Expr Boolean → Type 0
-SameAntecedent φ ψ = words φ ≡ words ψ
+abbrev pub Sameness : Type 1
+Sameness = Expr Boolean → Expr Boolean → Type 0
 
--- so are consequents
+-- request [2]: antecedents and assertions are compared by the words of their plain forms
+abbrev pub SamePlain : Sameness
+SamePlain φ ψ = words (plain φ) ≡ words (plain ψ)
+
+-- before request [2] they were compared by words
+abbrev pub SameByWords : Sameness
+SameByWords φ ψ = words φ ≡ words ψ
+
+-- consequents are compared by words
 abbrev pub SameConsequent : {j k : Sort} → Expr j → Expr k → Type 0
 SameConsequent d e = words d ≡ words e
 
-pub record SameMember (m n : Member) : Type 0 where
-  pub antecedents : SameAntecedent (m .antecedent) (n .antecedent)
-  pub consequents : SameConsequent (m .consequent) (n .consequent)
+-- members and sets, by a sameness of antecedents
+module _ (SameAntecedent : Sameness) where
+  pub record SameMember (m n : Member) : Type 0 where
+    pub antecedents : SameAntecedent (m .antecedent) (n .antecedent)
+    pub consequents : SameConsequent (m .consequent) (n .consequent)
 
-pub data StandsIn (m : Member) : Members → Type 0 where
-  stands-here : {n : Member} {p : Members} → SameMember m n → StandsIn m (n ∷ p)
-  stands-later : {n : Member} {p : Members} → StandsIn m p → StandsIn m (n ∷ p)
+  pub data StandsIn (m : Member) : Members → Type 0 where
+    stands-here : {n : Member} {p : Members} → SameMember m n → StandsIn m (n ∷ p)
+    stands-later : {n : Member} {p : Members} → StandsIn m p → StandsIn m (n ∷ p)
 
-abbrev pub Within : Members → Members → Type 0
-Within [] q = Unit {0}
-Within (m ∷ p) q = StandsIn m q × Within p q
+  abbrev pub Within : Members → Members → Type 0
+  Within [] q = Unit {0}
+  Within (m ∷ p) q = StandsIn m q × Within p q
 
--- each member of one stands in the other
-pub record Same (p q : Members) : Type 0 where
-  pub first : Within p q
-  pub second : Within q p
+  -- each member of one stands in the other
+  pub record Same (p q : Members) : Type 0 where
+    pub first : Within p q
+    pub second : Within q p
 
 -- φ made φ ∧ B
 abbrev pub under : Members → Expr Boolean → Members
 under [] b = []
 under (m ∷ p) b = member (and (m .antecedent) b) (m .consequent) ∷ under p b
 
--- whether a member is listed, by words, in the set of rule 17's "without"
+-- whether a member is listed in the set of rule 17's "without": both halves by words (request [2])
 abbrev pub listed : Member → Members → Bool
 listed m [] = false
 listed m (n ∷ p) =

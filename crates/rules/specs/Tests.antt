@@ -14,11 +14,12 @@ use lib.ListN.{length}
 use Rattle.language.specs.Syntax.{Sort, Boolean, Expr, Command}
 use Rattle.language.specs.Modifies.{Identifier, modifies}
 use Rattle.rules.specs.Words.{Word, words, sameWords}
+use Rattle.rules.specs.Plain.{plain}
 use Rattle.rules.specs.Assertion.{Member, Members}
 use Rattle.rules.specs.Implies.{truthUnder}
 
 abbrev pub sameAntecedent : Expr Boolean → Expr Boolean → Bool
-sameAntecedent φ ψ = sameWords (words φ) (words ψ)
+sameAntecedent φ ψ = sameWords (words (plain φ)) (words (plain ψ))
 
 abbrev pub sameConsequent : {j k : Sort} → Expr j → Expr k → Bool
 sameConsequent d e = sameWords (words d) (words e)
