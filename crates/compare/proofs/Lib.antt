@@ -8,8 +8,12 @@
 --     Replaced    the numbers of an expression with another in the place of an identifier
 --     Whole       a cursor that passes all of a part finds the same numbers there
 --     SameNumbers equality of numbers as a test, of what a cursor passes and of two parts
---     Forms       cursors after antecedents and consequents as the rules form them
+--     Forms       what the tests of parts and of consequents answer
+--     Trees       the trees that are read at places are those that are written there
 --     Halves      antecedents and consequents compared, by the trees that stand there
+--     PlainForms  booleans compared by their plain forms
+--     Starts      where plain forms start
+--     Formed      booleans compared with those that the rules form
 pub mod Ranges
 pub mod Matching
 pub mod EqualWords
@@ -20,4 +24,8 @@ pub mod Replaced
 pub mod Whole
 pub mod SameNumbers
 pub mod Forms
+pub mod Trees
 pub mod Halves
+pub mod PlainForms
+pub mod Starts
+pub mod Formed

@@ -4,7 +4,6 @@
 --     came-lost, came-end                       the test in code whether a cursor has come to a place
 --     came-same                                 a cursor that comes to the end of a part has passed its numbers
 --     parts-length, parts-last, parts-rest      two parts: of other lengths, with other last words, the words before these
---     one-length, one-word                      a part that is one word, or not
 --     numbers-same                              sameness by words, of words that their numbers tell
 use mathlib.Core.Path.{_≡_, refl, sym, ap, ap₂, _∙_}
 use mathlib.Core.Bool.{Bool, true, false}
@@ -143,23 +142,6 @@ module _ (file ends : List ℕ) (f g : ℕ) (p : PartKnown file ends f) (q : Par
         (y ∙ equal-matched file (to - 1) (omega arith) d f g (omega (arith, c .few)) (omega (arith, c .few)) (c .equal))
         (omega arith)))
         decided
-
--- a part that is one word
-module _ (file ends : List ℕ) (at : ℕ) (p : PartKnown file ends at) (to : ℕ) (h : to ≡ endAt ends at) (x : ℕ) where
-  pub one-length : (to - at ≡ 1 → ⊥) → false ≡ sameNumbers (part file ends at) (x ∷ [])
-  one-length n =
-      decides-false _ (sameNumbers-decides _ _)
-      λ r. n (ap (λ e. e - at) h ∙ sym (between-length file at (endAt ends at) (p .inside)) ∙ ap length r)
-
-  pub one-word : to - at ≡ 1 → eqb (getD file at 0) x ≡ sameNumbers (part file ends at) (x ∷ [])
-  one-word n =
-      let s = p .start in
-      let word =
-      between-first file at (endAt ends at) s (p .inside)
-      ∙ ap (λ z. getD file at 0 ∷ z) (between-none file (at + 1) (endAt ends at) (omega arith)) in
-      decides-same _ _
-      (decides-map (λ r. word ∙ ap (λ y. y ∷ []) r) (λ r. head-eq-of-cons-eq (sym word ∙ r)) (eqb-decides (getD file at 0) x))
-      (sameNumbers-decides (part file ends at) (x ∷ []))
 
 -- words that their numbers tell
 pub numbers-same : (k l : List Word) → (numbers k ≡ numbers l → k ≡ l) → sameNumbers (numbers k) (numbers l) ≡ sameWords k l

@@ -1,63 +1,88 @@
--- Antecedents and consequents as the rules form them (document 01, "Rules"): the numbers of their words, by places.
--- Working: `antecedent-same` and `consequent-same` of proofs/Halves say that comparing these numbers is the rules'
--- `sameAntecedent` and `sameConsequent` of the trees that stand there. Assumes nothing.
---     part                                    the numbers of what starts at a place, up to its end in the list of ends
---     andNumbers, andNotNumbers, splitNumbers φ ∧ B; φ ∧ ¬B; (φ1 ∧ B) ∨ (φ2 ∧ ¬B)
---     antecedentNumbers, consequentNumbers    by form
---     AntecedentAt, ConsequentAt              what a form names stands in the file
---     CanAntecedent, CanConsequent            what the functions that compare them ask for
-use mathlib.Core.List.{List, [], _∷_, _++_}
-use Prim.Native.Nat.{ℕ}
-use Rattle.language.specs.Syntax.{Boolean}
+-- Antecedents and consequents as the rules form them (document 01, "Rules"): antecedents as trees, by places; consequents by the
+-- numbers of their words.
+-- Working: `antecedent-same` and `consequent-same` of proofs/Halves say that comparing these is the rules' `sameAntecedent` and
+-- `sameConsequent` of the trees that stand there. Assumes nothing.
+--     part                                 the numbers of what starts at a place, up to its end in the list of ends
+--     antecedentTree, consequentNumbers    by form
+--     AntecedentAt, ConsequentAt           what a form names stands in the file
+--     CanCompareTwo, CanComparePlain, CanLeft, CanAntecedent, CanConsequent
+--                                          what the functions that compare them ask for
+use mathlib.Core.Path.{_≡_}
+use mathlib.Core.Bool.{true}
+use mathlib.Core.List.{List}
+use Prim.Native.Nat.{ℕ, _+_, _<_}
+use lib.ListN.{length, getD}
+use Rattle.language.specs.Syntax.{Boolean, Expr, truth, and, or, neg}
 use Rattle.layout.specs.Bytes.{wordOf}
 use Rattle.compare.specs.Matching.{between, exchanged}
+use Rattle.ends.specs.Ends.{EndsOf}
 use Rattle.ends.specs.Places.{endAt, PartKnown}
-use Rattle.compare.specs.Places.{CanMatch, CanMatchAny}
+use Rattle.compare.specs.Places.{ExpressionAt, CanMatchAny}
+use Rattle.compare.specs.Trees.{booleanAt, HasPut, changed, ChangeAt}
+use Rattle.compare.specs.Plain.{FirstOther}
+use Rattle.compare.specs.declared.plain.Change.{Change}
+use Rattle.compare.specs.declared.plain.Change.the-variants.{Replaced as With}
 use Rattle.compare.specs.declared.antecedent.Antecedent.{Antecedent}
 use Rattle.compare.specs.declared.antecedent.Antecedent.the-variants.{Written, And, AndNot, Split, Replaced, True}
 use Rattle.compare.specs.declared.consequent.Consequent.{Consequent}
 use Rattle.compare.specs.declared.consequent.Consequent.the-variants.{Written as Plain, Replaced as Exchanged}
 
+module _ (file : List ℕ) where
+  unfoldable pub antecedentTree : Antecedent → Expr Boolean
+  antecedentTree (Written a) = booleanAt file a
+  antecedentTree (And a b) = and (booleanAt file a) (booleanAt file b)
+  antecedentTree (AndNot a b) = and (booleanAt file a) (neg (booleanAt file b))
+  antecedentTree (Split p q b) =
+      or (and (booleanAt file p) (booleanAt file b)) (and (booleanAt file q) (neg (booleanAt file b)))
+  antecedentTree (Replaced a put) = changed file (With put) (booleanAt file a)
+  antecedentTree True = truth true
+
 module _ (file ends : List ℕ) where
   abbrev pub part : ℕ → List ℕ
   part at = between file at (endAt ends at)
-
-  -- the words 10:0, 11:0, 12:0 and 9:1 are those of ∧, ∨, ¬ and true
-  unfoldable pub andNumbers : ℕ → ℕ → List ℕ
-  andNumbers a b = (wordOf 10 0) ∷ (part a ++ part b)
-
-  unfoldable pub andNotNumbers : ℕ → ℕ → List ℕ
-  andNotNumbers a b = (wordOf 10 0) ∷ (part a ++ ((wordOf 12 0) ∷ part b))
-
-  unfoldable pub splitNumbers : ℕ → ℕ → ℕ → List ℕ
-  splitNumbers p q b = (wordOf 11 0) ∷ (andNumbers p b ++ andNotNumbers q b)
-
-  unfoldable pub antecedentNumbers : Antecedent → List ℕ
-  antecedentNumbers (Written a) = part a
-  antecedentNumbers (And a b) = andNumbers a b
-  antecedentNumbers (AndNot a b) = andNotNumbers a b
-  antecedentNumbers (Split p q b) = splitNumbers p q b
-  antecedentNumbers (Replaced a put) = exchanged file put (part a)
-  antecedentNumbers True = (wordOf 9 1) ∷ []
 
   unfoldable pub consequentNumbers : Consequent → List ℕ
   consequentNumbers (Plain a) = part a
   consequentNumbers (Exchanged a put) = exchanged file put (part a)
 
+  abbrev BooleanAt : ℕ → Type 0
+  BooleanAt at = ExpressionAt file ends Boolean at
+
   unfoldable pub AntecedentAt : Antecedent → Type 0
-  AntecedentAt (Written a) = PartKnown file ends a
-  AntecedentAt (And a b) = PartKnown file ends a × PartKnown file ends b
-  AntecedentAt (AndNot a b) = PartKnown file ends a × PartKnown file ends b
-  AntecedentAt (Split p q b) = PartKnown file ends p × PartKnown file ends q × PartKnown file ends b
-  AntecedentAt (Replaced a put) = CanMatch file ends Boolean a put
+  AntecedentAt (Written a) = BooleanAt a
+  AntecedentAt (And a b) = BooleanAt a × BooleanAt b
+  AntecedentAt (AndNot a b) = BooleanAt a × BooleanAt b
+  AntecedentAt (Split p q b) = BooleanAt p × BooleanAt q × BooleanAt b
+  AntecedentAt (Replaced a put) = BooleanAt a × HasPut file ends put
   AntecedentAt True = Unit {0}
 
   unfoldable pub ConsequentAt : Consequent → Type 0
   ConsequentAt (Plain a) = PartKnown file ends a
   ConsequentAt (Exchanged a put) = CanMatchAny file ends a put
 
+  -- two booleans, the second with what is put for an identifier
+  pub record CanCompareTwo (f g : ℕ) (change : Change) : Type 0 where
+    pub ends-of : EndsOf file ends
+    pub first : BooleanAt f
+    pub second : BooleanAt g
+    pub change-at : ChangeAt file ends change
+
+  -- the same, with their first words that are neither and nor true
+  pub record CanComparePlain (f p g q : ℕ) (change : Change) : Type 0 where
+    pub two : CanCompareTwo f g change
+    pub first-other : FirstOther file f (endAt ends f) p
+    pub second-other : FirstOther file g (endAt ends g) q
+
+  -- the left side of what starts at s; p is known of an and
+  pub record CanLeft (s p : ℕ) : Type 0 where
+    pub ends-of : EndsOf file ends
+    pub inside : s < length file
+    pub operand : BooleanAt (s + 1)
+    pub known : getD file s 0 ≡ wordOf 10 0 → FirstOther file (s + 1) (endAt ends (s + 1)) p
+
   pub record CanAntecedent (at : ℕ) (form : Antecedent) : Type 0 where
-    pub whole : PartKnown file ends at
+    pub ends-of : EndsOf file ends
+    pub whole : BooleanAt at
     pub form-at : AntecedentAt form
 
   pub record CanConsequent (at : ℕ) (form : Consequent) : Type 0 where

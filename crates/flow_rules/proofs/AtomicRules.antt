@@ -1,6 +1,5 @@
 -- Commands of one step (document 01, rules 1, 3, 4 and 5).
 -- Assumes nothing.
---     putting                                              the right side for the word of an identifier
 --     can-replace-scalar, can-replace-array, can-assert    what the code asks for
 --     not-skip, skip-comes                                 rule 1
 --     not-scalar, scalar-comes, not-array, array-comes     rules 3 and 4
@@ -8,39 +7,25 @@
 use mathlib.Core.Path.{_≡_, refl, ap}
 use mathlib.Core.Bool.{Bool}
 use mathlib.Core.List.{List}
-use Prim.Native.Nat.{ℕ, _+_, _*_}
-use Rattle.language.specs.Syntax.{Sort, Expr, Assignment, toScalar, toArray, Command}
+use Prim.Native.Nat.{ℕ, _+_}
+use Rattle.language.specs.Syntax.{Assignment, toScalar, toArray}
 use Rattle.rules.specs.Context.{Context}
 use Rattle.rules.specs.Condition.{byForm}
 use Rattle.rules.specs.Evidence.{flow1, flow3, flow4, flow5}
 use Rattle.rules.specs.Judge.{misfit, flowRule}
-use Rattle.layout.specs.Bytes.{kindAt, payloadAt, payloads}
-use Rattle.ends.specs.Places.{endAt}
+use Rattle.layout.specs.Bytes.{kindAt}
 use Rattle.compare.specs.declared.cursor.Put.{Put}
 use Rattle.implication.specs.declared.Condition.the-variants.{Fails}
 use Rattle.goals.specs.declared.Goal.the-variants.{Flow}
 use Rattle.goals.specs.Conditions.{conditionOf}
 use Rattle.goals.specs.Goals.{CanStep, CanTry, StepOf}
 use Rattle.goals.proofs.Comes.{misfit-comes, no-children, flow-rule}
-use Rattle.rule_laws.proofs.Commands.{AssignAt, is-skip, is-scalar, is-array, is-assert, other-kind}
+use Rattle.rule_laws.proofs.Commands.{putting, right-side, is-skip, is-scalar, is-array, is-assert, other-kind}
 use Rattle.rule_laws.proofs.Commands.{other-than-skip, other-than-scalar, other-than-array, other-than-assert}
-use Rattle.sets.specs.Trees.{RightSide, PutStands, put-scalar, put-array}
+use Rattle.compare.specs.Trees.{PutStands, put-scalar, put-array}
 use Rattle.sets.specs.Rules.{CanReplaced, CanUnder, SameWritten, SameReplaced, SameUnder}
 use Rattle.set_laws.proofs.Sets.{has-set}
 use Rattle.flow_compound.proofs.Goal.{by-test, no-parts, trees}
-
--- the right side of the assignment at c, for the word n:x
-abbrev pub putting : List ℕ → List ℕ → ℕ → ℕ → Put
-putting file ends c n = record { word = n * payloads + payloadAt file c; from = c + 1; to = endAt ends (c + 1) }
-
-right-side : {file ends : List ℕ} {Γ : Context} {c : ℕ} {e : Command} {k : Sort} {make : ℕ → Expr k → Assignment} (n : ℕ)
-    (x : AssignAt file ends Γ c e k make) → RightSide file ends (putting file ends c n) n (x .name) (x .right)
-right-side n x = record {
-  small = x .parts .small;
-  word-is = ap (λ i. n * payloads + i) (x .parts .payload);
-  there = x .parts .right-at;
-  end-is = refl;
-}
 
 module _ {Γ : Context} {file ends : List ℕ} {p c q at : ℕ} where
   module _ (can : CanStep file ends Γ (Flow p c q) at) where

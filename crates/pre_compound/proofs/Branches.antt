@@ -2,7 +2,7 @@
 -- Assumes nothing.
 --     if-fails            a command of another form
 --     can-split, if-rule  an `if`: what the code asks for; the rule
-use mathlib.Core.Path.{_≡_, ap}
+use mathlib.Core.Path.{_≡_, sym, ap, subst}
 use mathlib.Core.Bool.{Bool}
 use mathlib.Core.List.{List}
 use Prim.Native.Nat.{ℕ, _+_}
@@ -11,26 +11,27 @@ use Rattle.rules.specs.Condition.{byForm}
 use Rattle.rules.specs.Evidence.{row, Parts, assertion, child, done, _&_, pre20}
 use Rattle.rules.specs.Judge.{misfit, preRule, judge}
 use Rattle.layout.specs.Bytes.{kindAt}
-use Rattle.ends.specs.Places.{endAt, PartKnown}
+use Rattle.language.specs.Syntax.{Boolean}
+use Rattle.ends.specs.Places.{endAt}
+use Rattle.compare.specs.Places.{ExpressionAt}
 use Rattle.implication.specs.declared.Condition.{Condition}
 use Rattle.implication.specs.declared.Condition.the-variants.{Fails}
 use Rattle.goals.specs.Conditions.{conditionOf}
 use Rattle.goals.specs.Goals.{CanTry, StepOf, pre-stands}
 use Rattle.goals.specs.declared.Goal.the-variants.{Pre}
-use Rattle.ends.proofs.Places.{at-place, node-known, known-to}
+use Rattle.ends.proofs.Places.{at-place}
 use Rattle.goals.proofs.Evidence.{Placed}
 use Rattle.goals.proofs.Comes.{comes, two-children, PreComes, pre-rule}
-use Rattle.ends.specs.Ends.{EndsOf}
 use Rattle.rule_laws.proofs.Commands.{is-if, other-kind, other-than-if}
 use Rattle.rule_laws.proofs.Trying.{parts-of, up-to, tested}
 use Rattle.pre_compound.specs.Conditions.{CanSplit, SplitAt}
-use Rattle.pre_compound.proofs.Goal.{here, first-known, misfit-rule}
+use Rattle.pre_compound.proofs.Goal.{here, first-boolean, misfit-rule}
 
--- what is carried is in the list of ends
-carried-known : (Γ : Context) (file ends : List ℕ) (d at end : ℕ) → EndsOf file ends → (t : Parts (row pre20 .after)) →
-    Placed Γ file ends d t at end → PartKnown file ends at × PartKnown file ends (endAt ends at)
-carried-known Γ file ends d at end o (assertion φ₁ & assertion φ₂ & t) (a, (b, x)) =
-    (node-known o a, node-known o b)
+-- the two assertions that are carried
+carried : (Γ : Context) (file ends : List ℕ) (d at end : ℕ) (t : Parts (row pre20 .after)) →
+    Placed Γ file ends d t at end → ExpressionAt file ends Boolean at × ExpressionAt file ends Boolean (endAt ends at)
+carried Γ file ends d at end (assertion φ₁ & assertion φ₂ & t) (a, (b, x)) =
+    (record { tree = φ₁; there = a }, record { tree = φ₂; there = b })
 
 module _ {file ends : List ℕ} {Γ : Context} {f c g at : ℕ} (can : CanTry file ends Γ 20 (Pre f c g) at) where
   pub if-fails : (kindAt file c ≡ 29 → ⊥) → StepOf file ends Γ (Pre f c g) at Fails
@@ -42,12 +43,13 @@ module _ {file ends : List ℕ} {Γ : Context} {f c g at : ℕ} (can : CanTry fi
     can-split =
         let o = can .can .ends-of in
         let x = parts-of can pre20 in
-        let k = carried-known Γ file ends (x .levels) (at + 1) (x .end) o (x .parts) (x .parts-placed) in
+        let k = carried Γ file ends (x .levels) (at + 1) (x .end) (x .parts) (x .parts-placed) in
         record {
-          whole = first-known can;
-          test = node-known o (is-if o (here can .command-at) h .test-at);
+          ends-of = o;
+          whole = first-boolean can;
+          test = record { tree = _; there = is-if o (here can .command-at) h .test-at };
           first = k .0;
-          second = known-to i (k .1);
+          second = subst (ExpressionAt file ends Boolean) (sym i) (k .1);
         }
 
     pub if-rule : {b : Bool} → SplitAt file ends f (c + 1) (at + 1) q b → {r : Condition} → r ≡ conditionOf b →

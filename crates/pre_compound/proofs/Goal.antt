@@ -2,7 +2,7 @@
 -- Assumes nothing.
 --     PreGoalAt, here                  the trees of a goal that can be tried
 --     command-head, low-command        its command's first word is in the file
---     first-known, second-known, command-known
+--     first-boolean, second-boolean, first-known, command-known
 --                                      its three parts are in the list of ends
 --     first-carried                    an assertion that stands first after the word of a rule
 --     leaf-rule, misfit-rule           a rule with no children, by its conditions' result; a command of another form
@@ -62,11 +62,14 @@ module _ {file ends : List ℕ} {Γ : Context} {f c g at : ℕ} where
     pub low-command : c < 8192
     low-command = let h = command-head in let s = can .can .size in omega arith
 
+    pub first-boolean : ExpressionAt file ends Boolean f
+    first-boolean = record { tree = here .φ; there = here .first-at }
+
+    pub second-boolean : ExpressionAt file ends Boolean g
+    second-boolean = record { tree = here .φ′; there = here .second-at }
+
     pub first-known : PartKnown file ends f
     first-known = node-known (can .can .ends-of) (here .first-at)
-
-    pub second-known : PartKnown file ends g
-    second-known = node-known (can .can .ends-of) (here .second-at)
 
     pub command-known : PartKnown file ends c
     command-known = node-known (can .can .ends-of) (here .command-at .there)

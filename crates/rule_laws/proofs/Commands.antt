@@ -5,6 +5,7 @@
 --     SequenceAt, AssertAt, AssignAt, IfAt, WhileAt, ForAt, CallAt
 --                                                         a command of that form, and its parts at their places
 --     AssignParts, ForParts, parts-of-for                 an assignment, a `for`: payload and parts
+--     putting, right-side                                 the right side of an assignment, for the word of its identifier
 --     procedure-at, body-at                               the procedure that is called, its body, at their places
 --     is-skip, is-sequence .. is-call                     a command has the form that its kind says
 --     other-than-skip .. other-than-call, other-kind      or is as all the others
@@ -18,7 +19,7 @@ use Rattle.language.specs.Syntax.{Command, skip, sequence, assert, assign, ifEl
 use Rattle.rules.specs.Context.{Procedure, Context, itemAt}
 use Rattle.rules.specs.Condition.{byForm, onSkip, onSequence, onAssert, onScalar, onArray, onIf, onWhile, onFor, onCall}
 use Rattle.rules.specs.Resolved.{Resolved}
-use Rattle.layout.specs.Bytes.{kindAt, payloadAt}
+use Rattle.layout.specs.Bytes.{kindAt, payloadAt, payloads}
 use Rattle.layout.specs.Nodes.{commandNode, headOf, partsOf, kindOf}
 use Rattle.layout.proofs.Forms.{Form, form-skip, form-sequence, form-assert, form-scalar, form-array, form-if, form-while}
 use Rattle.layout.proofs.Forms.{form-for, form-call, form}
@@ -26,6 +27,8 @@ use Rattle.ends.specs.Ends.{EndsOf}
 use Rattle.ends.specs.Places.{endAt, WrittenAt, CommandAt, NodesAt}
 use Rattle.ends.specs.Procedures.{startAt, ProcedureAt, Procedures}
 use Rattle.ends.proofs.Places.{NodeHead, node-head, parts-at}
+use Rattle.compare.specs.Trees.{RightSide}
+use Rattle.compare.specs.declared.cursor.Put.{Put}
 use Rattle.goals.specs.Resolved.{ResolvedAt}
 
 abbrev pub commandKind : Context → Command → ℕ
@@ -301,3 +304,16 @@ module _ {A : Type 0} (Γ : Context) (other : A) where
 pub other-kind : {file ends : List ℕ} {Γ : Context} {c : Command} {at n : ℕ} → ResolvedAt file ends Γ c at →
     (kindAt file at ≡ n → ⊥) → commandKind Γ c ≡ n → ⊥
 other-kind x h e = h (node-head (x .there) .kind ∙ e)
+
+-- the right side of the assignment at c, for the word n:x (rules 3, 4, 24 and 25)
+abbrev pub putting : List ℕ → List ℕ → ℕ → ℕ → Put
+putting file ends c n = record { word = n * payloads + payloadAt file c; from = c + 1; to = endAt ends (c + 1) }
+
+pub right-side : {file ends : List ℕ} {Γ : Context} {c : ℕ} {e : Command} {k : Sort} {make : ℕ → Expr k → Assignment} (n : ℕ)
+    (x : AssignAt file ends Γ c e k make) → RightSide file ends (putting file ends c n) n (x .name) (x .right)
+right-side n x = record {
+  small = x .parts .small;
+  word-is = ap (λ i. n * payloads + i) (x .parts .payload);
+  there = x .parts .right-at;
+  end-is = refl;
+}

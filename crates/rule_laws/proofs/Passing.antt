@@ -1,4 +1,4 @@
--- Sameness with what stands at a place, as the functions that compare find it (document 01 compares by words).
+-- Sameness with what stands at a place, as the functions that compare find it.
 -- Assumes nothing.
 --     WordsMatched, then, passes-command    a cursor after words, one after the other
 --     same-command                          sameness of a written command, found by a cursor
@@ -17,7 +17,9 @@ use Rattle.layout.proofs.Nodes.{node-range}
 use Rattle.ends.specs.Places.{endAt, CommandAt}
 use Rattle.ends.proofs.Places.{node-inside}
 use Rattle.compare.specs.Matching.{numbers, matched, came, sameNumbers}
-use Rattle.compare.specs.Forms.{part, antecedentNumbers, consequentNumbers, AntecedentAt, ConsequentAt, CanAntecedent}
+use Rattle.rules.specs.Tests.{sameAntecedent}
+use Rattle.compare.specs.Trees.{booleanAt}
+use Rattle.compare.specs.Forms.{part, antecedentTree, consequentNumbers, AntecedentAt, ConsequentAt, CanAntecedent}
 use Rattle.compare.specs.Forms.{CanConsequent}
 use Rattle.compare.specs.declared.antecedent.Antecedent.the-variants.{Written}
 use Rattle.compare.specs.declared.consequent.Consequent.the-variants.{Written as Plain}
@@ -27,7 +29,7 @@ use Rattle.compare.proofs.Numbers.{stands-between, numbers-append, numbers-tell
 use Rattle.compare.proofs.Whole.{cursor}
 use Rattle.compare.proofs.SameNumbers.{came-same, numbers-same}
 use Rattle.compare.proofs.Halves.{is-written, antecedent-same, is-plain, consequent-same}
-use Rattle.rule_laws.specs.Sameness.{CanSame, SameAssertionAt, SameAt}
+use Rattle.rule_laws.specs.Sameness.{CanSame, CanSameAssertion, SameAssertionAt, SameAt}
 
 -- a cursor after words
 pub record WordsMatched (file : List ℕ) (m : Match) (l : List Word) (n : Match) : Type 0 where
@@ -61,11 +63,11 @@ module _ {file ends : List ℕ} where
       (numbers-tell (commandWords c) l (node-range (x .levels) (commandNode Γ c) (x .stands .fit)) f)
 
   module _ {f g : ℕ} where
-    pub can-assertion : CanSame file ends f g → CanAntecedent file ends f (Written g)
+    pub can-assertion : CanSameAssertion file ends f g → CanAntecedent file ends f (Written g)
     unfolding AntecedentAt
-    can-assertion p = record { whole = p .first; form-at = p .second }
+    can-assertion p = record { ends-of = p .ends-of; whole = p .first; form-at = p .second }
 
-    pub assertion-at : {r : Bool} → r ≡ sameNumbers (part file ends f) (antecedentNumbers file ends (Written g)) →
+    pub assertion-at : {r : Bool} → r ≡ sameAntecedent (booleanAt file f) (antecedentTree file (Written g)) →
         SameAssertionAt file ends f g r
     assertion-at h = record { is = λ φ ψ x y. h ∙ antecedent-same x (is-written y) }
 

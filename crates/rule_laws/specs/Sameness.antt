@@ -1,7 +1,8 @@
 -- Sameness of what stands at two places; nothing of what stands at a place is modified.
 -- Working: `assertion-at` and `consequent-at` of proofs/Passing, `meaning-at` of proofs/Meaning and `kept-at` of proofs/Keeping tie it to the
 -- tests of the trees that stand there. Assumes nothing.
---     CanSame                 two written expressions: what the tests of them ask for
+--     CanSame, CanSameAssertion
+--                             two written expressions, two written assertions: what the tests of them ask for
 --     SameAssertionAt, SameAt two assertions; two consequents: what the tests promise
 --     startNumbers, nextNumbers
 --                             the words before and after the body in the meaning of a `for`
@@ -24,6 +25,7 @@ use Rattle.layout.specs.Bytes.{wordOf}
 use Rattle.ends.specs.Ends.{EndsOf}
 use Rattle.ends.specs.Places.{WrittenAt, CommandAt, SetAt, PartKnown}
 use Rattle.ends.specs.Procedures.{Procedures}
+use Rattle.compare.specs.Places.{ExpressionAt}
 use Rattle.goals.specs.Resolved.{ResolvedAt}
 
 -- 25:0 27:q 1:1 30:0 8:2 2:q 2:m 25:0
@@ -40,6 +42,11 @@ module _ (file ends : List ℕ) where
   pub record CanSame (f g : ℕ) : Type 0 where
     pub first : PartKnown file ends f
     pub second : PartKnown file ends g
+
+  pub record CanSameAssertion (f g : ℕ) : Type 0 where
+    pub ends-of : EndsOf file ends
+    pub first : ExpressionAt file ends Boolean f
+    pub second : ExpressionAt file ends Boolean g
 
   pub record SameAssertionAt (f g : ℕ) (r : Bool) : Type 0 where
     pub is : (φ ψ : Expr Boolean) → WrittenAt file ends φ f → WrittenAt file ends ψ g → r ≡ sameAntecedent φ ψ

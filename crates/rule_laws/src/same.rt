@@ -17,11 +17,12 @@ use words::kinds::WHILE_WORD;
 ghost use mathlib.Core.Path.{_≡_};
 ghost use Prim.Native.Nat.{_≤_};
 ghost use Rattle.compare.specs.Matching.{matched};
-ghost use Rattle.rule_laws.specs.Sameness.{CanSame, SameAssertionAt, SameAt, startNumbers, nextNumbers, CanMean, MeaningAt};
+ghost use Rattle.rule_laws.specs.Sameness.{CanSame, CanSameAssertion, SameAssertionAt, SameAt, startNumbers, nextNumbers};
+ghost use Rattle.rule_laws.specs.Sameness.{CanMean, MeaningAt};
 
 // Rules 22 and 27: whether the assertions at f and g are the same.
 pub fn is_same_assertion(w: &[u32], ends: &[u32], f: usize, g: usize) -> bool
-    requires { ⌜ CanSame (now w) (now ends) f g ⌝ }
+    requires { ⌜ CanSameAssertion (now w) (now ends) f g ⌝ }
     ensures { λ r. ⌜ SameAssertionAt (now (w .entry)) (now (ends .entry)) f g r ⌝ }
 {
     same_antecedent(w, ends, f, Antecedent::Written(g))

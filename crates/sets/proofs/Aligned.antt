@@ -5,7 +5,7 @@
 --                                                      the members of a seen set, one by one
 --     one-aligned, of-pile-empty .. of-pile-set        one member; by pile
 --     aligned-not, aligned-is                          three piles, one after the other
---     sameAll-self, same-found, same-not, same-last    two lists with the same elements
+--     sameAll-matches, same-found, same-not, same-last two lists with the same elements
 use mathlib.Core.Path.{_≡_, refl, sym, ap, ap₂, subst, _∙_}
 use mathlib.Core.Bool.{Bool, true, false, _||_, false≢true}
 use mathlib.Core.List.{List, [], _∷_, _++_, append-assoc, append-nil}
@@ -18,7 +18,7 @@ use Rattle.sets.specs.Items.{pastMember, Halves, pairItem, itemHalves, s
 use Rattle.sets.specs.Lists.{seenAll, written, standsIn, withinAll, sameAll}
 use Rattle.sets.specs.Standing.{MemberAt, MembersAt}
 use Rattle.sets.specs.Piles.{countAt, writtenSet, pileNumbers, pilesNumbers}
-use Rattle.sets.specs.Aligned.{Parted, Aligns, Aligned}
+use Rattle.sets.specs.Aligned.{Matches, Parted, Aligns, Aligned}
 use Rattle.sets.specs.declared.item.View.{View}
 use Rattle.sets.specs.declared.item.View.the-variants.{Plain}
 use Rattle.sets.specs.declared.item.FormedMember.{FormedMember}
@@ -26,7 +26,7 @@ use Rattle.sets.specs.declared.pile.Pile.{Pile}
 use Rattle.sets.specs.declared.pile.Pile.the-variants.{Empty, One, Set}
 use Rattle.sets.specs.declared.pile.Piles.{Piles}
 use Rattle.sets.specs.declared.align.Rest.{Rest}
-use Rattle.sets.proofs.Equal.{sameHalves-decides}
+use Rattle.sets.proofs.Equal.{sameHalves-sym}
 use Rattle.sets.proofs.Loops.{members-first, members-rest, seenAll-none, seenAll-first}
 
 positive : {n : ℕ} → (n ≡ 0 → ⊥) → 0 < n
@@ -36,21 +36,34 @@ module _ {file ends : List ℕ} where
   pub aligns-not : {n at : ℕ} {l : List Halves} {r : Rest} → r .same ≡ false → Aligns file ends n at l r
   aligns-not h = record { does = λ k. clash k h }
 
+-- a list is one that matches another, and then the rest
+pub record FrontMatches (all l z : List Halves) : Type 0 where
+  pub front : List Halves
+  pub split : all ≡ front ++ z
+  pub matches : Matches front l
+
 -- the n members at i and the j members at a are left, and what is said of them is said of all
 pub record Aligning (file ends : List ℕ) (view : View) (n₀ i₀ k from n i j a : ℕ) : Type 0 where
   pub members : MembersAt file ends n i
   pub part : MembersAt file ends j a
-  pub keeps : (z : List Halves) → written file ends n i ≡ seenAll file ends view j a ++ z →
-      written file ends n₀ i₀ ≡ seenAll file ends view k from ++ z
+  pub keeps : (z front : List Halves) → written file ends n i ≡ front ++ z → Matches front (seenAll file ends view j a) →
+      FrontMatches (written file ends n₀ i₀) (seenAll file ends view k from) z
 
--- the first member is the item
-first-same : (file ends : List ℕ) (n i next : ℕ) (y : Halves) {b : Bool} → 0 < n → next ≡ pastMember ends i →
-    b ≡ sameHalves (writtenHalves file ends i) y → b ≡ true →
-    written file ends n i ≡ y ∷ written file ends (n - 1) next
-first-same file ends n i next y h e s t =
-    seenAll-first file ends Plain n i next h e
-    ∙ ap (λ x. x ∷ written file ends (n - 1) next)
-    (sameHalves-decides (writtenHalves file ends i) y .sound (sym s ∙ t))
+-- lists that match, from the first on
+matches-more : (x y : Halves) (k l : List Halves) → sameHalves x y ≡ true → Matches k l → Matches (x ∷ k) (y ∷ l)
+unfolding Matches
+matches-more x y k l h m = (h, m)
+
+matches-none : Matches [] []
+unfolding Matches
+matches-none = tt
+
+matches-append : (a b k l : List Halves) → Matches a b → Matches k l → Matches (a ++ k) (b ++ l)
+unfolding Matches
+matches-append [] [] k l m n = n
+matches-append [] (y ∷ b) k l m n = absurd m
+matches-append (x ∷ a) [] k l m n = absurd m
+matches-append (x ∷ a) (y ∷ b) k l m n = (m .0, matches-append a b k l (m .1) n)
 
 module _ {file ends : List ℕ} where
   pub first-member : {n i : ℕ} → MembersAt file ends n i → (n ≡ 0 → ⊥) → MemberAt file ends i
@@ -59,7 +72,7 @@ module _ {file ends : List ℕ} where
   module _ {view : View} {n₀ i₀ k from : ℕ} where
     pub aligning-start : MembersAt file ends n₀ i₀ → MembersAt file ends k from →
         Aligning file ends view n₀ i₀ k from n₀ i₀ k from
-    aligning-start m p = record { members = m; part = p; keeps = λ z h. h }
+    aligning-start m p = record { members = m; part = p; keeps = λ z front h g. record { front = front; split = h; matches = g } }
 
     module _ {n i j a : ℕ} (l : Aligning file ends view n₀ i₀ k from n i j a) where
       pub part-first : 0 < j → MemberAt file ends a
@@ -72,11 +85,11 @@ module _ {file ends : List ℕ} where
       aligning-on {i′ = i′} {a′} h f s t e g = record {
         members = members-rest file ends n i i′ (l .members) (positive f) e;
         part = members-rest file ends j a a′ (l .part) h g;
-        keeps = λ z q.
-            l .keeps z
-            (first-same file ends n i i′ (seenAs file ends view a) (positive f) e s t
-            ∙ ap (λ y. seenAs file ends view a ∷ y) q
-            ∙ ap (λ y. y ++ z) (sym (seenAll-first file ends view j a a′ h g)));
+        keeps = λ z front q r.
+            l .keeps z (writtenHalves file ends i ∷ front)
+            (seenAll-first file ends Plain n i i′ (positive f) e ∙ ap (λ y. writtenHalves file ends i ∷ y) q)
+            (subst (Matches (writtenHalves file ends i ∷ front)) (sym (seenAll-first file ends view j a a′ h g))
+            (matches-more _ _ _ _ (sym s ∙ t) r));
       }
 
       pub aligning-end : {r : Rest} → j ≤ 0 → r .n ≡ n → r .at ≡ i → Aligns file ends n₀ i₀ (seenAll file ends view k from) r
@@ -84,10 +97,10 @@ module _ {file ends : List ℕ} where
         does = λ q.
             subst (λ m. Parted file ends n₀ i₀ (seenAll file ends view k from) m (r .at)) (sym e)
             (subst (λ y. Parted file ends n₀ i₀ (seenAll file ends view k from) n y) (sym g)
-            (record {
-              members = l .members;
-              split = l .keeps (written file ends n i) (ap (λ y. y ++ written file ends n i) (sym (seenAll-none file ends view j a h)));
-            }));
+            (let r =
+            l .keeps (written file ends n i) [] refl
+            (subst (Matches []) (sym (seenAll-none file ends view j a h)) matches-none) in
+            record { members = l .members; front = r .front; split = r .split; matches = r .matches }));
       }
 
   pub one-aligned : {n i next : ℕ} (item : FormedMember) {b : Bool} {r : Rest} → MembersAt file ends n i → (n ≡ 0 → ⊥) →
@@ -98,9 +111,11 @@ module _ {file ends : List ℕ} where
         let e′ : r .at ≡ pastMember ends i = h ∙ e in
         record {
           members = subst (λ k. MembersAt file ends k (r .at)) (sym g) (members-rest file ends n i (r .at) m (positive f) e′);
+          front = writtenHalves file ends i ∷ [];
           split =
-              first-same file ends n i (r .at) (itemHalves file ends item) (positive f) e′ s t
-              ∙ ap (λ k. itemHalves file ends item ∷ written file ends k (r .at)) (sym g);
+              seenAll-first file ends Plain n i (r .at) (positive f) e′
+              ∙ ap (λ k. writtenHalves file ends i ∷ written file ends k (r .at)) (sym g);
+          matches = matches-more _ _ _ _ (sym s ∙ t) matches-none;
         };
   }
 
@@ -115,7 +130,9 @@ module _ {file ends : List ℕ} where
           does = λ q.
               record {
                 members = subst (λ k. MembersAt file ends k (r .at)) (sym g) (subst (MembersAt file ends n) (sym h) m);
+                front = [];
                 split = ap₂ (written file ends) (sym g) (sym h);
+                matches = matches-none;
               };
         })
 
@@ -143,36 +160,46 @@ module _ {file ends : List ℕ} where
     aligned-is = record {
       does = λ q.
           let e = eqb-true (z .n) 0 q in
-          let first = a .does h .split in
-          let second = b .does g .split in
-          let third =
-          c .does f .split
-          ∙ ap (λ l. pileNumbers file ends (piles .third) ++ l) (seenAll-none file ends Plain (z .n) (z .at) (omega arith))
-          ∙ append-nil (pileNumbers file ends (piles .third)) in
-          first
-          ∙ ap (λ l. pileNumbers file ends (piles .first) ++ l)
-          (second ∙ ap (λ l. pileNumbers file ends (piles .second) ++ l) third);
+          let first = a .does h in
+          let second = b .does g in
+          let third = c .does f in
+          let last =
+          third .split
+          ∙ ap (λ l. third .front ++ l) (seenAll-none file ends Plain (z .n) (z .at) (omega arith))
+          ∙ append-nil (third .front) in
+          subst (λ l. Matches l (pilesNumbers file ends piles))
+          (sym
+          (first .split ∙ ap (λ l. first .front ++ l) (second .split ∙ ap (λ l. second .front ++ l) last)))
+          (matches-append _ _ _ _ (first .matches) (matches-append _ _ _ _ (second .matches) (third .matches)));
     }
 
--- a list and itself
-stands-self : (x : Halves) (k l : List Halves) → standsIn x (k ++ (x ∷ l)) ≡ true
+-- each of two lists that match stands in the other
+or-true : (b : Bool) → (b || true) ≡ true
+or-true true = refl
+or-true false = refl
+
+stands-at : (x y : Halves) (k l : List Halves) → sameHalves x y ≡ true → standsIn x (k ++ (y ∷ l)) ≡ true
 unfolding standsIn
-stands-self x [] l = rw (sameHalves-decides x x .complete refl)
-stands-self x (y ∷ k) l = rw (stands-self x k l) (or-true (sameHalves x y))
-  where
-    or-true : (b : Bool) → (b || true) ≡ true
-    or-true true = refl
-    or-true false = refl
+stands-at x y [] l h = rw h
+stands-at x y (z ∷ k) l h = rw (stands-at x y k l h) (or-true (sameHalves x z))
 
-within-tail : (l k : List Halves) → withinAll l (k ++ l) ≡ true
-unfolding withinAll
-within-tail [] k = refl
-within-tail (x ∷ l) k =
-    and-both (stands-self x k l)
-    (ap (withinAll l) (sym (append-assoc k (x ∷ []) l)) ∙ within-tail l (k ++ (x ∷ [])))
+within-tail : (k l p : List Halves) → Matches k l → withinAll k (p ++ l) ≡ true
+unfolding withinAll Matches
+within-tail [] l p m = refl
+within-tail (x ∷ k) [] p m = absurd m
+within-tail (x ∷ k) (y ∷ l) p m =
+    and-both (stands-at x y p l (m .0))
+    (ap (withinAll k) (sym (append-assoc p (y ∷ []) l)) ∙ within-tail k l (p ++ (y ∷ [])) (m .1))
 
-pub sameAll-self : (k l : List Halves) → k ≡ l → true ≡ sameAll k l
-sameAll-self k l e = rw e (sym (and-both (within-tail l []) (within-tail l [])))
+matches-sym : (k l : List Halves) → Matches k l → Matches l k
+unfolding Matches
+matches-sym [] [] m = m
+matches-sym [] (y ∷ l) m = m
+matches-sym (x ∷ k) [] m = m
+matches-sym (x ∷ k) (y ∷ l) m = (sameHalves-sym y x ∙ m .0, matches-sym k l (m .1))
+
+pub sameAll-matches : (k l : List Halves) → Matches k l → true ≡ sameAll k l
+sameAll-matches k l m = sym (and-both (within-tail k l [] m) (within-tail l k [] (matches-sym k l m)))
 
 -- a written set by the code's count of its members
 module _ (file ends : List ℕ) (p : ℕ) (piles : Piles) {k at : ℕ} (e : k ≡ countAt file p) (f : at ≡ p + 1) where
@@ -183,7 +210,7 @@ module _ (file ends : List ℕ) (p : ℕ) (piles : Piles) {k at : ℕ} (e : k �
   set-is = ap₂ (written file ends) e f
 
   pub same-found : {b : Bool} → Aligned file ends k at piles b → b ≡ true → true ≡ sameAll (writtenSet file ends p) all
-  same-found a h = sameAll-self (writtenSet file ends p) all (sym set-is ∙ a .does h)
+  same-found a h = sameAll-matches (writtenSet file ends p) all (subst (λ l. Matches l all) set-is (a .does h))
 
   module _ {b : Bool} (s : b ≡ withinAll (written file ends k at) all) where
     pub same-not : b ≡ false → false ≡ sameAll (writtenSet file ends p) all

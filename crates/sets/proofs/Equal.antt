@@ -1,26 +1,32 @@
--- Equality of two halves as a test.
+-- Sameness of two halves as a test.
 -- Assumes nothing.
---     halves                                  two halves together
---     sameHalves-decides, sameHalves-sym      it decides equality; from either side
-use mathlib.Core.Path.{_≡_, sym, ap, ap₂}
+--     halves                          two halves together
+--     sameHalves-sym                  from either side
+use mathlib.Core.Path.{_≡_, sym, ap₂}
+use mathlib.Core.Bool.{_&&_}
 use mathlib.Core.List.{List}
 use Prim.Native.Nat.{ℕ}
-use Rattle.laws.proofs.Decides.{Decides, decides-same, decides-map, decides-and}
+use Rattle.laws.proofs.Decides.{decides-same, decides-map}
+use Rattle.language.specs.Syntax.{Boolean, Expr}
+use Rattle.rules.specs.Tests.{sameAntecedent}
+use Rattle.rules.proofs.Decides.{sameAntecedent-decides}
+use Rattle.compare.specs.Matching.{sameNumbers}
 use Rattle.compare.proofs.SameNumbers.{sameNumbers-decides}
 use Rattle.sets.specs.Items.{Halves, sameHalves}
 
-abbrev pub halves : List ℕ → List ℕ → Halves
+abbrev pub halves : Expr Boolean → List ℕ → Halves
 halves a c = record { left = a; right = c }
 
-pub sameHalves-decides : (x y : Halves) → Decides (sameHalves x y) (x ≡ y)
-unfolding sameHalves
-sameHalves-decides x y =
-    decides-map
-    (λ h. ap₂ halves (h .0) (h .1))
-    (λ h. (ap (λ (z : Halves). z .left) h, ap (λ (z : Halves). z .right) h))
-    (decides-and (sameNumbers-decides (x .left) (y .left)) (sameNumbers-decides (x .right) (y .right)))
+antecedent-sym : (φ ψ : Expr Boolean) → sameAntecedent φ ψ ≡ sameAntecedent ψ φ
+antecedent-sym φ ψ =
+    decides-same (sameAntecedent φ ψ) (sameAntecedent ψ φ) (sameAntecedent-decides φ ψ)
+    (decides-map (λ h. sym h) (λ h. sym h) (sameAntecedent-decides ψ φ))
+
+numbers-sym : (k l : List ℕ) → sameNumbers k l ≡ sameNumbers l k
+numbers-sym k l =
+    decides-same (sameNumbers k l) (sameNumbers l k) (sameNumbers-decides k l)
+    (decides-map (λ h. sym h) (λ h. sym h) (sameNumbers-decides l k))
 
 pub sameHalves-sym : (x y : Halves) → sameHalves x y ≡ sameHalves y x
-sameHalves-sym x y =
-    decides-same (sameHalves x y) (sameHalves y x) (sameHalves-decides x y)
-    (decides-map (λ h. sym h) (λ h. sym h) (sameHalves-decides y x))
+unfolding sameHalves
+sameHalves-sym x y = ap₂ _&&_ (antecedent-sym (x .left) (y .left)) (numbers-sym (x .right) (y .right))

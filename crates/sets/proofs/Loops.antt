@@ -5,16 +5,18 @@
 --     MembersLeft, left-start, left-stop, left-on, left-end    a test of all is the test of those that are left
 --     stands-found, stands-skip                                an element is looked for
 --     within-stop, within-skip                                 each is looked for in a list
---     rest-stop, rest-skip                                     each that is not in another
+--     listed-found, listed-skip                                an element is looked for by words
+--     left-found, left-skip, left-not, left-so                 among those that are not listed
+--     rest-stop, rest-skip                                     each that is not listed in another
 --     same-as, has-as, item-sym, either-first, either-second
 --                                                              what the functions that compare items say
 use mathlib.Core.Path.{_≡_, refl, sym, ap, subst, _∙_}
-use mathlib.Core.Bool.{Bool, true, false, _&&_, _||_, cond}
+use mathlib.Core.Bool.{Bool, true, false, not, _&&_, _||_, cond}
 use mathlib.Core.List.{List, [], _∷_}
 use Prim.Native.Nat.{ℕ, zero, suc, _-_, _<_, _≤_}
 use native.Mathlib.Omega.{arith}
-use Rattle.sets.specs.Items.{pastMember, Halves, itemHalves, seenAs, writtenHalves, sameHalves}
-use Rattle.sets.specs.Lists.{seenAll, standsIn, withinAll, withoutAll}
+use Rattle.sets.specs.Items.{pastMember, Halves, itemHalves, seenAs, writtenHalves, sameHalves, sameByWords}
+use Rattle.sets.specs.Lists.{seenAll, standsIn, withinAll, listedIn, withoutAll}
 use Rattle.sets.specs.Standing.{MemberAt, MembersAt}
 use Rattle.sets.specs.declared.item.View.{View}
 use Rattle.sets.specs.declared.item.FormedMember.{FormedMember}
@@ -91,6 +93,42 @@ module _ (x y : Halves) (b : Bool) (e : b ≡ sameHalves x y) where
   unfolding standsIn
   stands-skip h z = rw (← e, h)
 
+-- an element is looked for by words
+module _ (x y : Halves) (b : Bool) (e : b ≡ sameByWords x y) where
+  pub listed-found : b ≡ true → (z : List Halves) → true ≡ listedIn x (y ∷ z)
+  unfolding listedIn
+  listed-found h z = rw (← e, h)
+
+  pub listed-skip : b ≡ false → (z : List Halves) → listedIn x (y ∷ z) ≡ listedIn x z
+  unfolding listedIn
+  listed-skip h z = rw (← e, h)
+
+-- an element is looked for among those that are not listed in q
+module _ (q : List Halves) (x y : Halves) (b : Bool) (e : b ≡ (sameHalves x y && not (listedIn y q))) where
+  remaining : (z : List Halves) → standsIn x (withoutAll (y ∷ z) q) ≡ ((sameHalves x y && not (listedIn y q)) || standsIn x (withoutAll z q))
+  unfolding standsIn withoutAll
+  remaining z = go (listedIn y q) (sameHalves x y) refl
+    where
+      go : (c d : Bool) → sameHalves x y ≡ d →
+          standsIn x (cond c (withoutAll z q) (y ∷ withoutAll z q)) ≡ ((d && not c) || standsIn x (withoutAll z q))
+      go true true h = refl
+      go true false h = refl
+      go false true h = rw h
+      go false false h = rw h
+
+  pub left-found : b ≡ true → (z : List Halves) → true ≡ standsIn x (withoutAll (y ∷ z) q)
+  left-found h z = rw (remaining z, ← e, h)
+
+  pub left-skip : b ≡ false → (z : List Halves) → standsIn x (withoutAll (y ∷ z) q) ≡ standsIn x (withoutAll z q)
+  left-skip h z = rw (remaining z, ← e, h)
+
+module _ (q : List Halves) (x y : Halves) {b : Bool} (e : b ≡ sameHalves x y) where
+  pub left-not : b ≡ false → false ≡ (sameHalves x y && not (listedIn y q))
+  left-not h = rw (← e, h)
+
+  pub left-so : {c : Bool} → b ≡ true → c ≡ listedIn y q → not c ≡ (sameHalves x y && not (listedIn y q))
+  left-so h f = rw (← e, ← f, h)
+
 -- each is looked for in p
 module _ (p : List Halves) (x : Halves) (b : Bool) (e : b ≡ standsIn x p) where
   pub within-stop : b ≡ false → (z : List Halves) → false ≡ withinAll (x ∷ z) p
@@ -101,12 +139,12 @@ module _ (p : List Halves) (x : Halves) (b : Bool) (e : b ≡ standsIn x p) wher
   unfolding withinAll
   within-skip h z = rw (← e, h)
 
--- each that is not in q
-module _ (p q : List Halves) (x : Halves) (b : Bool) (e : b ≡ (standsIn x p || standsIn x q)) where
+-- each that is not listed in q
+module _ (p q : List Halves) (x : Halves) (b : Bool) (e : b ≡ (standsIn x p || listedIn x q)) where
   rest : (z : List Halves) →
-      withinAll (withoutAll (x ∷ z) q) p ≡ ((standsIn x p || standsIn x q) && withinAll (withoutAll z q) p)
+      withinAll (withoutAll (x ∷ z) q) p ≡ ((standsIn x p || listedIn x q) && withinAll (withoutAll z q) p)
   unfolding withinAll withoutAll
-  rest z = go (standsIn x q) (standsIn x p) refl
+  rest z = go (listedIn x q) (standsIn x p) refl
     where
       go : (c d : Bool) → standsIn x p ≡ d →
           withinAll (cond c (withoutAll z q) (x ∷ withoutAll z q)) p ≡ ((d || c) && withinAll (withoutAll z q) p)
@@ -135,11 +173,11 @@ module _ (file ends : List ℕ) (i : ℕ) where
   item-sym y e = e ∙ sameHalves-sym (writtenHalves file ends i) y
 
   module _ (p q : List Halves) {b : Bool} (e : b ≡ standsIn (writtenHalves file ends i) p) where
-    pub either-first : b ≡ true → true ≡ (standsIn (writtenHalves file ends i) p || standsIn (writtenHalves file ends i) q)
+    pub either-first : b ≡ true → true ≡ (standsIn (writtenHalves file ends i) p || listedIn (writtenHalves file ends i) q)
     either-first h = rw (← e, h)
 
-    pub either-second : {c : Bool} → b ≡ false → c ≡ standsIn (writtenHalves file ends i) q →
-        c ≡ (standsIn (writtenHalves file ends i) p || standsIn (writtenHalves file ends i) q)
+    pub either-second : {c : Bool} → b ≡ false → c ≡ listedIn (writtenHalves file ends i) q →
+        c ≡ (standsIn (writtenHalves file ends i) p || listedIn (writtenHalves file ends i) q)
     either-second h g = rw (← e, h) g
 
 pub end-stands : (x : Halves) → false ≡ standsIn x []
@@ -149,6 +187,14 @@ end-stands x = refl
 pub end-within : (p : List Halves) → true ≡ withinAll [] p
 unfolding withinAll
 end-within p = refl
+
+pub end-listed : (x : Halves) → false ≡ listedIn x []
+unfolding listedIn
+end-listed x = refl
+
+pub end-left : (x : Halves) (q : List Halves) → false ≡ standsIn x (withoutAll [] q)
+unfolding standsIn withoutAll
+end-left x q = refl
 
 pub end-rest : (p q : List Halves) → true ≡ withinAll (withoutAll [] q) p
 unfolding withinAll withoutAll

@@ -1,17 +1,17 @@
 -- Lists joined and left out, and piles by what they are.
 -- Assumes nothing.
---     stands-append, within-append, stands-without    of lists joined; of a list without another
---     rest-not, rest-listed, rest-is                  an element of a list without another
+--     stands-append, within-append                    of lists joined
 --     pile-one, pile-set, pile-without                what a pile names stands there
 --     of-empty, of-one, of-set, of-without            a test of a pile's numbers
 --     any-first, any-second, any-third                an element of three piles
 --     all-first, all-second, all-third                each element of three piles
 use mathlib.Core.Path.{_≡_, refl, sym, ap, subst, _∙_}
-use mathlib.Core.Bool.{Bool, true, false, not, _&&_, _||_, cond, and-false}
+use mathlib.Core.Bool.{Bool, true, false, _&&_, _||_}
 use mathlib.Core.List.{List, [], _∷_, _++_}
 use Prim.Native.Nat.{ℕ, _+_}
-use Rattle.compare.specs.Places.{AnyAt}
-use Rattle.sets.specs.Items.{Halves, pairItem, itemHalves, writtenHalves, sameHalves}
+use Rattle.language.specs.Syntax.{Boolean}
+use Rattle.compare.specs.Places.{ExpressionAt, AnyAt}
+use Rattle.sets.specs.Items.{Halves, pairItem, itemHalves, sameHalves}
 use Rattle.sets.specs.Lists.{seenAll, written, standsIn, withinAll, withoutAll}
 use Rattle.sets.specs.Standing.{MembersAt, ViewAt}
 use Rattle.sets.specs.Piles.{countAt, pileNumbers, pilesNumbers, AnySetAt, PileAt}
@@ -19,7 +19,6 @@ use Rattle.sets.specs.declared.item.View.{View}
 use Rattle.sets.specs.declared.pile.Pile.{Pile}
 use Rattle.sets.specs.declared.pile.Pile.the-variants.{Empty, One, Set, Without}
 use Rattle.sets.specs.declared.pile.Piles.{Piles}
-use Rattle.sets.proofs.Equal.{sameHalves-decides}
 
 or-assoc : (a b c : Bool) → ((a || b) || c) ≡ (a || (b || c))
 or-assoc true b c = refl
@@ -49,47 +48,9 @@ within-append [] l p = refl
 within-append (x ∷ k) l p =
     ap (λ b. standsIn x p && b) (within-append k l p) ∙ sym (and-assoc (standsIn x p) (withinAll k p) (withinAll l p))
 
--- one step of the law below: x stands in the other list as c says, y is x as d says, and stands in the other as e says
-without-step : (c d e f : Bool) → (d ≡ true → e ≡ c) → cond c (f && not e) (d || (f && not e)) ≡ ((d || f) && not e)
-without-step true true e f h = rw (h refl) (and-false f)
-without-step true false e f h = refl
-without-step false true e f h = rw (h refl)
-without-step false false e f h = refl
-
-pub stands-without : (y : Halves) (k l : List Halves) →
-    standsIn y (withoutAll k l) ≡ (standsIn y k && not (standsIn y l))
-unfolding standsIn withoutAll
-stands-without y [] l = refl
-stands-without y (x ∷ k) l =
-    choose (standsIn x l)
-    ∙ ap (λ b. cond (standsIn x l) b (sameHalves y x || b)) (stands-without y k l)
-    ∙ without-step (standsIn x l) (sameHalves y x) (standsIn y l) (standsIn y k)
-    (λ h. ap (λ z. standsIn z l) (sameHalves-decides y x .sound h))
-  where
-    choose : (c : Bool) → standsIn y (cond c (withoutAll k l) (x ∷ withoutAll k l)) ≡
-        cond c (standsIn y (withoutAll k l)) (sameHalves y x || standsIn y (withoutAll k l))
-    choose true = refl
-    choose false = refl
-
--- a written member of a list without another
-module _ (file ends : List ℕ) (x : ℕ) (k l : List Halves) where
-  abbrev here : Halves
-  here = writtenHalves file ends x
-
-  module _ {a : Bool} (e : a ≡ standsIn here k) where
-    pub rest-not : a ≡ false → false ≡ standsIn here (withoutAll k l)
-    rest-not h = rw (stands-without here k l, ← e, h)
-
-    module _ {b : Bool} (f : b ≡ standsIn here l) where
-      pub rest-listed : a ≡ true → b ≡ true → false ≡ standsIn here (withoutAll k l)
-      rest-listed h g = rw (stands-without here k l, ← e, ← f, h, g)
-
-      pub rest-is : a ≡ true → b ≡ false → true ≡ standsIn here (withoutAll k l)
-      rest-is h g = rw (stands-without here k l, ← e, ← f, h, g)
-
 -- what a pile names stands there
 module _ {file ends : List ℕ} where
-  pub pile-one : (pile : Pile) {f b : ℕ} → PileAt file ends pile → pile ≡ One f b → AnyAt file ends f × AnyAt file ends b
+  pub pile-one : (pile : Pile) {f b : ℕ} → PileAt file ends pile → pile ≡ One f b → ExpressionAt file ends Boolean f × AnyAt file ends b
   unfolding PileAt
   pile-one pile p e = rw e at p
 

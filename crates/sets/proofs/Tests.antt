@@ -1,30 +1,30 @@
 -- The tests of `Tests` in rules, of sets whose words are in range, are those of their members' halves.
 -- Assumes nothing.
 --     halvesOf, membersNumbers, FitsAll      the halves of a member, of a set; their words are in range
---     stands-numbers, within-numbers, same-numbers, without-numbers
+--     stands-numbers, within-numbers, same-numbers, listed-numbers, without-numbers
 use mathlib.Core.Path.{_≡_, refl, sym, ap, ap₂, _∙_}
 use mathlib.Core.Bool.{Bool, true, false, _&&_, _||_, cond}
 use mathlib.Core.List.{List, [], _∷_, _++_}
-use Rattle.rules.specs.Words.{words}
+use Rattle.rules.specs.Words.{words, sameWords}
 use Rattle.rules.specs.Assertion.{Member, Members}
 use Rattle.rules.specs.Sets.{listed, without}
-use Rattle.rules.specs.Tests.{sameMember, stands, within, same}
+use Rattle.rules.specs.Tests.{sameAntecedent, sameConsequent, sameMember, stands, within, same}
 use Rattle.layout.specs.Nodes.{AllInRange}
-use Rattle.compare.specs.Matching.{numbers}
+use Rattle.compare.specs.Matching.{numbers, sameNumbers}
 use Rattle.compare.proofs.Numbers.{numbers-tell}
 use Rattle.compare.proofs.SameNumbers.{numbers-same}
-use Rattle.sets.specs.Items.{Halves, sameHalves}
-use Rattle.sets.specs.Lists.{standsIn, withinAll, sameAll, withoutAll}
+use Rattle.sets.specs.Items.{Halves, sameHalves, sameByWords}
+use Rattle.sets.specs.Lists.{standsIn, withinAll, sameAll, listedIn, withoutAll}
 
 abbrev pub halvesOf : Member → Halves
-halvesOf m = record { left = numbers (words (m .antecedent)); right = numbers (words (m .consequent)) }
+halvesOf m = record { left = m .antecedent; right = numbers (words (m .consequent)) }
 
 unfoldable pub membersNumbers : Members → List Halves
 membersNumbers [] = []
 membersNumbers (m ∷ p) = halvesOf m ∷ membersNumbers p
 
 abbrev pub FitsMember : Member → Type 0
-FitsMember m = AllInRange (words (m .antecedent)) × AllInRange (words (m .consequent))
+FitsMember m = AllInRange (words (m .consequent))
 
 abbrev pub FitsAll : Members → Type 0
 FitsAll [] = Unit {0}
@@ -39,16 +39,17 @@ unfolding membersNumbers
 members-append [] q = refl
 members-append (m ∷ p) q = ap (λ l. halvesOf m ∷ l) (members-append p q)
 
+consequent-numbers : (m n : Member) → FitsMember m → FitsMember n →
+    sameConsequent (m .consequent) (n .consequent) ≡ sameNumbers (halvesOf m .right) (halvesOf n .right)
+consequent-numbers m n f g =
+    let c = words (m .consequent) in
+    let d = words (n .consequent) in
+    sym (numbers-same c d (numbers-tell c d f g))
+
 member-numbers : (m n : Member) → FitsMember m → FitsMember n → sameMember m n ≡ sameHalves (halvesOf m) (halvesOf n)
 unfolding sameHalves
 member-numbers m n f g =
-    let a = words (m .antecedent) in
-    let b = words (n .antecedent) in
-    let c = words (m .consequent) in
-    let d = words (n .consequent) in
-    ap₂ _&&_
-    (sym (numbers-same a b (numbers-tell a b (f .0) (g .0))))
-    (sym (numbers-same c d (numbers-tell c d (f .1) (g .1))))
+    ap (λ b. sameAntecedent (m .antecedent) (n .antecedent) && b) (consequent-numbers m n f g)
 
 pub stands-numbers : (m : Member) (p : Members) → FitsMember m → FitsAll p →
     stands m p ≡ standsIn (halvesOf m) (membersNumbers p)
@@ -65,10 +66,13 @@ within-numbers (m ∷ p) q f g = ap₂ _&&_ (stands-numbers m q (f .0) g) (withi
 pub same-numbers : (p q : Members) → FitsAll p → FitsAll q → same p q ≡ sameAll (membersNumbers p) (membersNumbers q)
 same-numbers p q f g = ap₂ _&&_ (within-numbers p q f g) (within-numbers q p g f)
 
--- "listed" is "stands"
-listed-stands : (m : Member) (q : Members) → listed m q ≡ stands m q
-listed-stands m [] = refl
-listed-stands m (n ∷ q) = ap (λ b. sameMember m n || b) (listed-stands m q)
+pub listed-numbers : (m : Member) (q : Members) → FitsMember m → FitsAll q →
+    listed m q ≡ listedIn (halvesOf m) (membersNumbers q)
+unfolding listedIn membersNumbers sameByWords
+listed-numbers m [] f g = refl
+listed-numbers m (n ∷ q) f g =
+    ap₂ (λ b c. (sameWords (words (m .antecedent)) (words (n .antecedent)) && b) || c) (consequent-numbers m n f (g .0))
+    (listed-numbers m q f (g .1))
 
 pub without-numbers : (p q : Members) → FitsAll p → FitsAll q →
     membersNumbers (without p q) ≡ withoutAll (membersNumbers p) (membersNumbers q)
@@ -76,7 +80,7 @@ unfolding membersNumbers withoutAll
 without-numbers [] q f g = refl
 without-numbers (m ∷ p) q f g =
     choose (listed m q)
-    ∙ ap₂ (λ b l. cond b l (halvesOf m ∷ l)) (listed-stands m q ∙ stands-numbers m q (f .0) g) (without-numbers p q (f .1) g)
+    ∙ ap₂ (λ b l. cond b l (halvesOf m ∷ l)) (listed-numbers m q (f .0) g) (without-numbers p q (f .1) g)
   where
     choose : (b : Bool) → membersNumbers (cond b (without p q) (m ∷ without p q)) ≡
         cond b (membersNumbers (without p q)) (halvesOf m ∷ membersNumbers (without p q))

@@ -7,32 +7,29 @@
 --     same-trees                             a written set is the same as three piles
 use mathlib.Core.Path.{_≡_, refl, sym, ap, ap₂, subst, _∙_}
 use mathlib.Core.List.{List, [], _∷_, _++_, map}
-use Prim.Native.Nat.{ℕ, _+_, _≤_}
+use Prim.Native.Nat.{ℕ, _+_}
 use native.Mathlib.Omega.{arith}
 use lib.ListN.{length}
 use Rattle.language.specs.Syntax.{Sort, Boolean, Expr, and, neg, Assignment}
-use Rattle.rules.specs.Words.{words}
 use Rattle.rules.specs.Assertion.{Member, Members, member}
 use Rattle.rules.specs.Context.{Context}
 use Rattle.rules.specs.Replace.{Replacement, replacement, replace, replaceMembers}
 use Rattle.rules.specs.Sets.{under}
 use Rattle.rules.specs.Tests.{same}
-use Rattle.layout.specs.Nodes.{expressionNode, setNode, halves, AllInRange}
-use Rattle.layout.proofs.Nodes.{node-range}
+use Rattle.layout.specs.Nodes.{setNode, halves}
 use Rattle.ends.specs.Ends.{EndsOf}
 use Rattle.ends.specs.Places.{endAt, NodeAt, WrittenAt, NodesAt}
 use Rattle.ends.proofs.Places.{parts-at, node-head, node-inside}
-use Rattle.compare.specs.Matching.{between, numbers}
 use Rattle.compare.specs.declared.cursor.Put.{Put}
 use Rattle.compare.proofs.Operands.{written-any}
-use Rattle.compare.proofs.Numbers.{stands-between}
-use Rattle.compare.proofs.Replaced.{Replaces, scalar-replaces, array-replaces}
+use Rattle.compare.specs.Trees.{PutStands}
+use Rattle.compare.proofs.Trees.{put-replaces}
 use Rattle.compare.proofs.Halves.{AntecedentIs, is-written, is-and, is-and-not, is-replaced, ConsequentIs, is-plain, is-exchanged}
 use Rattle.sets.specs.Items.{pastMember, Halves, seenItem, pairItem, itemHalves, seenAs}
 use Rattle.sets.specs.Lists.{seenAll, sameAll, withoutAll}
 use Rattle.sets.specs.Standing.{MemberAt, MembersAt, ViewAt}
 use Rattle.sets.specs.Piles.{countAt, writtenSet, pileNumbers, pilesNumbers, AnySetAt, PileAt}
-use Rattle.sets.specs.Trees.{MemberWritten, MembersWritten, RightSide, PutStands, put-scalar, put-array, PileStands}
+use Rattle.sets.specs.Trees.{MemberWritten, MembersWritten, PileStands}
 use Rattle.sets.specs.Trees.{stands-empty, stands-one, stands-plain, stands-under, stands-unless, stands-replaced}
 use Rattle.sets.specs.Trees.{stands-without}
 use Rattle.sets.specs.declared.item.View.{View}
@@ -92,12 +89,12 @@ pub record AllShown (file ends : List ℕ) (l : List Halves) (p : Members) : Typ
 
 -- an item, half by half
 pub item-shows : {file ends : List ℕ} {item : FormedMember} {φ : Expr Boolean} {k : Sort} {e : Expr k} →
-    AntecedentIs file ends (item .antecedent) φ → ConsequentIs file ends (item .consequent) e →
+    AntecedentIs file (item .antecedent) φ → ConsequentIs file ends (item .consequent) e →
     (itemHalves file ends item ≡ halvesOf (member φ e)) × FitsMember (member φ e)
 unfolding itemHalves
 item-shows x y = (
-  ap₂ equal.halves (x .numbers-are) (y .numbers-are),
-  (x .fits, y .fits),
+  ap₂ equal.halves (x .tree-is) (y .numbers-are),
+  y .fits,
 )
 
 module _ {file ends : List ℕ} {view : View} {g : Member → Member} (s : Shows file ends view g) where
@@ -144,12 +141,12 @@ module _ {file ends : List ℕ} where
           item-shows (is-and-not (x .antecedent-at) (t)) (is-plain (x .consequent-at));
     }
 
-  pub replaced-shows : {put : Put} {f : Replacement} → Replaces file put f →
-      Shows file ends (Replaced put) (λ m. member (replace (m .antecedent) f) (replace (m .consequent) f))
+  pub replaced-shows : {put : Put} {a : Assignment} → PutStands file ends put a →
+      Shows file ends (Replaced put) (λ m. member (replace (m .antecedent) (replacement a)) (replace (m .consequent) (replacement a)))
   unfolding seenItem
-  replaced-shows r = record {
+  replaced-shows s = record {
     shows = λ m at x.
-        item-shows (is-replaced r (x .antecedent-at)) (is-exchanged r (x .consequent-at));
+        item-shows (is-replaced s (x .antecedent-at)) (is-exchanged (put-replaces s) (x .consequent-at));
   }
 
 -- what a pile names stands there, and its members' numbers are those of a set
@@ -172,25 +169,6 @@ map-replaced [] f = refl
 map-replaced (m ∷ p) f = ap (λ l. member (replace (m .antecedent) f) (replace (m .consequent) f) ∷ l) (map-replaced p f)
 
 module _ {file ends : List ℕ} (ends-of : EndsOf file ends) where
-  side-is : {j : Sort} {put : Put} {k x : ℕ} {e : Expr j} → RightSide file ends put k x e →
-      (put .to ≤ length file) × (between file (put .from) (put .to) ≡ numbers (words e)) × AllInRange (words e)
-  side-is {put = put} {e = e} r =
-      let y = r .there in
-      let i = node-inside y in (
-        omega (arith, r .end-is, i .within),
-        ap (between file (put .from)) (r .end-is)
-            ∙ stands-between file (put .from) (words e) (endAt ends (put .from)) (y .stands .stand),
-        node-range (y .levels) (expressionNode e) (y .stands .fit),
-      )
-
-  put-is : {put : Put} {a : Assignment} → PutStands file ends put a → (put .to ≤ length file) × Replaces file put (replacement a)
-  put-is {put} (put-scalar {x = x} {e = e} r) =
-      let s = side-is r in
-      (s .0, scalar-replaces file put x e (r .small) (r .word-is) (s .1) (s .2))
-  put-is {put} (put-array {x = x} {e = e} r) =
-      let s = side-is r in
-      (s .0, array-replaces file put x e (r .small) (r .word-is) (s .1) (s .2))
-
   pub written-is : {Γ : Context} {p : Members} {at : ℕ} → NodeAt file ends (setNode Γ p) at →
       AllShown file ends (writtenSet file ends at) p
   written-is {p = p} {at} s =
@@ -202,24 +180,22 @@ module _ {file ends : List ℕ} (ends-of : EndsOf file ends) where
   pile-is (stands-one a c) =
       let h = item-shows {item = pairItem _ _} (is-written a) (is-plain c) in
       record {
-        pile-place = (written-any a, written-any c);
+        pile-place = (record { tree = _; there = a }, written-any c);
         shown = record { numbers-are = ap (λ l. l ∷ []) (h .0); fit-all = (h .1, tt) };
       }
   pile-is (stands-plain s) = record { pile-place = (set-place ends-of s, tt); shown = written-is s }
   pile-is (stands-under {q = q} {β} x c) = record {
-    pile-place = (set-place ends-of x, written-any c);
+    pile-place = (set-place ends-of x, record { tree = _; there = c });
     shown = subst (AllShown file ends _) (map-under q β) (seen-all (under-shows c) ends-of x);
   }
   pile-is (stands-unless {q = q} {β} x c) = record {
-    pile-place = (set-place ends-of x, written-any c);
+    pile-place = (set-place ends-of x, record { tree = _; there = c });
     shown = subst (AllShown file ends _) (map-under q (neg β)) (seen-all (unless-shows c) ends-of x);
   }
-  pile-is (stands-replaced {q = q} {a} x t) =
-      let c = put-is t in
-      record {
-        pile-place = (set-place ends-of x, c .0);
-        shown = subst (AllShown file ends _) (map-replaced q (replacement a)) (seen-all (replaced-shows (c .1)) ends-of x);
-      }
+  pile-is (stands-replaced {q = q} {a} x t) = record {
+    pile-place = (set-place ends-of x, record { tree = _; stands = t });
+    shown = subst (AllShown file ends _) (map-replaced q (replacement a)) (seen-all (replaced-shows t) ends-of x);
+  }
   pile-is (stands-without {t = t} {s = s} u v) =
       let x = written-is u in
       let y = written-is v in

@@ -1,18 +1,21 @@
--- Members as the rules make them (document 01, "Rules"), in two halves: their antecedents and consequents by numbers.
+-- Members as the rules make them (document 01, "Rules"), in two halves: their antecedents as trees, their
+-- consequents by numbers.
 -- Working: `plain-shows`, `under-shows`, `unless-shows` and `replaced-shows` of proofs/Trees say that they are those of
--- the members that the rules name, `sameHalves-decides` of proofs/Equal that the test decides equality. Assumes
--- nothing.
+-- the members that the rules name. Assumes nothing.
 --     pastMember                          the place past the member that starts at a place
 --     seenItem, pairItem, certainItem     a member seen as a view says; φ ⇒ E by two places; true ⇒ E
---     Halves, itemHalves                  the numbers of an antecedent and of a consequent; an item's
+--     Halves, itemHalves                  an antecedent, and the numbers of a consequent; an item's
 --     seenAs, writtenHalves               those of a member seen as a view says; as it stands
---     sameHalves                          antecedents compared, then consequents
+--     sameHalves, sameByWords             antecedents compared by plain forms, consequents by words; both by words (rule 17)
 use mathlib.Core.Bool.{Bool, _&&_}
 use mathlib.Core.List.{List}
 use Prim.Native.Nat.{ℕ}
+use Rattle.language.specs.Syntax.{Boolean, Expr}
+use Rattle.rules.specs.Words.{words, sameWords}
+use Rattle.rules.specs.Tests.{sameAntecedent}
 use Rattle.compare.specs.Matching.{sameNumbers}
 use Rattle.ends.specs.Places.{endAt}
-use Rattle.compare.specs.Forms.{antecedentNumbers, consequentNumbers}
+use Rattle.compare.specs.Forms.{antecedentTree, consequentNumbers}
 use Rattle.compare.specs.declared.antecedent.Antecedent.the-variants.{Written as Alone, And, AndNot, Replaced as Changed, True}
 use Rattle.compare.specs.declared.consequent.Consequent.the-variants.{Written, Replaced as Exchanged}
 use Rattle.sets.specs.declared.item.View.{View}
@@ -35,13 +38,13 @@ abbrev pub certainItem : ℕ → FormedMember
 certainItem b = record { antecedent = True; consequent = Written b }
 
 pub record Halves : Type 0 where
-  pub left : List ℕ
+  pub left : Expr Boolean
   pub right : List ℕ
 
 module _ (file ends : List ℕ) where
   unfoldable pub itemHalves : FormedMember → Halves
   itemHalves item =
-      record { left = antecedentNumbers file ends (item .antecedent); right = consequentNumbers file ends (item .consequent) }
+      record { left = antecedentTree file (item .antecedent); right = consequentNumbers file ends (item .consequent) }
 
   abbrev pub seenAs : View → ℕ → Halves
   seenAs view a = itemHalves (seenItem ends view a)
@@ -50,4 +53,7 @@ module _ (file ends : List ℕ) where
   writtenHalves a = seenAs Plain a
 
 unfoldable pub sameHalves : Halves → Halves → Bool
-sameHalves x y = sameNumbers (x .left) (y .left) && sameNumbers (x .right) (y .right)
+sameHalves x y = sameAntecedent (x .left) (y .left) && sameNumbers (x .right) (y .right)
+
+unfoldable pub sameByWords : Halves → Halves → Bool
+sameByWords x y = sameWords (words (x .left)) (words (y .left)) && sameNumbers (x .right) (y .right)

@@ -4,11 +4,11 @@
 -- there. Assumes nothing.
 --     seenAll, written               the members that stand one after the other, seen as a view says; as they stand
 --     standsIn, withinAll, sameAll   one of a list; each of a list is one of another; two lists with the same elements
---     withoutAll                     a list without the elements of another (rule 17)
+--     listedIn, withoutAll           one of a list, by words; a list without the elements that are so listed in another (rule 17)
 use mathlib.Core.Bool.{Bool, true, false, _&&_, _||_, cond}
 use mathlib.Core.List.{List, [], _∷_}
 use Prim.Native.Nat.{ℕ, zero, suc}
-use Rattle.sets.specs.Items.{pastMember, Halves, seenAs, sameHalves}
+use Rattle.sets.specs.Items.{pastMember, Halves, seenAs, sameHalves, sameByWords}
 use Rattle.sets.specs.declared.item.View.{View}
 use Rattle.sets.specs.declared.item.View.the-variants.{Plain}
 
@@ -31,6 +31,10 @@ withinAll (x ∷ k) l = standsIn x l && withinAll k l
 abbrev pub sameAll : List Halves → List Halves → Bool
 sameAll k l = withinAll k l && withinAll l k
 
+unfoldable pub listedIn : Halves → List Halves → Bool
+listedIn x [] = false
+listedIn x (y ∷ l) = sameByWords x y || listedIn x l
+
 unfoldable pub withoutAll : List Halves → List Halves → List Halves
 withoutAll [] l = []
-withoutAll (x ∷ k) l = cond (standsIn x l) (withoutAll k l) (x ∷ withoutAll k l)
+withoutAll (x ∷ k) l = cond (listedIn x l) (withoutAll k l) (x ∷ withoutAll k l)

@@ -9,7 +9,8 @@ use Prim.Native.Nat.{ℕ, _+_, _<_}
 use lib.ListN.{length}
 use Rattle.layout.specs.Bytes.{payloadAt}
 use Rattle.ends.specs.Ends.{EndsOf}
-use Rattle.compare.specs.Places.{AnyAt}
+use Rattle.language.specs.Syntax.{Boolean}
+use Rattle.compare.specs.Places.{ExpressionAt, AnyAt}
 use Rattle.sets.specs.Items.{Halves, pairItem, itemHalves}
 use Rattle.sets.specs.Lists.{seenAll, written, withoutAll}
 use Rattle.sets.specs.Standing.{MemberAt, MembersAt, ViewAt}
@@ -40,7 +41,7 @@ module _ (file ends : List ℕ) where
 
   unfoldable pub PileAt : Pile → Type 0
   PileAt Empty = Unit {0}
-  PileAt (One f b) = AnyAt file ends f × AnyAt file ends b
+  PileAt (One f b) = ExpressionAt file ends Boolean f × AnyAt file ends b
   PileAt (Set q view) = AnySetAt q × ViewAt file ends view
   PileAt (Without t s) = AnySetAt t × AnySetAt s
 

@@ -21,7 +21,8 @@ use Rattle.ends.specs.Ends.{EndsOf}
 use Rattle.ends.specs.Places.{WrittenAt, SetAt}
 use Rattle.compare.specs.Places.{ExpressionAt}
 use Rattle.compare.specs.declared.cursor.Put.{Put}
-use Rattle.sets.specs.Trees.{PutStands, HasSet, HasPut}
+use Rattle.compare.specs.Trees.{PutStands, HasPut}
+use Rattle.sets.specs.Trees.{HasSet}
 
 module _ (file ends : List ℕ) where
   pub record CanTwo (p q : ℕ) : Type 0 where

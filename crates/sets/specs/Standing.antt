@@ -7,14 +7,16 @@
 --     ItemAt, CanCompare, CanSee      what an item names; a written member compared with one, with a member that is seen
 --     MembersAt                       so many members, one after the other
 --     CanFind, CanLook                an item among members; a member among members that are seen
---     CanHold, CanRest                each of some members among others; without those that are listed
+--     CanHold, CanEither, CanRest     each of some members among others; among two sets; without those that are listed
+--     CanLeave                        one of the others that is not listed
 use mathlib.Core.List.{List}
-use Prim.Native.Nat.{ℕ, zero, suc, _<_, _≤_}
+use Prim.Native.Nat.{ℕ, zero, suc, _<_}
 use lib.ListN.{length}
 use Rattle.language.specs.Syntax.{Boolean}
 use Rattle.ends.specs.Ends.{EndsOf}
 use Rattle.ends.specs.Places.{endAt}
 use Rattle.compare.specs.Places.{ExpressionAt, AnyAt}
+use Rattle.compare.specs.Trees.{HasPut}
 use Rattle.compare.specs.Forms.{AntecedentAt, ConsequentAt}
 use Rattle.sets.specs.Items.{pastMember}
 use Rattle.sets.specs.declared.item.View.{View}
@@ -33,9 +35,9 @@ module _ (file ends : List ℕ) where
 
   unfoldable pub ViewAt : View → Type 0
   ViewAt Plain = Unit {0}
-  ViewAt (Under b) = AnyAt file ends b
-  ViewAt (Unless b) = AnyAt file ends b
-  ViewAt (Replaced put) = put .to ≤ length file
+  ViewAt (Under b) = ExpressionAt file ends Boolean b
+  ViewAt (Unless b) = ExpressionAt file ends Boolean b
+  ViewAt (Replaced put) = HasPut file ends put
 
   pub record ItemAt (item : FormedMember) : Type 0 where
     pub antecedent-at : AntecedentAt file ends (item .antecedent)
@@ -76,6 +78,13 @@ module _ (file ends : List ℕ) where
     pub part : MembersAt j from
     pub view-at : ViewAt view
     pub members : MembersAt k at
+
+  -- a member is the one at a, which is not listed among the l members at `leave`
+  pub record CanLeave (x a l leave : ℕ) : Type 0 where
+    pub ends-of : EndsOf file ends
+    pub member : MemberAt x
+    pub other : MemberAt a
+    pub listed : MembersAt l leave
 
   -- a member among the k members at `at`, or among the l members at `leave`
   pub record CanEither (x l leave k at : ℕ) : Type 0 where

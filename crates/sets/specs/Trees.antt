@@ -1,23 +1,22 @@
 -- The trees that stand where sets are compared, and what the comparisons promise of them.
 -- Working: `can-same` and `set-does` of proofs/Rules tie it to the numbers that are compared. Assumes nothing.
 --     MemberWritten, MembersWritten    a member at its place; members one after the other
---     PutStands                        the word of an identifier, and its right side between two places
 --     PileStands                       a pile is a set that a rule makes of written ones
---     HasSet, HasPut, HasPile          some such tree is there
+--     HasSet, HasPile                  some such tree is there
 --     CanSameSet, SameSet              a written set is the same as three piles together
 use mathlib.Core.Path.{_≡_}
 use mathlib.Core.Bool.{Bool}
 use mathlib.Core.List.{List, [], _∷_, _++_}
-use Prim.Native.Nat.{ℕ, _+_, _*_, _≤_}
-use Rattle.language.specs.Syntax.{Sort, Arithmetic, Boolean, Array, Expr, neg, Assignment, toScalar, toArray}
+use Prim.Native.Nat.{ℕ}
+use Rattle.language.specs.Syntax.{Sort, Boolean, Expr, neg, Assignment}
 use Rattle.rules.specs.Assertion.{Member, Members, one}
 use Rattle.rules.specs.Context.{Context}
 use Rattle.rules.specs.Replace.{replacement, replaceMembers}
 use Rattle.rules.specs.Sets.{under, without}
 use Rattle.rules.specs.Tests.{same}
-use Rattle.layout.specs.Bytes.{payloads}
 use Rattle.ends.specs.Ends.{EndsOf}
 use Rattle.ends.specs.Places.{endAt, WrittenAt, SetAt}
+use Rattle.compare.specs.Trees.{PutStands}
 use Rattle.compare.specs.declared.cursor.Put.{Put}
 use Rattle.sets.specs.Items.{pastMember}
 use Rattle.sets.specs.declared.item.View.the-variants.{Plain, Under, Unless, Replaced}
@@ -34,18 +33,6 @@ module _ (file ends : List ℕ) where
   MembersWritten [] at = Unit {0}
   MembersWritten (m ∷ l) at = MemberWritten m at × MembersWritten l (pastMember ends at)
 
-  -- the word k:x, and a right side between the two places
-  pub record RightSide {j : Sort} (put : Put) (k x : ℕ) (e : Expr j) : Type 0 where
-    pub small : x ≤ 31
-    pub word-is : put .word ≡ k * payloads + x
-    pub there : WrittenAt file ends e (put .from)
-    pub end-is : put .to ≡ endAt ends (put .from)
-
-  -- rules 3 and 4
-  pub data PutStands (put : Put) : Assignment → Type 0 where
-    put-scalar : {x : ℕ} {e : Expr Arithmetic} → RightSide put 2 x e → PutStands put (toScalar x e)
-    put-array : {x : ℕ} {e : Expr Array} → RightSide put 16 x e → PutStands put (toArray x e)
-
   pub data PileStands : Pile → Members → Type 0 where
     stands-empty : PileStands Empty []
     stands-one : {f b : ℕ} {φ : Expr Boolean} {k : Sort} {e : Expr k} → WrittenAt file ends φ f → WrittenAt file ends e b →
@@ -56,7 +43,7 @@ module _ (file ends : List ℕ) where
     stands-unless : {Γ : Context} {at b : ℕ} {q : Members} {β : Expr Boolean} → SetAt file ends Γ q at →
         WrittenAt file ends β b → PileStands (Set at (Unless b)) (under q (neg β))
     stands-replaced : {Γ : Context} {at : ℕ} {put : Put} {q : Members} {a : Assignment} → SetAt file ends Γ q at →
-        PutStands put a → PileStands (Set at (Replaced put)) (replaceMembers q (replacement a))
+        PutStands file ends put a → PileStands (Set at (Replaced put)) (replaceMembers q (replacement a))
     stands-without : {Γ Δ : Context} {at from : ℕ} {t s : Members} → SetAt file ends Γ t at → SetAt file ends Δ s from →
         PileStands (Without at from) (without t s)
 
@@ -64,10 +51,6 @@ module _ (file ends : List ℕ) where
     pub Γ : Context
     pub tree : Members
     pub there : SetAt file ends Γ tree at
-
-  pub record HasPut (put : Put) : Type 0 where
-    pub tree : Assignment
-    pub stands : PutStands put tree
 
   pub record HasPile (pile : Pile) : Type 0 where
     pub tree : Members

@@ -1,15 +1,18 @@
 use compare::antecedent::Antecedent;
 use compare::antecedent::same_antecedent;
-use compare::antecedent::same_antecedents;
 use compare::consequent::Consequent;
 use compare::consequent::same_consequent;
 use compare::consequent::same_consequents;
 use compare::cursor::Put;
+use compare::part::same_parts;
+use compare::plain::same_booleans;
 use ends::end_at;
 ghost use mathlib.Core.Path.{_≡_};
 ghost use Prim.Native.Nat.{_<_};
 ghost use lib.ListN.{length};
 ghost use Rattle.sets.specs.Items.{seenItem, pairItem, itemHalves, seenAs, writtenHalves, sameHalves};
+ghost use Rattle.sets.specs.Items.{sameByWords};
+ghost use Rattle.sets.specs.declared.item.View.the-variants.{Plain};
 ghost use Rattle.sets.specs.Items.{pastMember};
 ghost use Rattle.sets.specs.Standing.{CanPass, CanCompare, CanSee};
 
@@ -72,7 +75,7 @@ pub fn pair_item(f: usize, b: usize) -> FormedMember
     }
 }
 
-// Whether the written member at `at` is the item: its antecedent as antecedents are compared, its consequent by words.
+// Whether the written member at `at` is the item: its antecedent by plain forms, its consequent by words.
 // Consequents first: more members of a set differ in them.
 pub fn same_item(w: &[u32], ends: &[u32], at: usize, item: FormedMember) -> bool
     requires { ⌜ CanCompare (now w) (now ends) «at» item ⌝ }
@@ -98,7 +101,20 @@ pub fn same_pair(w: &[u32], ends: &[u32], at: usize, f: usize, b: usize) -> bool
     if !same_consequents(w, ends, middle, b) {
         return false;
     }
-    same_antecedents(w, ends, at, f)
+    same_booleans(w, ends, at, f)
+}
+
+// Whether the written members at `at` and a are the same by words, antecedents too (rule 17's "without").
+pub fn same_words(w: &[u32], ends: &[u32], at: usize, a: usize) -> bool
+    requires { ⌜ CanSee (now w) (now ends) «at» a Plain ⌝ }
+    ensures { λ r. ⌜ r ≡ sameByWords (writtenHalves (now (w .entry)) (now (ends .entry)) «at»)
+        (writtenHalves (now (w .entry)) (now (ends .entry)) a) ⌝ }
+{
+    let middle = end_at(ends, at);
+    if !same_consequents(w, ends, middle, end_at(ends, a)) {
+        return false;
+    }
+    same_parts(w, ends, at, a)
 }
 
 // Whether the written member at `at` is the one at a, seen as the view says. Each view has its own call, so that the

@@ -3,12 +3,14 @@ use crate::item::View;
 use crate::item::past_member;
 use crate::item::same_item;
 use crate::item::same_seen;
+use crate::item::same_words;
 use crate::item::seen_item;
 ghost use mathlib.Core.Path.{_≡_};
-ghost use mathlib.Core.Bool.{_||_};
-ghost use Rattle.sets.specs.Items.{itemHalves, writtenHalves};
-ghost use Rattle.sets.specs.Lists.{seenAll, written, standsIn, withinAll, withoutAll};
-ghost use Rattle.sets.specs.Standing.{CanFind, CanLook, CanHold, CanEither, CanRest};
+ghost use mathlib.Core.Bool.{not, _&&_, _||_};
+ghost use Rattle.sets.specs.Items.{itemHalves, writtenHalves, sameHalves};
+ghost use Rattle.sets.specs.Lists.{seenAll, written, standsIn, withinAll, listedIn, withoutAll};
+ghost use Rattle.sets.specs.Standing.{CanFind, CanLook, CanHold, CanEither, CanRest, CanLeave};
+ghost use Rattle.sets.specs.declared.item.View.the-variants.{Plain};
 
 // Whether the item is one of the k written members at `at`.
 pub fn has_item(w: &[u32], ends: &[u32], k: usize, at: usize, item: FormedMember) -> bool
@@ -73,7 +75,25 @@ pub fn seen_in(
     true
 }
 
-// Whether the written member at x stands among the k members at `at`, or among the l members at `leave`.
+// Whether the written member at x is, by words, one of the l members at `leave` (rule 17's "without").
+fn is_listed(w: &[u32], ends: &[u32], x: usize, l: usize, leave: usize) -> bool
+    requires { ⌜ CanLook (now w) (now ends) x l leave Plain ⌝ }
+    ensures { λ r. ⌜ r ≡ listedIn (writtenHalves (now (w .entry)) (now (ends .entry)) x)
+        (written (now (w .entry)) (now (ends .entry)) l leave) ⌝ }
+{
+    let mut n = l;
+    let mut i = leave;
+    while 0 < n {
+        if same_words(w, ends, x, i) {
+            return true;
+        }
+        i = past_member(ends, i);
+        n -= 1;
+    }
+    false
+}
+
+// Whether the written member at x stands among the k members at `at`, or is listed among the l members at `leave`.
 fn has_either(
     w: &[u32],
     ends: &[u32],
@@ -86,17 +106,18 @@ fn has_either(
     requires { ⌜ CanEither (now w) (now ends) x l leave k «at» ⌝ }
     ensures { λ r. ⌜ r ≡ (standsIn (writtenHalves (now (w .entry)) (now (ends .entry)) x)
         (written (now (w .entry)) (now (ends .entry)) k «at»)
-        || standsIn (writtenHalves (now (w .entry)) (now (ends .entry)) x)
+        || listedIn (writtenHalves (now (w .entry)) (now (ends .entry)) x)
         (written (now (w .entry)) (now (ends .entry)) l leave)) ⌝ }
 {
     let item = seen_item(ends, x, View::Plain);
     if has_item(w, ends, k, at, item) {
         return true;
     }
-    has_item(w, ends, l, leave, item)
+    is_listed(w, ends, x, l, leave)
 }
 
-// The same for the j members at `from` without those that stand among the l members at `leave`.
+// Whether each of the j members at `from`, without those that are listed among the l members at `leave`, is one of the k written
+// members at `at`.
 pub fn rest_in(
     w: &[u32],
     ends: &[u32],
@@ -124,7 +145,22 @@ pub fn rest_in(
     true
 }
 
-// Whether the written member at x stands among the k members at `at` without those that stand among the l members at `leave`.
+// Whether the written member at x is the one at a, and that one is not listed among the l members at `leave`.
+fn is_left(w: &[u32], ends: &[u32], x: usize, a: usize, l: usize, leave: usize) -> bool
+    requires { ⌜ CanLeave (now w) (now ends) x a l leave ⌝ }
+    ensures { λ r. ⌜ r ≡ (sameHalves (writtenHalves (now (w .entry)) (now (ends .entry)) x)
+        (writtenHalves (now (w .entry)) (now (ends .entry)) a)
+        && not (listedIn (writtenHalves (now (w .entry)) (now (ends .entry)) a)
+        (written (now (w .entry)) (now (ends .entry)) l leave))) ⌝ }
+{
+    if !same_seen(w, ends, x, a, View::Plain) {
+        return false;
+    }
+    !is_listed(w, ends, a, l, leave)
+}
+
+// Whether the written member at x stands among the k members at `at` without those that are listed among the l members at `leave`.
+// A member that is listed may have the same plain form as one that is not.
 pub fn in_rest(
     w: &[u32],
     ends: &[u32],
@@ -138,12 +174,14 @@ pub fn in_rest(
     ensures { λ r. ⌜ r ≡ standsIn (writtenHalves (now (w .entry)) (now (ends .entry)) x)
         (withoutAll (written (now (w .entry)) (now (ends .entry)) k «at») (written (now (w .entry)) (now (ends .entry)) l leave)) ⌝ }
 {
-    let item = seen_item(ends, x, View::Plain);
-    if !has_item(w, ends, k, at, item) {
-        return false;
+    let mut n = k;
+    let mut i = at;
+    while 0 < n {
+        if is_left(w, ends, x, i, l, leave) {
+            return true;
+        }
+        i = past_member(ends, i);
+        n -= 1;
     }
-    if has_item(w, ends, l, leave, item) {
-        return false;
-    }
-    true
+    false
 }

@@ -9,4 +9,4 @@ is-join-spec =
     tie.close
     (tie.spec
     (λ c κs. can-join (c .before .before .pre))
-    (λ c. join-at (c .same-formed .ensures)))
+    (λ c. join-at (c .same-antecedent .ensures)))

@@ -9,4 +9,4 @@ is-split-spec =
     tie.close
     (tie.spec
     (λ c κs. can-split (c .before .before .pre))
-    (λ c. split-at (c .same-formed .ensures)))
+    (λ c. split-at (c .same-antecedent .ensures)))

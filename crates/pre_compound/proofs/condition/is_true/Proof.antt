@@ -9,4 +9,4 @@ is-true-spec =
     tie.close
     (tie.spec
     (λ c κs. can-true (c .before .before .pre))
-    (λ c. true-at (c .same-formed .ensures)))
+    (λ c. true-at (c .same-antecedent .ensures)))

@@ -2,7 +2,7 @@
 -- Assumes nothing.
 use native.Mathlib.Omega.{arith}
 use borrow.Author.Needs.{needs}
-use Rattle.pre_compound.proofs.Goal.{command-head, first-known, second-known}
+use Rattle.pre_compound.proofs.Goal.{command-head, first-boolean, second-boolean}
 use Rattle.pre_rules.proofs.Commands.{skip-fails, skip-rule}
 use Rattle.pre_rules.proofs.command.rule_22.Statement.{statement}
 use Rattle.pre_rules.proofs.command.rule_22.Tie as tie
@@ -14,11 +14,9 @@ rule-22-spec =
     (λ c. let i = command-head (c .before .before .pre) in omega arith)
     (λ c. command-head (c .before .before .before .pre))
     (λ c. skip-fails (c .before .before .before .before .pre) (c .if1 .taken))
-    (λ c κs. record {
-      first = first-known (c .before .before .before .before .pre);
-      second = second-known
-          (c .before .before .before .before .pre);
-    })
+    (λ c κs.
+    let p = c .before .before .before .before .pre in
+    record { ends-of = p .can .ends-of; first = first-boolean p; second = second-boolean p })
     (λ c κs. search needs)
     (λ c. let c₁ = c .before in let c₂ = c₁ .before in let c₆ = c₂ .before .before .before .before in
     skip-rule (c₆ .pre) (c₂ .if1 .left) (c₁ .is-same-assertion .ensures) (c .condition .ensures)))

@@ -2,7 +2,7 @@
 -- Assumes nothing.
 use borrow.Author.Needs.{needs}
 use borrow.Author.Tests.{not-true, not-false}
-use Rattle.pre_compound.proofs.Goal.{first-known, second-known, command-known}
+use Rattle.pre_compound.proofs.Goal.{first-boolean, second-boolean, first-known, command-known}
 use Rattle.pre_rules.proofs.Modifies.{differs-fails, kept-rule}
 use Rattle.pre_rules.proofs.unmodified.rule_27.Statement.{statement}
 use Rattle.pre_rules.proofs.unmodified.rule_27.Tie as tie
@@ -11,10 +11,9 @@ pub rule-27-spec : {M : Type 1} → statement M
 rule-27-spec =
     tie.close
     (tie.spec
-    (λ c κs. record {
-      first = first-known (c .before .before .pre);
-      second = second-known (c .before .before .pre);
-    })
+    (λ c κs.
+    let p = c .before .before .pre in
+    record { ends-of = p .can .ends-of; first = first-boolean p; second = second-boolean p })
     (λ c. differs-fails (c .before .before .before .before .pre) (c .before .is-same-assertion .ensures) (not-true _
     (c .if1 .taken)))
     (λ c κs. let c₄ = c .before .before .before .before in

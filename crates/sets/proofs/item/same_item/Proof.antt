@@ -22,7 +22,7 @@ same-item-spec =
     item-not _ _ _ _ _ (s .before .end-at .ensures) (s .same-consequent .ensures) (not-true _ (c .if1 .taken)))
     (λ c κs.
     let p = c .before .before .before .before .before .pre in
-    record { whole = any-known (p .ends-of) (antecedent-any (p .member)); form-at = p .item-at .antecedent-at })
+    record { ends-of = p .ends-of; whole = p .member .antecedent; form-at = p .item-at .antecedent-at })
     (λ c.
     let s = c .before .before in
     item-so _ _ _ _ _ (s .before .end-at .ensures) (s .same-consequent .ensures) (not-false _ (c .before .if1 .left))

@@ -2,7 +2,8 @@
 -- Assumes nothing.
 use mathlib.Core.Path.{refl}
 use borrow.Author.Tests.{not-true, not-false}
-use Rattle.compare.proofs.Forms.{of-written, of-plain, antecedent-written, consequent-written}
+use Rattle.compare.proofs.Forms.{of-plain, consequent-written}
+use Rattle.compare.proofs.Formed.{of-written, two-written, by-written}
 use Rattle.sets.proofs.Members.{antecedent-any, consequent-any, any-known}
 use Rattle.sets.proofs.Items.{item-not, item-so}
 use Rattle.sets.proofs.item.same_pair.Statement.{statement}
@@ -25,7 +26,7 @@ same-pair-spec =
     (s .same-consequents .ensures)) (not-true _ (c .if1 .taken)))
     (λ c κs.
     let p = c .before .before .before .before .before .pre in
-    (any-known (p .ends-of) (antecedent-any (p .member)), of-written (p .item-at .antecedent-at) refl))
+    two-written (p .ends-of) (p .member .antecedent) (of-written (p .item-at .antecedent-at) refl))
     (λ c.
     let s = c .before .before in
     let ended = s .before in
@@ -33,4 +34,4 @@ same-pair-spec =
     item-so _ _ _ _ _ (ended .end-at .ensures)
     (consequent-written _ _ _ (any-known (p .ends-of) (consequent-any (p .member) (ended .end-at .ensures))) _ _ refl
     (s .same-consequents .ensures)) (not-false _ (c .before .if1 .left))
-    (antecedent-written _ _ _ (any-known (p .ends-of) (antecedent-any (p .member))) _ _ refl (c .same-antecedents .ensures))))
+    (by-written _ _ _ _ refl (c .same-booleans .ensures))))

@@ -1,7 +1,7 @@
 -- `sets::member::has_either` meets its contract.
 -- Assumes nothing.
 use Rattle.sets.proofs.Members.{member-pass}
-use Rattle.sets.proofs.Items.{plain-at}
+use Rattle.sets.proofs.Items.{plain-at, as-they-stand}
 use Rattle.sets.proofs.Loops.{has-as, either-first, either-second}
 use Rattle.sets.proofs.member.has_either.Statement.{statement}
 use Rattle.sets.proofs.member.has_either.Tie as tie
@@ -18,11 +18,10 @@ has-either-spec =
     let first = c .before in
     either-first _ _ _ _ _ (has-as _ _ (first .before .seen-item .ensures) _ (first .has-item .ensures)) (c .if1 .taken))
     (λ c κs.
-    let item = c .before .before in
-    let p = item .before .before .before .pre in
-    record { ends-of = p .ends-of; members = p .listed; item-at = plain-at (p .ends-of) (item .seen-item .ensures) (p .member) })
+    let p = c .before .before .before .before .before .pre in
+    record { ends-of = p .ends-of; member = p .member; members = p .listed; view-at = as-they-stand _ _ })
     (λ c.
     let first = c .before .before in
     let item = first .before in
     either-second _ _ _ _ _ (has-as _ _ (item .seen-item .ensures) _ (first .has-item .ensures)) (c .before .if1 .left)
-    (has-as _ _ (item .seen-item .ensures) _ (c .has-item2 .ensures))))
+    (c .is-listed .ensures)))
