@@ -1,13 +1,15 @@
 -- Booleans compared with those that the rules form: φ ∧ B, φ ∧ ¬B, ¬B and (φ1 ∧ B) ∨ (φ2 ∧ ¬B).
 -- Assumes nothing.
---     two-written, can-true, with-and, with-and-not       what the functions ask for
+--     two-written, two-replaced, can-true, with-and, with-and-not, with-split
+--                                                         what the functions ask for
 --     of-written .. of-replaced                           what a form names stands there
 --     and-first, and-second                               a side is true
---     and-left, and-right, and-other, and-no, and-on      no side is: the operands of an and; what is answered
+--     and-left, and-right, and-other, and-no, and-on, not-true-not
+--                                                         no side is: the operands of an and; what is answered; ¬B is never true
 --     not-operand, not-other, not-on                      of a not
 --     or-left, or-right, or-other, or-no, or-on           of an or
---     by-written .. by-true                               by form
-use mathlib.Core.Path.{_≡_, refl, sym, ap, ap₂, subst, _∙_}
+--     by-written .. by-true, unchanged                    by form; with nothing put for an identifier
+use mathlib.Core.Path.{_≡_, refl, sym, ap, subst, _∙_}
 use mathlib.Core.Bool.{Bool, true, false}
 use mathlib.Core.List.{List}
 use Prim.Native.Nat.{ℕ, _+_}
@@ -27,8 +29,9 @@ use Rattle.compare.specs.declared.plain.Change.the-variants.{Unchanged, 
 use Rattle.compare.specs.declared.antecedent.Antecedent.{Antecedent}
 use Rattle.compare.specs.declared.antecedent.Antecedent.the-variants.{Written, And, AndNot, Split, Replaced, True}
 use Rattle.compare.specs.Plain.{PlainFrom}
-use Rattle.compare.proofs.PlainForms.{top, and-parts, or-parts, not-part, top-other, two-no, two-on, one-on, and-inj}
-use Rattle.compare.proofs.PlainForms.{or-inj, antecedent-by, told-true, told-other, and-left-true, and-right-true, and-neither}
+use Rattle.compare.proofs.PlainForms.{and-parts, or-parts, not-part, top-other, two-no, two-on, one-on}
+use Rattle.compare.proofs.PlainTests.{top, and-inj}
+use Rattle.compare.proofs.PlainTests.{or-inj, antecedent-by, told-true, told-other, and-left-true, and-right-true, and-neither}
 
 abbrev BooleanAt : List ℕ → List ℕ → ℕ → Type 0
 BooleanAt file ends f = ExpressionAt file ends Boolean f
@@ -117,7 +120,8 @@ module _ {file ends : List ℕ} (o : EndsOf file ends) where
   unfolding AntecedentAt
   with-and-not x y z = record { ends-of = o; whole = x; form-at = (y, z) }
 
-  pub with-split : {f p q b : ℕ} → BooleanAt file ends f → BooleanAt file ends p × BooleanAt file ends q × BooleanAt file ends b → CanAntecedent file ends f (Split p q b)
+  pub with-split : {f p q b : ℕ} → BooleanAt file ends f → BooleanAt file ends p × BooleanAt file ends q × BooleanAt file ends b →
+      CanAntecedent file ends f (Split p q b)
   unfolding AntecedentAt
   with-split x y = record { ends-of = o; whole = x; form-at = y }
 

@@ -1,7 +1,7 @@
 -- What the tests of parts and of consequents answer, and what a form names.
 -- Assumes nothing.
 --     part-matched                                       a cursor after a part, by its end in the list
---     of-plain, of-exchanged                             what a form of a consequent names stands there
+--     of-verbatim, of-exchanged                             what a form of a consequent names stands there
 --     came-to, consequent-written, consequent-replaced   what the tests answer
 use mathlib.Core.Path.{_≡_, _∙_}
 use mathlib.Core.Bool.{Bool, true}
@@ -15,7 +15,7 @@ use Rattle.compare.specs.Forms.{part, consequentNumbers, ConsequentAt}
 use Rattle.compare.specs.declared.cursor.Match.{Match}
 use Rattle.compare.specs.declared.cursor.Put.{Put}
 use Rattle.compare.specs.declared.consequent.Consequent.{Consequent}
-use Rattle.compare.specs.declared.consequent.Consequent.the-variants.{Written as Plain, Replaced as Exchanged}
+use Rattle.compare.specs.declared.consequent.Consequent.the-variants.{Written as Verbatim, Replaced as Exchanged}
 use Rattle.compare.proofs.Whole.{cursor}
 use Rattle.compare.proofs.SameNumbers.{came-same}
 
@@ -27,9 +27,9 @@ module _ (file ends : List ℕ) (m : Match) where
 -- what a form names stands there
 module _ {file ends : List ℕ} where
   module _ {form : Consequent} (p : ConsequentAt file ends form) where
-    pub of-plain : {a : ℕ} → form ≡ Plain a → PartKnown file ends a
+    pub of-verbatim : {a : ℕ} → form ≡ Verbatim a → PartKnown file ends a
     unfolding ConsequentAt
-    of-plain e = rw e at p
+    of-verbatim e = rw e at p
 
     pub of-exchanged : {a : ℕ} {put : Put} → form ≡ Exchanged a put → CanMatchAny file ends a put
     unfolding ConsequentAt
@@ -43,7 +43,7 @@ module _ (file ends : List ℕ) (at : ℕ) (p : PartKnown file ends at) {r : Boo
       let s = p .start in
       h ∙ came-same file m l at (endAt ends at) (omega arith) (p .inside) e
 
-  pub consequent-written : (form : Consequent) (a : ℕ) → form ≡ Plain a →
+  pub consequent-written : (form : Consequent) (a : ℕ) → form ≡ Verbatim a →
       r ≡ sameNumbers (part file ends at) (part file ends a) →
       r ≡ sameNumbers (part file ends at) (consequentNumbers file ends form)
   unfolding consequentNumbers

@@ -4,7 +4,7 @@
 --     is-written, is-and, is-and-not, is-split, is-replaced, is-true
 --                                                by form
 --     ConsequentIs, consequent-same              the same of consequents: `sameConsequent`
---     is-plain, is-exchanged                     by form
+--     is-verbatim, is-exchanged                     by form
 use mathlib.Core.Path.{_≡_, refl, sym, ap, ap₂, _∙_}
 use mathlib.Core.Bool.{true}
 use mathlib.Core.List.{List}
@@ -22,7 +22,7 @@ use Rattle.compare.specs.declared.cursor.Put.{Put}
 use Rattle.compare.specs.declared.antecedent.Antecedent.{Antecedent}
 use Rattle.compare.specs.declared.antecedent.Antecedent.the-variants.{Written, And, AndNot, Split, Replaced, True}
 use Rattle.compare.specs.declared.consequent.Consequent.{Consequent}
-use Rattle.compare.specs.declared.consequent.Consequent.the-variants.{Written as Plain, Replaced as Exchanged}
+use Rattle.compare.specs.declared.consequent.Consequent.the-variants.{Written as Verbatim, Replaced as Exchanged}
 use Rattle.compare.proofs.Numbers.{numbers-tell}
 use Rattle.compare.proofs.Replaced.{Replaces, replaces}
 use Rattle.compare.proofs.SameNumbers.{numbers-same}
@@ -64,9 +64,9 @@ module _ {file ends : List ℕ} where
   unfolding antecedentTree changed
   is-replaced s x = record { tree-is = ap₂ (λ φ a. replace φ (replacement a)) (tree-is x) (put-is s) }
 
-  pub is-plain : {k : Sort} {e : Expr k} {a : ℕ} → WrittenAt file ends e a → ConsequentIs file ends (Plain a) e
+  pub is-verbatim : {k : Sort} {e : Expr k} {a : ℕ} → WrittenAt file ends e a → ConsequentIs file ends (Verbatim a) e
   unfolding consequentNumbers
-  is-plain x = record { numbers-are = part-is x; fits = in-range x }
+  is-verbatim x = record { numbers-are = part-is x; fits = in-range x }
 
   pub is-exchanged : {put : Put} {s : Replacement} → Replaces file put s → {k : Sort} {e : Expr k} {a : ℕ} →
       WrittenAt file ends e a → ConsequentIs file ends (Exchanged a put) (replace e s)

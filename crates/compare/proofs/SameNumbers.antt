@@ -22,11 +22,12 @@ use Rattle.compare.specs.EqualWords.{EqualCount}
 use Rattle.ends.specs.Places.{endAt, PartKnown}
 use Rattle.compare.specs.Forms.{part}
 use Rattle.compare.specs.declared.cursor.Match.{Match}
-use Rattle.compare.proofs.Ranges.{between-none, between-first, between-last, between-length}
+use Rattle.compare.proofs.Ranges.{between-last, between-length}
 use Rattle.compare.proofs.EqualWords.{equal-matched}
 use Rattle.compare.proofs.Whole.{cursor, whole-past, whole-sound, whole-complete}
 
 -- a test of what does not hold
+
 pub decides-false : (b : Bool) {P : Type 0} → Decides b P → (P → ⊥) → false ≡ b
 decides-false b d f = decides-same false b (decides-no f) d
 

@@ -4,22 +4,25 @@
 --     true-test                                as the first other word tells
 --     of-and-word, of-other-word, is-neither, is-either
 --                                              the test of a word
---     Scanning, scanning-start, scanning-on    the words so far are and or true
+--     Scanning, scanning-start, scanning-on, scanning-stop, scanning-end, other-until
+--                                              the words so far are and or true
 --     Descends, descends-start                 the boolean there has the plain form, and what is dropped lies before it
 --     AndAt, and-at                            an and, and its operands
+--     place-inside, second-boolean, second-further, first-listed
+--                                              the places that a turn looks at
 --     left-dropped, right-dropped, and-settled, other-settled
 --                                              a turn of the search; its end
-use mathlib.Core.Path.{_≡_, refl, sym, ap, ap₂, subst, _∙_}
+--     boolean-inside, from-other               a boolean that is no and
+use mathlib.Core.Path.{_≡_, refl, sym, ap, subst, _∙_}
 use mathlib.Core.Bool.{Bool, true, false, not, _&&_, _||_, cond, false≢true, true≢false}
 use mathlib.Core.List.{List}
-use mathlib.Core.Logic.{_⊎_, inl, inr}
+use mathlib.Core.Logic.{inl, inr}
 use Prim.Native.Nat.{ℕ, _+_, _<_, _≤_}
 use native.Mathlib.Omega.{arith}
 use borrow.Author.Tests.{eqb-true, eq-eqb, ne-eqb}
 use lib.Dec.{eqb}
 use lib.ListN.{length, getD}
 use Rattle.laws.proofs.Bools.{and-left, and-right, and-both, or-second}
-use Rattle.laws.proofs.Decides.{Decides}
 use Rattle.language.specs.Syntax.{Boolean, Expr, compare, truth, and, or, neg}
 use Rattle.rules.specs.Plain.{isTrue, plainAnd, plain}
 use Rattle.rules.specs.Tests.{sameAntecedent}
@@ -31,11 +34,12 @@ use Rattle.ends.proofs.Sizes.{lt-or-le}
 use Rattle.ends.proofs.Places.{parts-at, node-head, node-inside}
 use Rattle.compare.specs.Places.{ExpressionAt}
 use Rattle.compare.specs.Trees.{booleanAt}
-use Rattle.compare.specs.Plain.{AndOrTrue, FirstOther, Settled, PlainFrom, CanStart, StartOf}
+use Rattle.compare.specs.Plain.{AndOrTrue, FirstOther, Settled, PlainFrom, StartOf}
 use Rattle.compare.proofs.Trees.{tree-is, tree-at}
-use Rattle.compare.proofs.PlainForms.{plain-answer, told-true, told-other, and-left-true, and-right-true}
+use Rattle.compare.proofs.PlainTests.{plain-answer, told-true, told-other, and-left-true, and-right-true}
 
 -- ---- words
+
 true-and : (b c : Expr Boolean) → isTrue (plainAnd b c) ≡ (isTrue b && isTrue c)
 true-and b c = go (isTrue b) (isTrue c) refl refl
   where
@@ -234,6 +238,7 @@ module _ {file ends : List ℕ} (o : EndsOf file ends) where
       other-settled h = record {
         from = record {
           further = d .further;
+          inside = d .inside;
           tree = d .tree;
           there = d .there;
           same = d .same;
@@ -316,6 +321,7 @@ module _ {file ends : List ℕ} (o : EndsOf file ends) where
           and-settled i = record {
             from = record {
               further = d .further;
+              inside = d .inside;
               tree = and (operands .left) (operands .right);
               there = subst (λ t. WrittenAt file ends t s) (operands .is) (d .there);
               same = ap plain (sym (operands .is)) ∙ d .same;
@@ -339,6 +345,7 @@ module _ {file ends : List ℕ} (o : EndsOf file ends) where
   pub from-other : {f : ℕ} → ExpressionAt file ends Boolean f → (getD file f 0 ≡ wordOf 10 0 → ⊥) → PlainFrom file ends f f
   from-other {f} x h = record {
     further = omega arith;
+    inside = omega arith;
     tree = booleanAt file f;
     there = tree-at x;
     same = refl;

@@ -2,16 +2,15 @@
 -- Assumes nothing.
 --     tree-is, tree-at            an expression; as the one that is read
 --     part-is, in-range           its numbers; its words are in range
---     put-is, put-replaces        what is put for an identifier: the assignment; in numbers
+--     put-is, put-inside, put-replaces
+--                                 what is put for an identifier: the assignment; in the file; in numbers
 use mathlib.Core.Path.{_≡_, sym, ap, ap₂, subst, _∙_}
-use mathlib.Core.Bool.{true, false, cond}
 use mathlib.Core.List.{List}
-use Prim.Native.Nat.{ℕ, _*_, _+_, _/_, _%_, _≤_}
+use Prim.Native.Nat.{ℕ, _/_, _%_, _≤_}
 use native.Mathlib.Omega.{arith}
 use borrow.Author.Tests.{eq-eqb, ne-eqb}
-use lib.Dec.{eqb}
 use lib.ListN.{length}
-use Rattle.language.specs.Syntax.{Sort, Arithmetic, Array, Expr, Assignment, toScalar, toArray}
+use Rattle.language.specs.Syntax.{Sort, Expr, Assignment, toScalar, toArray}
 use Rattle.rules.specs.Words.{words}
 use Rattle.rules.specs.Replace.{replacement}
 use Rattle.layout.specs.Bytes.{payloads}

@@ -25,7 +25,7 @@ use Rattle.compare.specs.declared.plain.Change.the-variants.{Replaced as
 use Rattle.compare.specs.declared.antecedent.Antecedent.{Antecedent}
 use Rattle.compare.specs.declared.antecedent.Antecedent.the-variants.{Written, And, AndNot, Split, Replaced, True}
 use Rattle.compare.specs.declared.consequent.Consequent.{Consequent}
-use Rattle.compare.specs.declared.consequent.Consequent.the-variants.{Written as Plain, Replaced as Exchanged}
+use Rattle.compare.specs.declared.consequent.Consequent.the-variants.{Written as Verbatim, Replaced as Exchanged}
 
 module _ (file : List ℕ) where
   unfoldable pub antecedentTree : Antecedent → Expr Boolean
@@ -42,7 +42,7 @@ module _ (file ends : List ℕ) where
   part at = between file at (endAt ends at)
 
   unfoldable pub consequentNumbers : Consequent → List ℕ
-  consequentNumbers (Plain a) = part a
+  consequentNumbers (Verbatim a) = part a
   consequentNumbers (Exchanged a put) = exchanged file put (part a)
 
   abbrev BooleanAt : ℕ → Type 0
@@ -57,7 +57,7 @@ module _ (file ends : List ℕ) where
   AntecedentAt True = Unit {0}
 
   unfoldable pub ConsequentAt : Consequent → Type 0
-  ConsequentAt (Plain a) = PartKnown file ends a
+  ConsequentAt (Verbatim a) = PartKnown file ends a
   ConsequentAt (Exchanged a put) = CanMatchAny file ends a put
 
   -- two booleans, the second with what is put for an identifier

@@ -1,4 +1,4 @@
--- Numbers matched along a file from a place on, also with others in the place of a word (document 01 compares by words).
+-- Numbers matched along a file from a place on, also with others in the place of a word (consequents, and comparisons in antecedents, are compared by words).
 -- Working: `whole-sound` and `whole-complete` of proofs/Whole say which numbers a cursor passes, `numbers-tell` of
 -- proofs/Numbers that numbers tell their words, `replaces` of proofs/Replaced that the exchanged numbers of an
 -- expression are those of the replaced one, `sameNumbers-decides` of proofs/SameNumbers that the test decides equality.

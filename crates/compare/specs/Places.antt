@@ -1,6 +1,6 @@
 -- What the functions that walk an expression ask for and promise.
--- Working: `written-any` of proofs/Operands says that a written expression stands so; `replaced-at` of pre_compound/proofs/Assertions
--- ties what is matched to the rules' `replace`. Assumes nothing.
+-- Working: `written-any` of proofs/Operands says that a written expression stands so; `is-exchanged` of proofs/Halves and
+-- `replaced-words` of proofs/PlainForms tie what is matched to the rules' `replace`. Assumes nothing.
 --     ExpressionAt, AnyAt, Chained    an expression of a sort; one of any sort; so many of them, one after the other
 --     CanMatch, CanMatchAny           what the functions ask for
 --     Matched                         what they promise: the cursor after its numbers, with others in the place of a word

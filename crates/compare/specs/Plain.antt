@@ -1,6 +1,6 @@
 -- Where the plain form of a boolean starts (document 02, request [2]): past each side that is true. A boolean's plain form is true
 -- exactly when each of its words is and or true.
--- Working: `true-words` and `words-true` of proofs/Starts say so, `dropped-left`, `dropped-right` and `settled-and` which side is
+-- Working: `true-words` and `words-true` of proofs/Starts say so, `left-dropped`, `right-dropped` and `and-settled` which side is
 -- dropped. Assumes nothing.
 --     AndOrTrue, FirstOther    a word is and or true; the first of some words that is neither
 --     Settled                  a boolean that drops nothing at its first word
@@ -39,8 +39,10 @@ Settled (or b c) = Unit {0}
 Settled (neg b) = Unit {0}
 
 module _ (file ends : List ℕ) where
+  -- of true ∧ true, either word
   pub record PlainFrom (f s : ℕ) : Type 0 where
     pub further : f ≤ s
+    pub inside : endAt ends s ≤ endAt ends f
     pub tree : Expr Boolean
     pub there : WrittenAt file ends tree s
     pub same : plain tree ≡ plain (booleanAt file f)

@@ -1,6 +1,7 @@
 -- The trees that stand at places of a file, and what is put for an identifier.
 -- Working: `tree-is` and `put-is` of proofs/Trees say that these are the trees that are written there. Assumes nothing.
---     treeAt, booleanAt             the expression of a sort that is read at a place; a boolean
+--     anyOf, readTree, treeAt, booleanAt
+--                                   the expression of a sort that is read at a place; a boolean
 --     RightSide, PutStands, HasPut  the word of an identifier, and its right side between two places; some assignment stands so
 --     putAssignment                 the assignment that stands so
 --     changed, ChangeAt             a boolean with what is put for an identifier, if anything; what is put stands there

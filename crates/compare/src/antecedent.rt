@@ -1,9 +1,9 @@
 use crate::cursor::Put;
 use crate::plain::Change;
-use crate::plain::is_true;
-use crate::plain::plain_start;
 use crate::plain::same_booleans;
 use crate::plain::same_booleans_changed;
+use crate::start::is_true;
+use crate::start::plain_start;
 use ends::end_at;
 use words::kinds::AND_WORD;
 use words::kinds::NOT_WORD;

@@ -4,7 +4,7 @@
 --     not-skip, skip-comes                                 rule 1
 --     not-scalar, scalar-comes, not-array, array-comes     rules 3 and 4
 --     not-assert, assert-comes                             rule 5
-use mathlib.Core.Path.{_≡_, refl, ap}
+use mathlib.Core.Path.{_≡_, refl}
 use mathlib.Core.Bool.{Bool}
 use mathlib.Core.List.{List}
 use Prim.Native.Nat.{ℕ, _+_}

@@ -1,4 +1,4 @@
--- The rules' tests of assertions: what each asks for, and what it promises (document 01, rules 20 to 29).
+-- The rules' tests of assertions: what each asks for, and what it promises (document 01, rules 20 to 29; document 02, request [2]).
 -- Working: `split-at`, `join-at`, `replaced-at` and `true-at` of proofs/Assertions, `repeats-first` and `repeats-both`
 -- of proofs/Implications say that the code's answers are those of the rules on trees. Assumes nothing.
 --     CanSplit, SplitAt          rule 20: φ is (φ1 ∧ B) ∨ (φ2 ∧ ¬B)

@@ -22,13 +22,13 @@ use Rattle.compare.specs.Trees.{booleanAt}
 use Rattle.compare.specs.Forms.{part, antecedentTree, consequentNumbers, AntecedentAt, ConsequentAt, CanAntecedent}
 use Rattle.compare.specs.Forms.{CanConsequent}
 use Rattle.compare.specs.declared.antecedent.Antecedent.the-variants.{Written}
-use Rattle.compare.specs.declared.consequent.Consequent.the-variants.{Written as Plain}
+use Rattle.compare.specs.declared.consequent.Consequent.the-variants.{Written as Verbatim}
 use Rattle.compare.specs.declared.cursor.Match.{Match}
 use Rattle.compare.proofs.Matching.{matched-append}
 use Rattle.compare.proofs.Numbers.{stands-between, numbers-append, numbers-tell}
 use Rattle.compare.proofs.Whole.{cursor}
 use Rattle.compare.proofs.SameNumbers.{came-same, numbers-same}
-use Rattle.compare.proofs.Halves.{is-written, antecedent-same, is-plain, consequent-same}
+use Rattle.compare.proofs.Halves.{is-written, antecedent-same, is-verbatim, consequent-same}
 use Rattle.rule_laws.specs.Sameness.{CanSame, CanSameAssertion, SameAssertionAt, SameAt}
 
 -- a cursor after words
@@ -71,10 +71,10 @@ module _ {file ends : List ℕ} where
         SameAssertionAt file ends f g r
     assertion-at h = record { is = λ φ ψ x y. h ∙ antecedent-same x (is-written y) }
 
-    pub can-consequent : CanSame file ends f g → CanConsequent file ends f (Plain g)
+    pub can-consequent : CanSame file ends f g → CanConsequent file ends f (Verbatim g)
     unfolding ConsequentAt
     can-consequent p = record { whole = p .first; form-at = p .second }
 
-    pub consequent-at : {r : Bool} → r ≡ sameNumbers (part file ends f) (consequentNumbers file ends (Plain g)) →
+    pub consequent-at : {r : Bool} → r ≡ sameNumbers (part file ends f) (consequentNumbers file ends (Verbatim g)) →
         SameAt file ends f g r
-    consequent-at h = record { is = λ d e x y. h ∙ consequent-same x (is-plain y) }
+    consequent-at h = record { is = λ d e x y. h ∙ consequent-same x (is-verbatim y) }

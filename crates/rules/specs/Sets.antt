@@ -1,6 +1,6 @@
 -- Sets compared and made (document 01, "Language" and "Rules"; document 02, request [2]).
 -- Trusted. Assumes nothing.
---     Sameness                      which antecedents, and assertions of rules 20 to 30, are the same
+--     Sameness                      which antecedents, and assertions of rules 20 to 32, are the same
 --     SamePlain, SameByWords        those of one plain form, as the rules have it; those of the same words, as before request [2]
 --     SameConsequent                consequents compared
 --     SameMember                    members compared: both

@@ -19,8 +19,8 @@ use Rattle.sets.specs.Lists.{seenAll, withinAll}
 use Rattle.sets.specs.Standing.{ViewAt, CanHold}
 use Rattle.sets.specs.Piles.{countAt, pileNumbers}
 use Rattle.ends.specs.Places.{SetAt}
-use Rattle.sets.specs.Trees.{stands-plain}
-use Rattle.sets.specs.declared.item.View.the-variants.{Plain}
+use Rattle.sets.specs.Trees.{stands-written}
+use Rattle.sets.specs.declared.item.View.the-variants.{AsWritten}
 use Rattle.sets.proofs.Piles.{set-members}
 use Rattle.sets.proofs.Tests.{within-numbers}
 use Rattle.sets.proofs.Trees.{AllShown, set-place, pile-is}
@@ -30,7 +30,7 @@ use Rattle.set_unions.proofs.Goal.{here, leaf-rule}
 
 module _ {file ends : List ℕ} {q p j k : ℕ} (can : CanInclude file ends q p) (h : j ≡ countAt file q)
     (i : k ≡ countAt file p) where
-  pub can-see : CanHold file ends j (q + 1) Plain k (p + 1)
+  pub can-see : CanHold file ends j (q + 1) AsWritten k (p + 1)
   unfolding ViewAt
   can-see = record {
     ends-of = can .ends-of;
@@ -40,13 +40,13 @@ module _ {file ends : List ℕ} {q p j k : ℕ} (can : CanInclude file ends q p)
   }
 
   shown : {Γ : Context} {x : Members} {at n : ℕ} → SetAt file ends Γ x at → n ≡ countAt file at →
-      AllShown file ends (seenAll file ends Plain n (at + 1)) x
+      AllShown file ends (seenAll file ends AsWritten n (at + 1)) x
   unfolding pileNumbers
   shown {x = x} {at} s e =
-      subst (λ n. AllShown file ends (seenAll file ends Plain n (at + 1)) x) (sym e)
-      (pile-is (can .ends-of) (stands-plain s) .shown)
+      subst (λ n. AllShown file ends (seenAll file ends AsWritten n (at + 1)) x) (sym e)
+      (pile-is (can .ends-of) (stands-written s) .shown)
 
-  pub within-at : {r : Bool} → r ≡ withinAll (seenAll file ends Plain j (q + 1)) (seenAll file ends Plain k (p + 1)) →
+  pub within-at : {r : Bool} → r ≡ withinAll (seenAll file ends AsWritten j (q + 1)) (seenAll file ends AsWritten k (p + 1)) →
       WithinAt file ends q p r
   within-at e = record {
     is = λ Γ x y a b.

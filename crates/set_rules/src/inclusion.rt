@@ -16,7 +16,7 @@ fn is_within(w: &[u32], ends: &[u32], q: usize, p: usize) -> bool
 {
     let j = count(w, q);
     let k = count(w, p);
-    seen_in(w, ends, j, q + 1, View::Plain, k, p + 1)
+    seen_in(w, ends, j, q + 1, View::AsWritten, k, p + 1)
 }
 
 // Rule 13. Each of Q stands in P.

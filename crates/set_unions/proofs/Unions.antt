@@ -32,8 +32,8 @@ use Rattle.goals.proofs.Evidence.{Placed}
 use Rattle.goals.proofs.Comes.{comes, two-children, then-passes, then-fails, SetComes, set-rule}
 use Rattle.rule_laws.proofs.Trying.{parts-of, up-to, tested, only-rule}
 use Rattle.sets.specs.Rules.{CanThree, SameUnion}
-use Rattle.sets.specs.Trees.{HasSet, stands-empty, stands-plain, stands-without, CanSameSet, SameSet}
-use Rattle.sets.specs.declared.item.View.the-variants.{Plain}
+use Rattle.sets.specs.Trees.{HasSet, stands-empty, stands-written, stands-without, CanSameSet, SameSet}
+use Rattle.sets.specs.declared.item.View.the-variants.{AsWritten}
 use Rattle.sets.specs.declared.pile.Pile.the-variants.{Empty, Without}
 use Rattle.sets.specs.declared.pile.Pile.the-variants as pile
 use Rattle.sets.specs.declared.pile.Piles.{Piles}
@@ -150,7 +150,7 @@ module _ {file ends : List ℕ} {Γ : Context} {p q at b c : ℕ} where
 
 -- T without S', and S
 abbrev restPiles : ℕ → ℕ → ℕ → Piles
-restPiles t leave s = record { first = Without t leave; second = pile.Set s Plain; third = Empty }
+restPiles t leave s = record { first = Without t leave; second = pile.Set s AsWritten; third = Empty }
 
 module _ {file ends : List ℕ} {p t leave s : ℕ} where
   pub can-rest-same : CanRestUnion file ends p t leave s → CanSameSet file ends p (restPiles t leave s)
@@ -158,14 +158,14 @@ module _ {file ends : List ℕ} {p t leave s : ℕ} where
     ends-of = can .ends-of;
     set = can .set;
     first-pile = record { tree = _; stands = stands-without (can .most .there) (can .left-out .there) };
-    second-pile = record { tree = _; stands = stands-plain (can .added .there) };
+    second-pile = record { tree = _; stands = stands-written (can .added .there) };
     third-pile = record { tree = _; stands = stands-empty };
   }
 
   pub rest-at : {r : Bool} → SameSet file ends p (restPiles t leave s) r → RestAt file ends p t leave s r
   rest-at h = record {
     is = λ l x y z a b c d.
-        h .does l (without x y) z [] a (stands-without b c) (stands-plain d) stands-empty
+        h .does l (without x y) z [] a (stands-without b c) (stands-written d) stands-empty
         ∙ ap (λ v. same l (without x y ++ v)) (append-nil z);
   }
 

@@ -61,7 +61,7 @@ fn is_rest_union(w: &[u32], ends: &[u32], p: usize, t: usize, leave: usize, s: u
 {
     let piles = Piles {
         first: Pile::Without(t, leave),
-        second: Pile::Set(s, View::Plain),
+        second: Pile::Set(s, View::AsWritten),
         third: Pile::Empty,
     };
     same_set(w, ends, p, piles)

@@ -1,6 +1,7 @@
 -- Members in the same order.
 -- Assumes nothing.
 --     aligns-not                                       where the test fails nothing is said
+--     FrontMatches                                     a list is one that matches another, and then the rest
 --     Aligning, aligning-start, aligning-on, aligning-end
 --                                                      the members of a seen set, one by one
 --     one-aligned, of-pile-empty .. of-pile-set        one member; by pile
@@ -20,7 +21,7 @@ use Rattle.sets.specs.Standing.{MemberAt, MembersAt}
 use Rattle.sets.specs.Piles.{countAt, writtenSet, pileNumbers, pilesNumbers}
 use Rattle.sets.specs.Aligned.{Matches, Parted, Aligns, Aligned}
 use Rattle.sets.specs.declared.item.View.{View}
-use Rattle.sets.specs.declared.item.View.the-variants.{Plain}
+use Rattle.sets.specs.declared.item.View.the-variants.{AsWritten}
 use Rattle.sets.specs.declared.item.FormedMember.{FormedMember}
 use Rattle.sets.specs.declared.pile.Pile.{Pile}
 use Rattle.sets.specs.declared.pile.Pile.the-variants.{Empty, One, Set}
@@ -87,7 +88,7 @@ module _ {file ends : List ℕ} where
         part = members-rest file ends j a a′ (l .part) h g;
         keeps = λ z front q r.
             l .keeps z (writtenHalves file ends i ∷ front)
-            (seenAll-first file ends Plain n i i′ (positive f) e ∙ ap (λ y. writtenHalves file ends i ∷ y) q)
+            (seenAll-first file ends AsWritten n i i′ (positive f) e ∙ ap (λ y. writtenHalves file ends i ∷ y) q)
             (subst (Matches (writtenHalves file ends i ∷ front)) (sym (seenAll-first file ends view j a a′ h g))
             (matches-more _ _ _ _ (sym s ∙ t) r));
       }
@@ -113,7 +114,7 @@ module _ {file ends : List ℕ} where
           members = subst (λ k. MembersAt file ends k (r .at)) (sym g) (members-rest file ends n i (r .at) m (positive f) e′);
           front = writtenHalves file ends i ∷ [];
           split =
-              seenAll-first file ends Plain n i (r .at) (positive f) e′
+              seenAll-first file ends AsWritten n i (r .at) (positive f) e′
               ∙ ap (λ k. writtenHalves file ends i ∷ written file ends k (r .at)) (sym g);
           matches = matches-more _ _ _ _ (sym s ∙ t) matches-none;
         };
@@ -165,7 +166,7 @@ module _ {file ends : List ℕ} where
           let third = c .does f in
           let last =
           third .split
-          ∙ ap (λ l. third .front ++ l) (seenAll-none file ends Plain (z .n) (z .at) (omega arith))
+          ∙ ap (λ l. third .front ++ l) (seenAll-none file ends AsWritten (z .n) (z .at) (omega arith))
           ∙ append-nil (third .front) in
           subst (λ l. Matches l (pilesNumbers file ends piles))
           (sym

@@ -1,9 +1,9 @@
 -- Members as the rules make them, half by half.
 -- Assumes nothing.
---     item-plain, item-under, item-unless, item-replaced    by view
+--     item-written, item-under, item-unless, item-replaced    by view
 --     item-not, item-so                                     a written member compared with an item
 --     words-not, words-so                                   two written members by words
---     seen-at, plain-at, pair-at, certain-at                what an item names stands there
+--     seen-at, written-item, pair-at, certain-at                what an item names stands there
 --     as-they-stand                                         members as they stand
 --     see                                                   a member that is seen can be compared
 use mathlib.Core.Path.{_≡_, sym, ap, ap₂, subst, _∙_}
@@ -18,23 +18,23 @@ use Rattle.rules.specs.Tests.{sameAntecedent}
 use Rattle.compare.specs.Places.{ExpressionAt, AnyAt}
 use Rattle.compare.specs.Trees.{booleanAt}
 use Rattle.compare.proofs.Trees.{tree-at, put-inside}
-use Rattle.compare.proofs.Halves.{is-plain, consequent-same}
+use Rattle.compare.proofs.Halves.{is-verbatim, consequent-same}
 use Rattle.compare.specs.Forms.{part, antecedentTree, consequentNumbers, AntecedentAt, ConsequentAt}
 use Rattle.compare.specs.declared.cursor.Put.{Put}
 use Rattle.compare.specs.declared.antecedent.Antecedent.the-variants.{And, AndNot, Replaced as Changed}
 use Rattle.compare.specs.declared.consequent.Consequent.the-variants.{Written, Replaced as Exchanged}
-use Rattle.sets.specs.Items.{seenItem, pairItem, certainItem, itemHalves, writtenHalves, sameHalves, sameByWords}
+use Rattle.sets.specs.Items.{seenItem, pairItem, certainItem, itemHalves, writtenHalves, sameHalves, sameWrittenHalves}
 use Rattle.sets.specs.Standing.{MemberAt, ViewAt, ItemAt, CanCompare, CanSee}
 use Rattle.sets.specs.declared.item.View.{View}
-use Rattle.sets.specs.declared.item.View.the-variants.{Plain, Under, Unless, Replaced}
+use Rattle.sets.specs.declared.item.View.the-variants.{AsWritten, Under, Unless, Replaced}
 use Rattle.sets.specs.declared.item.FormedMember.{FormedMember}
 use Rattle.sets.proofs.Members.{any-known}
 
 -- by view
 module _ (ends : List ℕ) (a : ℕ) (view : View) (middle : ℕ) (m : middle ≡ endAt ends a) where
-  pub item-plain : view ≡ Plain → pairItem a middle ≡ seenItem ends view a
+  pub item-written : view ≡ AsWritten → pairItem a middle ≡ seenItem ends view a
   unfolding seenItem
-  item-plain e = rw (e, m)
+  item-written e = rw (e, m)
 
   pub item-under : (b : ℕ) → view ≡ Under b →
       _≡_ {A = FormedMember} (record { antecedent = And a b; consequent = Written middle }) (seenItem ends view a)
@@ -73,25 +73,25 @@ module _ (file ends : List ℕ) (at : ℕ) (item : FormedMember) (middle : ℕ) 
 module _ {file ends : List ℕ} {at a middle other : ℕ} (x : MemberAt file ends at) (y : MemberAt file ends a)
     (m : middle ≡ endAt ends at) (n : other ≡ endAt ends a) {b : Bool}
     (e : b ≡ sameNumbers (part file ends middle) (part file ends other)) where
-  words-by : (sameNumbers (part file ends at) (part file ends a) && b) ≡ sameByWords (writtenHalves file ends at) (writtenHalves file ends a)
-  unfolding sameByWords itemHalves seenItem antecedentTree consequentNumbers
+  words-by : (sameNumbers (part file ends at) (part file ends a) && b) ≡ sameWrittenHalves (writtenHalves file ends at) (writtenHalves file ends a)
+  unfolding sameWrittenHalves itemHalves seenItem antecedentTree consequentNumbers
   words-by =
       ap₂ _&&_
-      (consequent-same (tree-at (x .antecedent)) (is-plain (tree-at (y .antecedent))))
+      (consequent-same (tree-at (x .antecedent)) (is-verbatim (tree-at (y .antecedent))))
       (e ∙ ap₂ (λ i j. sameNumbers (part file ends i) (part file ends j)) m n)
 
-  pub words-not : b ≡ false → false ≡ sameByWords (writtenHalves file ends at) (writtenHalves file ends a)
+  pub words-not : b ≡ false → false ≡ sameWrittenHalves (writtenHalves file ends at) (writtenHalves file ends a)
   words-not h = rw (← words-by, h) (sym (and-false (sameNumbers (part file ends at) (part file ends a))))
 
   pub words-so : {r : Bool} → b ≡ true → r ≡ sameNumbers (part file ends at) (part file ends a) →
-      r ≡ sameByWords (writtenHalves file ends at) (writtenHalves file ends a)
+      r ≡ sameWrittenHalves (writtenHalves file ends at) (writtenHalves file ends a)
   words-so h k = rw (← words-by, h) (k ∙ sym (and-true _))
 
 -- what an item names stands there
 module _ {file ends : List ℕ} (o : EndsOf file ends) where
   seen-view : {a : ℕ} (view : View) → MemberAt file ends a → ViewAt file ends view → ItemAt file ends (seenItem ends view a)
   unfolding seenItem ViewAt AntecedentAt ConsequentAt
-  seen-view Plain m v = record { antecedent-at = m .antecedent; consequent-at = any-known o (m .consequent) }
+  seen-view AsWritten m v = record { antecedent-at = m .antecedent; consequent-at = any-known o (m .consequent) }
   seen-view (Under b) m v = record {
     antecedent-at = (m .antecedent, v);
     consequent-at = any-known o (m .consequent);
@@ -109,9 +109,9 @@ module _ {file ends : List ℕ} (o : EndsOf file ends) where
       ViewAt file ends view → ItemAt file ends item
   seen-at view e m v = subst (ItemAt file ends) (sym e) (seen-view view m v)
 
-  pub plain-at : {a : ℕ} {item : FormedMember} → item ≡ seenItem ends Plain a → MemberAt file ends a → ItemAt file ends item
+  pub written-item : {a : ℕ} {item : FormedMember} → item ≡ seenItem ends AsWritten a → MemberAt file ends a → ItemAt file ends item
   unfolding ViewAt
-  plain-at e m = seen-at Plain e m tt
+  written-item e m = seen-at AsWritten e m tt
 
   pub pair-at : {f b : ℕ} {item : FormedMember} → item ≡ pairItem f b → ExpressionAt file ends Boolean f → AnyAt file ends b → ItemAt file ends item
   unfolding AntecedentAt ConsequentAt
@@ -122,7 +122,7 @@ module _ {file ends : List ℕ} (o : EndsOf file ends) where
   unfolding AntecedentAt ConsequentAt
   certain-at y = record { antecedent-at = tt; consequent-at = any-known o y }
 
-pub as-they-stand : (file ends : List ℕ) → ViewAt file ends Plain
+pub as-they-stand : (file ends : List ℕ) → ViewAt file ends AsWritten
 unfolding ViewAt
 as-they-stand file ends = tt
 

@@ -1,13 +1,14 @@
 -- Members passed one by one: a test of a list of members, from the first on.
 -- Assumes nothing.
 --     members-first, members-rest                              of members that stand one after the other
---     seenAll-none, seenAll-first                              of the list of their numbers
+--     seenAll-none, seenAll-first                              of the list of their halves
 --     MembersLeft, left-start, left-stop, left-on, left-end    a test of all is the test of those that are left
 --     stands-found, stands-skip                                an element is looked for
 --     within-stop, within-skip                                 each is looked for in a list
 --     listed-found, listed-skip                                an element is looked for by words
 --     left-found, left-skip, left-not, left-so                 among those that are not listed
 --     rest-stop, rest-skip                                     each that is not listed in another
+--     end-stands .. end-rest                                   none is left
 --     same-as, has-as, item-sym, either-first, either-second
 --                                                              what the functions that compare items say
 use mathlib.Core.Path.{_≡_, refl, sym, ap, subst, _∙_}
@@ -15,7 +16,7 @@ use mathlib.Core.Bool.{Bool, true, false, not, _&&_, _||_, cond}
 use mathlib.Core.List.{List, [], _∷_}
 use Prim.Native.Nat.{ℕ, zero, suc, _-_, _<_, _≤_}
 use native.Mathlib.Omega.{arith}
-use Rattle.sets.specs.Items.{pastMember, Halves, itemHalves, seenAs, writtenHalves, sameHalves, sameByWords}
+use Rattle.sets.specs.Items.{pastMember, Halves, itemHalves, seenAs, writtenHalves, sameHalves, sameWrittenHalves}
 use Rattle.sets.specs.Lists.{seenAll, standsIn, withinAll, listedIn, withoutAll}
 use Rattle.sets.specs.Standing.{MemberAt, MembersAt}
 use Rattle.sets.specs.declared.item.View.{View}
@@ -94,7 +95,7 @@ module _ (x y : Halves) (b : Bool) (e : b ≡ sameHalves x y) where
   stands-skip h z = rw (← e, h)
 
 -- an element is looked for by words
-module _ (x y : Halves) (b : Bool) (e : b ≡ sameByWords x y) where
+module _ (x y : Halves) (b : Bool) (e : b ≡ sameWrittenHalves x y) where
   pub listed-found : b ≡ true → (z : List Halves) → true ≡ listedIn x (y ∷ z)
   unfolding listedIn
   listed-found h z = rw (← e, h)

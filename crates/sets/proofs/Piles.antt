@@ -2,7 +2,7 @@
 -- Assumes nothing.
 --     stands-append, within-append                    of lists joined
 --     pile-one, pile-set, pile-without                what a pile names stands there
---     of-empty, of-one, of-set, of-without            a test of a pile's numbers
+--     of-empty, of-one, of-set, of-without            a test of a pile's halves
 --     any-first, any-second, any-third                an element of three piles
 --     all-first, all-second, all-third                each element of three piles
 use mathlib.Core.Path.{_≡_, refl, sym, ap, subst, _∙_}
@@ -72,7 +72,7 @@ module _ {file ends : List ℕ} where
 abbrev pub heldBy : List Halves → List Halves → Bool
 heldBy p l = withinAll l p
 
--- a test of a pile's numbers, by pile
+-- a test of a pile's halves, by pile
 module _ (file ends : List ℕ) (test : List Halves → Bool) (pile : Pile) where
   pub of-empty : {r : Bool} → pile ≡ Empty → r ≡ test [] → r ≡ test (pileNumbers file ends pile)
   unfolding pileNumbers

@@ -14,17 +14,17 @@ use Rattle.rules.specs.Sets.{under}
 use Rattle.rules.specs.Tests.{stands, same}
 use Rattle.ends.specs.Ends.{EndsOf}
 use Rattle.compare.specs.declared.cursor.Put.{Put}
-use Rattle.compare.proofs.Halves.{is-true, is-plain}
+use Rattle.compare.proofs.Halves.{is-true, is-verbatim}
 use Rattle.sets.specs.Items.{certainItem, itemHalves}
 use Rattle.sets.specs.Lists.{written, standsIn, sameAll}
 use Rattle.sets.specs.Standing.{MembersAt, CanFind}
 use Rattle.sets.specs.Piles.{countAt, writtenSet, pilesNumbers, CanSamePiles}
 use Rattle.sets.specs.Trees.{HasSet, HasPile, CanSameSet, SameSet}
-use Rattle.sets.specs.Trees.{stands-empty, stands-one, stands-plain, stands-under, stands-unless, stands-replaced}
+use Rattle.sets.specs.Trees.{stands-empty, stands-one, stands-written, stands-under, stands-unless, stands-replaced}
 use Rattle.sets.specs.Rules.{CanTwo, SameWritten, CanReplaced, SameReplaced, CanUnder, SameUnder}
 use Rattle.sets.specs.Rules.{CanBranches, SameBranches, CanThree, SameUnion}
 use Rattle.sets.specs.Rules.{CanTest, TestStands}
-use Rattle.sets.specs.declared.item.View.the-variants.{Plain, Under, Unless, Replaced}
+use Rattle.sets.specs.declared.item.View.the-variants.{AsWritten, Under, Unless, Replaced}
 use Rattle.sets.specs.declared.pile.Pile.{Pile}
 use Rattle.sets.specs.declared.pile.Pile.the-variants.{Empty, One, Set}
 use Rattle.sets.specs.declared.pile.Piles.{Piles}
@@ -56,14 +56,14 @@ module _ {file ends : List ℕ} where
   no-pile : HasPile file ends Empty
   no-pile = record { tree = []; stands = stands-empty }
 
-  plain-pile : {q : ℕ} → HasSet file ends q → HasPile file ends (Set q Plain)
-  plain-pile h = record { tree = h .tree; stands = stands-plain (h .there) }
+  written-pile : {q : ℕ} → HasSet file ends q → HasPile file ends (Set q AsWritten)
+  written-pile h = record { tree = h .tree; stands = stands-written (h .there) }
 
-  pub can-written : {p q : ℕ} → CanTwo file ends p q → CanSameSet file ends p (three (Set q Plain) Empty Empty)
+  pub can-written : {p q : ℕ} → CanTwo file ends p q → CanSameSet file ends p (three (Set q AsWritten) Empty Empty)
   can-written c = record {
     ends-of = c .ends-of;
     set = c .first-set;
-    first-pile = plain-pile (c .second-set);
+    first-pile = written-pile (c .second-set);
     second-pile = no-pile;
     third-pile = no-pile;
   }
@@ -98,19 +98,19 @@ module _ {file ends : List ℕ} where
   }
 
   pub can-union : {p s t : ℕ} → CanThree file ends p s t →
-      CanSameSet file ends p (three (Set s Plain) (Set t Plain) Empty)
+      CanSameSet file ends p (three (Set s AsWritten) (Set t AsWritten) Empty)
   can-union c = record {
     ends-of = c .ends-of;
     set = c .first-set;
-    first-pile = plain-pile (c .second-set);
-    second-pile = plain-pile (c .third-set);
+    first-pile = written-pile (c .second-set);
+    second-pile = written-pile (c .third-set);
     third-pile = no-pile;
   }
 
 module _ {file ends : List ℕ} {p : ℕ} {r : Bool} where
-  pub rule-written : {q : ℕ} → SameSet file ends p (three (Set q Plain) Empty Empty) r → SameWritten file ends p q r
+  pub rule-written : {q : ℕ} → SameSet file ends p (three (Set q AsWritten) Empty Empty) r → SameWritten file ends p q r
   rule-written s = record {
-    does = λ x y g h. s .does x y [] [] g (stands-plain h) stands-empty stands-empty ∙ ap (same x) (append-nil y);
+    does = λ x y g h. s .does x y [] [] g (stands-written h) stands-empty stands-empty ∙ ap (same x) (append-nil y);
   }
 
   pub rule-replaced : {q : ℕ} {put : Put} → SameSet file ends p (three (Set q (Replaced put)) Empty Empty) r →
@@ -134,10 +134,10 @@ module _ {file ends : List ℕ} {p : ℕ} {r : Bool} where
         e .does x (under y β) (under z (neg β)) (one φ₀ β) g (stands-under h j) (stands-unless i j) (stands-one k j);
   }
 
-  pub rule-union : {s t : ℕ} → SameSet file ends p (three (Set s Plain) (Set t Plain) Empty) r → SameUnion file ends p s t r
+  pub rule-union : {s t : ℕ} → SameSet file ends p (three (Set s AsWritten) (Set t AsWritten) Empty) r → SameUnion file ends p s t r
   rule-union e = record {
     does = λ x y z g h i.
-        e .does x y z [] g (stands-plain h) (stands-plain i) stands-empty ∙ ap (λ l. same x (y ++ l)) (append-nil z);
+        e .does x y z [] g (stands-written h) (stands-written i) stands-empty ∙ ap (λ l. same x (y ++ l)) (append-nil z);
   }
 
 module _ {file ends : List ℕ} where
@@ -157,7 +157,7 @@ module _ {file ends : List ℕ} where
   rule-test {p} {b} o e h = record {
     does = λ x β g t.
         let a = written-is o g in
-        let c = item-shows {item = certainItem b} is-true (is-plain t) in
+        let c = item-shows {item = certainItem b} is-true (is-verbatim t) in
         h
         ∙ ap₂ standsIn (c .0) (ap (λ n. written file ends n (p + 1)) e ∙ a .numbers-are)
         ∙ sym (stands-numbers (member (truth true) β) x (c .1) (a .fit-all));

@@ -13,7 +13,7 @@ use Rattle.layout.specs.Nodes.{AllInRange}
 use Rattle.compare.specs.Matching.{numbers, sameNumbers}
 use Rattle.compare.proofs.Numbers.{numbers-tell}
 use Rattle.compare.proofs.SameNumbers.{numbers-same}
-use Rattle.sets.specs.Items.{Halves, sameHalves, sameByWords}
+use Rattle.sets.specs.Items.{Halves, sameHalves, sameWrittenHalves}
 use Rattle.sets.specs.Lists.{standsIn, withinAll, sameAll, listedIn, withoutAll}
 
 abbrev pub halvesOf : Member → Halves
@@ -68,7 +68,7 @@ same-numbers p q f g = ap₂ _&&_ (within-numbers p q f g) (within-numbers q p g
 
 pub listed-numbers : (m : Member) (q : Members) → FitsMember m → FitsAll q →
     listed m q ≡ listedIn (halvesOf m) (membersNumbers q)
-unfolding listedIn membersNumbers sameByWords
+unfolding listedIn membersNumbers sameWrittenHalves
 listed-numbers m [] f g = refl
 listed-numbers m (n ∷ q) f g =
     ap₂ (λ b c. (sameWords (words (m .antecedent)) (words (n .antecedent)) && b) || c) (consequent-numbers m n f (g .0))

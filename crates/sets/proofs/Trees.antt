@@ -1,7 +1,7 @@
--- The numbers that are compared are those of the trees that stand there.
+-- The halves that are compared are those of the trees that stand there.
 -- Assumes nothing.
 --     set-count, set-written, set-place      a written set: its count, its members at their places
---     Shows, item-shows, plain-shows .. seen-all
+--     Shows, item-shows, written-shows .. seen-all
 --                                            members as a view shows them
 --     PileIs, pile-is                        a pile is a set that a rule makes
 --     same-trees                             a written set is the same as three piles
@@ -24,16 +24,16 @@ use Rattle.compare.specs.declared.cursor.Put.{Put}
 use Rattle.compare.proofs.Operands.{written-any}
 use Rattle.compare.specs.Trees.{PutStands}
 use Rattle.compare.proofs.Trees.{put-replaces}
-use Rattle.compare.proofs.Halves.{AntecedentIs, is-written, is-and, is-and-not, is-replaced, ConsequentIs, is-plain, is-exchanged}
+use Rattle.compare.proofs.Halves.{AntecedentIs, is-written, is-and, is-and-not, is-replaced, ConsequentIs, is-verbatim, is-exchanged}
 use Rattle.sets.specs.Items.{pastMember, Halves, seenItem, pairItem, itemHalves, seenAs}
 use Rattle.sets.specs.Lists.{seenAll, sameAll, withoutAll}
 use Rattle.sets.specs.Standing.{MemberAt, MembersAt, ViewAt}
 use Rattle.sets.specs.Piles.{countAt, writtenSet, pileNumbers, pilesNumbers, AnySetAt, PileAt}
 use Rattle.sets.specs.Trees.{MemberWritten, MembersWritten, PileStands}
-use Rattle.sets.specs.Trees.{stands-empty, stands-one, stands-plain, stands-under, stands-unless, stands-replaced}
+use Rattle.sets.specs.Trees.{stands-empty, stands-one, stands-written, stands-under, stands-unless, stands-replaced}
 use Rattle.sets.specs.Trees.{stands-without}
 use Rattle.sets.specs.declared.item.View.{View}
-use Rattle.sets.specs.declared.item.View.the-variants.{Plain, Under, Unless, Replaced}
+use Rattle.sets.specs.declared.item.View.the-variants.{AsWritten, Under, Unless, Replaced}
 use Rattle.sets.specs.declared.item.FormedMember.{FormedMember}
 use Rattle.sets.specs.declared.pile.Pile.{Pile}
 use Rattle.sets.specs.declared.pile.Piles.{Piles}
@@ -117,10 +117,10 @@ module _ {file ends : List ℕ} {view : View} {g : Member → Member} (s : Shows
       }
 
 module _ {file ends : List ℕ} where
-  pub plain-shows : Shows file ends Plain (λ m. m)
+  pub written-shows : Shows file ends AsWritten (λ m. m)
   unfolding seenItem
-  plain-shows = record {
-    shows = λ m at x. item-shows (is-written (x .antecedent-at)) (is-plain (x .consequent-at));
+  written-shows = record {
+    shows = λ m at x. item-shows (is-written (x .antecedent-at)) (is-verbatim (x .consequent-at));
   }
 
   module _ {β : Expr Boolean} {b : ℕ} (t : WrittenAt file ends β b) where
@@ -131,14 +131,14 @@ module _ {file ends : List ℕ} where
     unfolding seenItem
     under-shows = record {
       shows = λ m at x.
-          item-shows (is-and (x .antecedent-at) (t)) (is-plain (x .consequent-at));
+          item-shows (is-and (x .antecedent-at) (t)) (is-verbatim (x .consequent-at));
     }
 
     pub unless-shows : Shows file ends (Unless b) (guarded (neg β))
     unfolding seenItem
     unless-shows = record {
       shows = λ m at x.
-          item-shows (is-and-not (x .antecedent-at) (t)) (is-plain (x .consequent-at));
+          item-shows (is-and-not (x .antecedent-at) (t)) (is-verbatim (x .consequent-at));
     }
 
   pub replaced-shows : {put : Put} {a : Assignment} → PutStands file ends put a →
@@ -149,7 +149,7 @@ module _ {file ends : List ℕ} where
         item-shows (is-replaced s (x .antecedent-at)) (is-exchanged (put-replaces s) (x .consequent-at));
   }
 
--- what a pile names stands there, and its members' numbers are those of a set
+-- what a pile names stands there, and its members' halves are those of a set
 pub record PileIs (file ends : List ℕ) (pile : Pile) (x : Members) : Type 0 where
   pub pile-place : PileAt file ends pile
   pub shown : AllShown file ends (pileNumbers file ends pile) x
@@ -172,18 +172,18 @@ module _ {file ends : List ℕ} (ends-of : EndsOf file ends) where
   pub written-is : {Γ : Context} {p : Members} {at : ℕ} → NodeAt file ends (setNode Γ p) at →
       AllShown file ends (writtenSet file ends at) p
   written-is {p = p} {at} s =
-      subst (AllShown file ends (writtenSet file ends at)) (map-same p) (seen-all plain-shows ends-of s)
+      subst (AllShown file ends (writtenSet file ends at)) (map-same p) (seen-all written-shows ends-of s)
 
   pub pile-is : {pile : Pile} {x : Members} → PileStands file ends pile x → PileIs file ends pile x
   unfolding pileNumbers PileAt ViewAt membersNumbers
   pile-is stands-empty = record { pile-place = tt; shown = record { numbers-are = refl; fit-all = tt } }
   pile-is (stands-one a c) =
-      let h = item-shows {item = pairItem _ _} (is-written a) (is-plain c) in
+      let h = item-shows {item = pairItem _ _} (is-written a) (is-verbatim c) in
       record {
         pile-place = (record { tree = _; there = a }, written-any c);
         shown = record { numbers-are = ap (λ l. l ∷ []) (h .0); fit-all = (h .1, tt) };
       }
-  pile-is (stands-plain s) = record { pile-place = (set-place ends-of s, tt); shown = written-is s }
+  pile-is (stands-written s) = record { pile-place = (set-place ends-of s, tt); shown = written-is s }
   pile-is (stands-under {q = q} {β} x c) = record {
     pile-place = (set-place ends-of x, record { tree = _; there = c });
     shown = subst (AllShown file ends _) (map-under q β) (seen-all (under-shows c) ends-of x);

@@ -1,12 +1,13 @@
 -- Members as the rules make them (document 01, "Rules"), in two halves: their antecedents as trees, their
 -- consequents by numbers.
--- Working: `plain-shows`, `under-shows`, `unless-shows` and `replaced-shows` of proofs/Trees say that they are those of
--- the members that the rules name. Assumes nothing.
+-- Working: `written-shows`, `under-shows`, `unless-shows` and `replaced-shows` of proofs/Trees say that they are those of
+-- the members that the rules name, `stands-numbers` and `listed-numbers` of proofs/Tests that the two tests are the rules'. Assumes
+-- nothing.
 --     pastMember                          the place past the member that starts at a place
 --     seenItem, pairItem, certainItem     a member seen as a view says; φ ⇒ E by two places; true ⇒ E
 --     Halves, itemHalves                  an antecedent, and the numbers of a consequent; an item's
 --     seenAs, writtenHalves               those of a member seen as a view says; as it stands
---     sameHalves, sameByWords             antecedents compared by plain forms, consequents by words; both by words (rule 17)
+--     sameHalves, sameWrittenHalves             antecedents compared by plain forms, consequents by words; both by words (rule 17)
 use mathlib.Core.Bool.{Bool, _&&_}
 use mathlib.Core.List.{List}
 use Prim.Native.Nat.{ℕ}
@@ -19,14 +20,14 @@ use Rattle.compare.specs.Forms.{antecedentTree, consequentNumbers}
 use Rattle.compare.specs.declared.antecedent.Antecedent.the-variants.{Written as Alone, And, AndNot, Replaced as Changed, True}
 use Rattle.compare.specs.declared.consequent.Consequent.the-variants.{Written, Replaced as Exchanged}
 use Rattle.sets.specs.declared.item.View.{View}
-use Rattle.sets.specs.declared.item.View.the-variants.{Plain, Under, Unless, Replaced}
+use Rattle.sets.specs.declared.item.View.the-variants.{AsWritten, Under, Unless, Replaced}
 use Rattle.sets.specs.declared.item.FormedMember.{FormedMember}
 
 abbrev pub pastMember : List ℕ → ℕ → ℕ
 pastMember ends at = endAt ends (endAt ends at)
 
 unfoldable pub seenItem : List ℕ → View → ℕ → FormedMember
-seenItem ends Plain a = record { antecedent = Alone a; consequent = Written (endAt ends a) }
+seenItem ends AsWritten a = record { antecedent = Alone a; consequent = Written (endAt ends a) }
 seenItem ends (Under b) a = record { antecedent = And a b; consequent = Written (endAt ends a) }
 seenItem ends (Unless b) a = record { antecedent = AndNot a b; consequent = Written (endAt ends a) }
 seenItem ends (Replaced put) a = record { antecedent = Changed a put; consequent = Exchanged (endAt ends a) put }
@@ -50,10 +51,10 @@ module _ (file ends : List ℕ) where
   seenAs view a = itemHalves (seenItem ends view a)
 
   abbrev pub writtenHalves : ℕ → Halves
-  writtenHalves a = seenAs Plain a
+  writtenHalves a = seenAs AsWritten a
 
 unfoldable pub sameHalves : Halves → Halves → Bool
 sameHalves x y = sameAntecedent (x .left) (y .left) && sameNumbers (x .right) (y .right)
 
-unfoldable pub sameByWords : Halves → Halves → Bool
-sameByWords x y = sameWords (words (x .left)) (words (y .left)) && sameNumbers (x .right) (y .right)
+unfoldable pub sameWrittenHalves : Halves → Halves → Bool
+sameWrittenHalves x y = sameWords (words (x .left)) (words (y .left)) && sameNumbers (x .right) (y .right)

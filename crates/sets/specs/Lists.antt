@@ -1,5 +1,5 @@
--- Sets as lists of their members' halves, compared as document 01 compares sets ("Language", "Rules").
--- Working: `stands-numbers`, `within-numbers`, `same-numbers` and `without-numbers` of proofs/Tests say that these are
+-- Sets as lists of their members' halves, compared as document 01 compares sets ("Language", "Rules"; document 02, request [2]).
+-- Working: `stands-numbers`, `within-numbers`, `same-numbers`, `listed-numbers` and `without-numbers` of proofs/Tests say that these are
 -- the tests of rules/specs/Tests, `seen-all` and `written-is` of proofs/Trees that they are of the sets that stand
 -- there. Assumes nothing.
 --     seenAll, written               the members that stand one after the other, seen as a view says; as they stand
@@ -8,9 +8,9 @@
 use mathlib.Core.Bool.{Bool, true, false, _&&_, _||_, cond}
 use mathlib.Core.List.{List, [], _∷_}
 use Prim.Native.Nat.{ℕ, zero, suc}
-use Rattle.sets.specs.Items.{pastMember, Halves, seenAs, sameHalves, sameByWords}
+use Rattle.sets.specs.Items.{pastMember, Halves, seenAs, sameHalves, sameWrittenHalves}
 use Rattle.sets.specs.declared.item.View.{View}
-use Rattle.sets.specs.declared.item.View.the-variants.{Plain}
+use Rattle.sets.specs.declared.item.View.the-variants.{AsWritten}
 
 module _ (file ends : List ℕ) where
   unfoldable pub seenAll : View → ℕ → ℕ → List Halves
@@ -18,7 +18,7 @@ module _ (file ends : List ℕ) where
   seenAll view (suc n) at = seenAs file ends view at ∷ seenAll view n (pastMember ends at)
 
   abbrev pub written : ℕ → ℕ → List Halves
-  written k at = seenAll Plain k at
+  written k at = seenAll AsWritten k at
 
 unfoldable pub standsIn : Halves → List Halves → Bool
 standsIn x [] = false
@@ -33,7 +33,7 @@ sameAll k l = withinAll k l && withinAll l k
 
 unfoldable pub listedIn : Halves → List Halves → Bool
 listedIn x [] = false
-listedIn x (y ∷ l) = sameByWords x y || listedIn x l
+listedIn x (y ∷ l) = sameWrittenHalves x y || listedIn x l
 
 unfoldable pub withoutAll : List Halves → List Halves → List Halves
 withoutAll [] l = []

@@ -20,7 +20,7 @@ use Rattle.compare.specs.Trees.{HasPut}
 use Rattle.compare.specs.Forms.{AntecedentAt, ConsequentAt}
 use Rattle.sets.specs.Items.{pastMember}
 use Rattle.sets.specs.declared.item.View.{View}
-use Rattle.sets.specs.declared.item.View.the-variants.{Plain, Under, Unless, Replaced}
+use Rattle.sets.specs.declared.item.View.the-variants.{AsWritten, Under, Unless, Replaced}
 use Rattle.sets.specs.declared.item.FormedMember.{FormedMember}
 
 -- a member's two places are in the list of ends
@@ -34,7 +34,7 @@ module _ (file ends : List ℕ) where
     pub consequent : AnyAt file ends (endAt ends at)
 
   unfoldable pub ViewAt : View → Type 0
-  ViewAt Plain = Unit {0}
+  ViewAt AsWritten = Unit {0}
   ViewAt (Under b) = ExpressionAt file ends Boolean b
   ViewAt (Unless b) = ExpressionAt file ends Boolean b
   ViewAt (Replaced put) = HasPut file ends put

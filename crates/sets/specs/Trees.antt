@@ -1,5 +1,5 @@
 -- The trees that stand where sets are compared, and what the comparisons promise of them.
--- Working: `can-same` and `set-does` of proofs/Rules tie it to the numbers that are compared. Assumes nothing.
+-- Working: `can-same` and `set-does` of proofs/Rules tie it to the halves that are compared. Assumes nothing.
 --     MemberWritten, MembersWritten    a member at its place; members one after the other
 --     PileStands                       a pile is a set that a rule makes of written ones
 --     HasSet, HasPile                  some such tree is there
@@ -19,7 +19,7 @@ use Rattle.ends.specs.Places.{endAt, WrittenAt, SetAt}
 use Rattle.compare.specs.Trees.{PutStands}
 use Rattle.compare.specs.declared.cursor.Put.{Put}
 use Rattle.sets.specs.Items.{pastMember}
-use Rattle.sets.specs.declared.item.View.the-variants.{Plain, Under, Unless, Replaced}
+use Rattle.sets.specs.declared.item.View.the-variants.{AsWritten, Under, Unless, Replaced}
 use Rattle.sets.specs.declared.pile.Pile.{Pile}
 use Rattle.sets.specs.declared.pile.Pile.the-variants.{Empty, One, Set, Without}
 use Rattle.sets.specs.declared.pile.Piles.{Piles}
@@ -37,7 +37,7 @@ module _ (file ends : List ℕ) where
     stands-empty : PileStands Empty []
     stands-one : {f b : ℕ} {φ : Expr Boolean} {k : Sort} {e : Expr k} → WrittenAt file ends φ f → WrittenAt file ends e b →
         PileStands (One f b) (one φ e)
-    stands-plain : {Γ : Context} {at : ℕ} {q : Members} → SetAt file ends Γ q at → PileStands (Set at Plain) q
+    stands-written : {Γ : Context} {at : ℕ} {q : Members} → SetAt file ends Γ q at → PileStands (Set at AsWritten) q
     stands-under : {Γ : Context} {at b : ℕ} {q : Members} {β : Expr Boolean} → SetAt file ends Γ q at →
         WrittenAt file ends β b → PileStands (Set at (Under b)) (under q β)
     stands-unless : {Γ : Context} {at b : ℕ} {q : Members} {β : Expr Boolean} → SetAt file ends Γ q at →

@@ -11,14 +11,14 @@ ghost use mathlib.Core.Path.{_≡_};
 ghost use Prim.Native.Nat.{_<_};
 ghost use lib.ListN.{length};
 ghost use Rattle.sets.specs.Items.{seenItem, pairItem, itemHalves, seenAs, writtenHalves, sameHalves};
-ghost use Rattle.sets.specs.Items.{sameByWords};
-ghost use Rattle.sets.specs.declared.item.View.the-variants.{Plain};
+ghost use Rattle.sets.specs.Items.{sameWrittenHalves};
+ghost use Rattle.sets.specs.declared.item.View.the-variants.{AsWritten};
 ghost use Rattle.sets.specs.Items.{pastMember};
 ghost use Rattle.sets.specs.Standing.{CanPass, CanCompare, CanSee};
 
 // How a member of a written set is seen: as it stands; φ made φ ∧ B, or φ ∧ ¬B, B at a place; with words put for a word.
 pub enum View {
-    Plain,
+    AsWritten,
     Under(usize),
     Unless(usize),
     Replaced(Put),
@@ -46,7 +46,7 @@ pub fn seen_item(ends: &[u32], a: usize, view: View) -> FormedMember
 {
     let middle = end_at(ends, a);
     match view {
-        View::Plain => FormedMember {
+        View::AsWritten => FormedMember {
             antecedent: Antecedent::Written(a),
             consequent: Consequent::Written(middle),
         },
@@ -106,8 +106,8 @@ pub fn same_pair(w: &[u32], ends: &[u32], at: usize, f: usize, b: usize) -> bool
 
 // Whether the written members at `at` and a are the same by words, antecedents too (rule 17's "without").
 pub fn same_words(w: &[u32], ends: &[u32], at: usize, a: usize) -> bool
-    requires { ⌜ CanSee (now w) (now ends) «at» a Plain ⌝ }
-    ensures { λ r. ⌜ r ≡ sameByWords (writtenHalves (now (w .entry)) (now (ends .entry)) «at»)
+    requires { ⌜ CanSee (now w) (now ends) «at» a AsWritten ⌝ }
+    ensures { λ r. ⌜ r ≡ sameWrittenHalves (writtenHalves (now (w .entry)) (now (ends .entry)) «at»)
         (writtenHalves (now (w .entry)) (now (ends .entry)) a) ⌝ }
 {
     let middle = end_at(ends, at);
@@ -126,7 +126,7 @@ pub fn same_seen(w: &[u32], ends: &[u32], at: usize, a: usize, view: View) -> bo
 {
     let middle = end_at(ends, a);
     match view {
-        View::Plain => same_pair(w, ends, at, a, middle),
+        View::AsWritten => same_pair(w, ends, at, a, middle),
         View::Under(b) => {
             let item = FormedMember {
                 antecedent: Antecedent::And(a, b),

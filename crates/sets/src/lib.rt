@@ -1,4 +1,4 @@
-// Written sets compared by words, as the rules need them.
+// Written sets compared as the rules need them: antecedents by plain forms, consequents by words.
 pub mod item; // a member as the rules make it, compared with a written one
 pub mod member; // members looked for among written ones
 pub mod pile; // members looked for in the sets that the rules make

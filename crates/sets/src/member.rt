@@ -10,7 +10,7 @@ ghost use mathlib.Core.Bool.{not, _&&_, _||_};
 ghost use Rattle.sets.specs.Items.{itemHalves, writtenHalves, sameHalves};
 ghost use Rattle.sets.specs.Lists.{seenAll, written, standsIn, withinAll, listedIn, withoutAll};
 ghost use Rattle.sets.specs.Standing.{CanFind, CanLook, CanHold, CanEither, CanRest, CanLeave};
-ghost use Rattle.sets.specs.declared.item.View.the-variants.{Plain};
+ghost use Rattle.sets.specs.declared.item.View.the-variants.{AsWritten};
 
 // Whether the item is one of the k written members at `at`.
 pub fn has_item(w: &[u32], ends: &[u32], k: usize, at: usize, item: FormedMember) -> bool
@@ -77,7 +77,7 @@ pub fn seen_in(
 
 // Whether the written member at x is, by words, one of the l members at `leave` (rule 17's "without").
 fn is_listed(w: &[u32], ends: &[u32], x: usize, l: usize, leave: usize) -> bool
-    requires { ⌜ CanLook (now w) (now ends) x l leave Plain ⌝ }
+    requires { ⌜ CanLook (now w) (now ends) x l leave AsWritten ⌝ }
     ensures { λ r. ⌜ r ≡ listedIn (writtenHalves (now (w .entry)) (now (ends .entry)) x)
         (written (now (w .entry)) (now (ends .entry)) l leave) ⌝ }
 {
@@ -109,7 +109,7 @@ fn has_either(
         || listedIn (writtenHalves (now (w .entry)) (now (ends .entry)) x)
         (written (now (w .entry)) (now (ends .entry)) l leave)) ⌝ }
 {
-    let item = seen_item(ends, x, View::Plain);
+    let item = seen_item(ends, x, View::AsWritten);
     if has_item(w, ends, k, at, item) {
         return true;
     }
@@ -153,7 +153,7 @@ fn is_left(w: &[u32], ends: &[u32], x: usize, a: usize, l: usize, leave: usize) 
         && not (listedIn (writtenHalves (now (w .entry)) (now (ends .entry)) a)
         (written (now (w .entry)) (now (ends .entry)) l leave))) ⌝ }
 {
-    if !same_seen(w, ends, x, a, View::Plain) {
+    if !same_seen(w, ends, x, a, View::AsWritten) {
         return false;
     }
     !is_listed(w, ends, a, l, leave)

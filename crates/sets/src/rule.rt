@@ -21,7 +21,7 @@ pub fn same_written(w: &[u32], ends: &[u32], p: usize, q: usize) -> bool
         ends,
         p,
         Piles {
-            first: Pile::Set(q, View::Plain),
+            first: Pile::Set(q, View::AsWritten),
             second: Pile::Empty,
             third: Pile::Empty,
         },
@@ -97,8 +97,8 @@ pub fn same_union(w: &[u32], ends: &[u32], p: usize, s: usize, t: usize) -> bool
         ends,
         p,
         Piles {
-            first: Pile::Set(s, View::Plain),
-            second: Pile::Set(t, View::Plain),
+            first: Pile::Set(s, View::AsWritten),
+            second: Pile::Set(t, View::AsWritten),
             third: Pile::Empty,
         },
     )

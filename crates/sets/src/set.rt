@@ -8,7 +8,7 @@ ghost use Rattle.sets.specs.Lists.{sameAll};
 ghost use Rattle.sets.specs.Piles.{writtenSet, pilesNumbers, CanSamePiles};
 ghost use Rattle.sets.specs.Trees.{CanSameSet, SameSet};
 
-// Whether the members of the written set at p are those of the piles, by their words. Members in the same order are found at once.
+// Whether the members of the written set at p are those of the piles. Members in the same order are found at once.
 fn same_members(w: &[u32], ends: &[u32], p: usize, piles: Piles) -> bool
     requires { ⌜ CanSamePiles (now w) (now ends) p piles ⌝ }
     ensures { λ r. ⌜ r ≡ sameAll (writtenSet (now (w .entry)) (now (ends .entry)) p)

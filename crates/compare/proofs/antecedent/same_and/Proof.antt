@@ -3,7 +3,8 @@
 use mathlib.Core.Path.{refl}
 use native.Mathlib.Omega.{arith}
 use borrow.Author.Tests.{not-true, not-false}
-use Rattle.compare.proofs.PlainForms.{boolean-known, start-inside, told-other}
+use Rattle.compare.proofs.PlainForms.{boolean-known, start-inside}
+use Rattle.compare.proofs.PlainTests.{told-other}
 use Rattle.compare.proofs.Formed.{of-and, two-written, can-true, and-first, and-second, and-left, and-right, and-other}
 use Rattle.compare.proofs.Formed.{and-no, and-on}
 use Rattle.compare.proofs.antecedent.same_and.Statement.{statement}

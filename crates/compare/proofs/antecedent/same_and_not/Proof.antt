@@ -3,7 +3,8 @@
 use mathlib.Core.Path.{refl}
 use native.Mathlib.Omega.{arith}
 use borrow.Author.Tests.{not-true, not-false}
-use Rattle.compare.proofs.PlainForms.{boolean-known, start-inside, told-other}
+use Rattle.compare.proofs.PlainForms.{boolean-known, start-inside}
+use Rattle.compare.proofs.PlainTests.{told-other}
 use Rattle.compare.proofs.Formed.{of-and-not, two-written, can-true, and-first, and-left, and-right, and-other, and-no, and-on}
 use Rattle.compare.proofs.Formed.{not-true-not}
 use Rattle.compare.proofs.antecedent.same_and_not.Statement.{statement}

@@ -1,7 +1,7 @@
 -- `compare::consequent::same_consequent` meets its contract, by form.
 -- Assumes nothing.
 use borrow.Author.Needs.{needs}
-use Rattle.compare.proofs.Forms.{of-plain, of-exchanged, consequent-written, consequent-replaced}
+use Rattle.compare.proofs.Forms.{of-verbatim, of-exchanged, consequent-written, consequent-replaced}
 use Rattle.compare.proofs.consequent.same_consequent.Statement.{statement}
 use Rattle.compare.proofs.consequent.same_consequent.Tie as tie
 
@@ -13,7 +13,7 @@ same-consequent-spec =
     (λ c κs.
     let e = c .before in
     let p = e .before .before .before .before .pre in
-    (p .whole, of-plain (p .form-at) (e .form .given .1)))
+    (p .whole, of-verbatim (p .form-at) (e .form .given .1)))
     (λ c. search needs)
     (λ c κs.
     let e = c .before in

@@ -13,10 +13,10 @@ use Rattle.compare.proofs.Formed.{can-true}
 use Rattle.compare.proofs.plain.same_plain.Reads as same-plain
 use Rattle.compare.proofs.plain.same_plain.Kinds as same-plain-kinds
 use Rattle.compare.proofs.plain.+same_plain.Lts-same_plain as same-plain-lts
-use Rattle.compare.proofs.plain.left_other.Reads as left-other-reads
-use Rattle.compare.proofs.plain.other_of.Reads as other-of-reads
+use Rattle.compare.proofs.start.left_other.Reads as left-other-reads
+use Rattle.compare.proofs.start.other_of.Reads as other-of-reads
 use Rattle.compare.proofs.plain.same_changed.Reads as same-changed-reads
-use Rattle.compare.proofs.plain.start_from.Reads as start-from-reads
+use Rattle.compare.proofs.start.start_from.Reads as start-from-reads
 use Rattle.ends.proofs.end_at.Reads as end-at-reads
 use Rattle.compare.proofs.plain.+same_plain.{statement}
 use Rattle.compare.proofs.plain.+same_plain.Tie.{close}
@@ -103,41 +103,47 @@ pub +same-plain-spec : {M : Type 1} → statement M
     let y = right .start-from2 .ensures .from in
     other-head o x y (s .args .change) (c .if1 .taken))
     (λ c.
-    let right = c .before .before .before .before in
+    let heads = c .before in
+    let right = heads .before .before .before in
     let left = right .before in
     let s = left .before .before .before in
     let p = s .pre .1 in
     let o = p .two .ends-of in
     let x = left .start-from .ensures .from in
     let y = right .start-from2 .ensures .from in
-    both-truth o x y (c .before .if1 .left) (s .args .change) (c .if2 .taken))
+    both-truth o x y (heads .if1 .left) (s .args .change) (c .if2 .taken))
     (λ c κs.
-    let right = c .before .before .before .before .before in
+    let heads = c .before .before in
+    let right = heads .before .before .before in
     let left = right .before in
     let s = left .before .before .before in
     let p = s .pre .1 in
     let o = p .two .ends-of in
     let x = left .start-from .ensures .from in
     let y = right .start-from2 .ensures .from in
-    comparisons-at o x y (c .before .before .if1 .left) (s .args .change) (c .if3 .taken) (p .two .change-at))
+    comparisons-at o x y (heads .if1 .left) (s .args .change) (c .if3 .taken) (p .two .change-at))
     (λ c.
-    let right = c .before .before .before .before .before .before in
+    let joint = c .before in
+    let heads = joint .before .before in
+    let right = heads .before .before .before in
     let left = right .before in
     let s = left .before .before .before in
     let p = s .pre .1 in
     let o = p .two .ends-of in
     let x = left .start-from .ensures .from in
     let y = right .start-from2 .ensures .from in
-    both-comparison o x y (c .before .before .before .if1 .left) (s .args .change) (c .before .if3 .taken) (c .same-changed .ensures))
+    both-comparison o x y (heads .if1 .left) (s .args .change) (joint .if3 .taken) (c .same-changed .ensures))
     (λ c κs.
-    let right = c .before .before .before .before .before in
+    let word = c .before in
+    let heads = word .before in
+    let right = heads .before .before .before in
     let left = right .before in
     let s = left .before .before .before in
     let p = s .pre .1 in
     let o = p .two .ends-of in
     let x = left .start-from .ensures .from in
     let y = right .start-from2 .ensures .from in
-    let two = joined o x y (c .before .before .if1 .left) (c .before .if2 .left) (c .if3 .left) in
+    let two = joined o x y (heads .if1 .left) (word .if2 .left) (c .if3 .left) in
     record {
       ends-of = o;
       inside = start-inside o x;
@@ -165,14 +171,17 @@ pub +same-plain-spec : {M : Type 1} → statement M
     let i = start-inside o y in
     omega arith)
     (λ c κs.
-    let right = c .before .before .before .before .before .before in
+    let joint = c .before in
+    let word = joint .before in
+    let heads = word .before in
+    let right = heads .before .before .before in
     let left = right .before in
     let s = left .before .before .before in
     let p = s .pre .1 in
     let o = p .two .ends-of in
     let x = left .start-from .ensures .from in
     let y = right .start-from2 .ensures .from in
-    let two = joined o x y (c .before .before .before .if1 .left) (c .before .before .if2 .left) (c .before .if3 .left) in
+    let two = joined o x y (heads .if1 .left) (word .if2 .left) (joint .if3 .left) in
     record {
       ends-of = o;
       inside = start-inside o y;
@@ -180,44 +189,53 @@ pub +same-plain-spec : {M : Type 1} → statement M
       known = right .start-from2 .ensures .left-other;
     })
     (λ c κs.
-    let right = c .before .before .before .before .before .before .before in
+    let p-left = c .before in
+    let joint = p-left .before in
+    let word = joint .before in
+    let heads = word .before in
+    let right = heads .before .before .before in
     let left = right .before in
     let s = left .before .before .before in
     let p = s .pre .1 in
     let o = p .two .ends-of in
     let x = left .start-from .ensures .from in
     let y = right .start-from2 .ensures .from in
-    let two = joined o x y (c .before .before .before .before .if1 .left) (c .before .before .before .if2 .left) (c .before .before .if3 .left) in
+    let two = joined o x y (heads .if1 .left) (word .if2 .left) (joint .if3 .left) in
     let i = start-inside o x in
     let l = x .further in
     let m = s .pre .0 in (
       omega arith,
-      record {
-        two = first-parts o (s .args .change) two (p .two .change-at);
-        first-other = c .before .left-other .ensures;
-        second-other = c .left-other2 .ensures;
-      },
+      record { two = first-parts o (s .args .change) two (p .two .change-at); first-other = p-left .left-other .ensures; second-other = c .left-other2 .ensures },
     ))
     (λ c.
-    let right = c .before .before .before .before .before .before .before .before .before in
+    let first = c .before in
+    let joint = first .before .before .before in
+    let word = joint .before in
+    let heads = word .before in
+    let right = heads .before .before .before in
     let left = right .before in
     let s = left .before .before .before in
     let p = s .pre .1 in
     let o = p .two .ends-of in
     let x = left .start-from .ensures .from in
     let y = right .start-from2 .ensures .from in
-    let two = joined o x y (c .before .before .before .before .before .before .if1 .left) (c .before .before .before .before .before .if2 .left) (c .before .before .before .before .if3 .left) in
-    first-differ o (s .args .change) two (c .before .same-plain .ensures) (not-true _ (c .if4 .taken)))
+    let two = joined o x y (heads .if1 .left) (word .if2 .left) (joint .if3 .left) in
+    first-differ o (s .args .change) two (first .same-plain .ensures) (not-true _ (c .if4 .taken)))
     (λ c.
-    let right = c .before .before .before .before .before .before .before .before .before .before in
+    let so = c .before in
+    let first = so .before in
+    let joint = first .before .before .before in
+    let word = joint .before in
+    let heads = word .before in
+    let right = heads .before .before .before in
     let left = right .before in
     let s = left .before .before .before in
     let p = s .pre .1 in
     let o = p .two .ends-of in
     let x = left .start-from .ensures .from in
     let y = right .start-from2 .ensures .from in
-    let two = joined o x y (c .before .before .before .before .before .before .before .if1 .left) (c .before .before .before .before .before .before .if2 .left) (c .before .before .before .before .before .if3 .left) in
-    not-same o (s .args .change) two (c .before .before .same-plain .ensures) (not-false _ (c .before .if4 .left)) (c .if5 .taken))
+    let two = joined o x y (heads .if1 .left) (word .if2 .left) (joint .if3 .left) in
+    not-same o (s .args .change) two (first .same-plain .ensures) (not-false _ (so .if4 .left)) (c .if5 .taken))
     (λ c.
     let right = c .before .before .before .before .before .before .before .before .before .before in
     let left = right .before in
@@ -229,14 +247,17 @@ pub +same-plain-spec : {M : Type 1} → statement M
     let i = start-inside o x in
     omega arith)
     (λ c κs.
-    let right = c .before .before .before .before .before .before .before .before .before .before in
+    let joint = c .before .before .before .before .before in
+    let word = joint .before in
+    let heads = word .before in
+    let right = heads .before .before .before in
     let left = right .before in
     let s = left .before .before .before in
     let p = s .pre .1 in
     let o = p .two .ends-of in
     let x = left .start-from .ensures .from in
     let y = right .start-from2 .ensures .from in
-    let two = joined o x y (c .before .before .before .before .before .before .before .if1 .left) (c .before .before .before .before .before .before .if2 .left) (c .before .before .before .before .before .if3 .left) in
+    let two = joined o x y (heads .if1 .left) (word .if2 .left) (joint .if3 .left) in
     boolean-known o (first-parts o (s .args .change) two (p .two .change-at) .first) .listed)
     (λ c.
     let right = c .before .before .before .before .before .before .before .before .before .before .before in
@@ -249,65 +270,93 @@ pub +same-plain-spec : {M : Type 1} → statement M
     let i = start-inside o y in
     omega arith)
     (λ c κs.
-    let right = c .before .before .before .before .before .before .before .before .before .before .before in
+    let joint = c .before .before .before .before .before .before in
+    let word = joint .before in
+    let heads = word .before in
+    let right = heads .before .before .before in
     let left = right .before in
     let s = left .before .before .before in
     let p = s .pre .1 in
     let o = p .two .ends-of in
     let x = left .start-from .ensures .from in
     let y = right .start-from2 .ensures .from in
-    let two = joined o x y (c .before .before .before .before .before .before .before .before .if1 .left) (c .before .before .before .before .before .before .before .if2 .left) (c .before .before .before .before .before .before .if3 .left) in
+    let two = joined o x y (heads .if1 .left) (word .if2 .left) (joint .if3 .left) in
     boolean-known o (first-parts o (s .args .change) two (p .two .change-at) .second) .listed)
     (λ c κs.
-    let right = c .before .before .before .before .before .before .before .before .before .before .before .before in
+    let c-end = c .before in
+    let other = c-end .before in
+    let joint = other .before .before .before .before .before in
+    let word = joint .before in
+    let heads = word .before in
+    let right = heads .before .before .before in
     let left = right .before in
     let s = left .before .before .before in
     let p = s .pre .1 in
     let o = p .two .ends-of in
     let x = left .start-from .ensures .from in
     let y = right .start-from2 .ensures .from in
-    let two = joined o x y (c .before .before .before .before .before .before .before .before .before .if1 .left) (c .before .before .before .before .before .before .before .before .if2 .left) (c .before .before .before .before .before .before .before .if3 .left) in
-    can-true o (second-parts o (s .args .change) two (c .before .before .if5 .left) (c .before .end-at .ensures) (c .end-at2 .ensures) (p .two .change-at) .first))
+    let two = joined o x y (heads .if1 .left) (word .if2 .left) (joint .if3 .left) in
+    can-true o (second-parts o (s .args .change) two (other .if5 .left) (c-end .end-at .ensures) (c .end-at2 .ensures) (p .two .change-at) .first))
     (λ c κs.
-    let right = c .before .before .before .before .before .before .before .before .before .before .before .before .before in
+    let d-end = c .before in
+    let c-end = d-end .before in
+    let other = c-end .before in
+    let joint = other .before .before .before .before .before in
+    let word = joint .before in
+    let heads = word .before in
+    let right = heads .before .before .before in
     let left = right .before in
     let s = left .before .before .before in
     let p = s .pre .1 in
     let o = p .two .ends-of in
     let x = left .start-from .ensures .from in
     let y = right .start-from2 .ensures .from in
-    let two = joined o x y (c .before .before .before .before .before .before .before .before .before .before .if1 .left) (c .before .before .before .before .before .before .before .before .before .if2 .left) (c .before .before .before .before .before .before .before .before .if3 .left) in
-    can-true o (second-parts o (s .args .change) two (c .before .before .before .if5 .left) (c .before .before .end-at .ensures) (c .before .end-at2 .ensures) (p .two .change-at) .second))
+    let two = joined o x y (heads .if1 .left) (word .if2 .left) (joint .if3 .left) in
+    can-true o (second-parts o (s .args .change) two (other .if5 .left) (c-end .end-at .ensures) (d-end .end-at2 .ensures) (p .two .change-at) .second))
     (λ c κs.
-    let right = c .before .before .before .before .before .before .before .before .before .before .before .before .before .before in
+    let p-right = c .before in
+    let d-end = p-right .before in
+    let c-end = d-end .before in
+    let other = c-end .before in
+    let joint = other .before .before .before .before .before in
+    let word = joint .before in
+    let heads = word .before in
+    let right = heads .before .before .before in
     let left = right .before in
     let s = left .before .before .before in
     let p = s .pre .1 in
     let o = p .two .ends-of in
     let x = left .start-from .ensures .from in
     let y = right .start-from2 .ensures .from in
-    let two = joined o x y (c .before .before .before .before .before .before .before .before .before .before .before .if1 .left) (c .before .before .before .before .before .before .before .before .before .before .if2 .left) (c .before .before .before .before .before .before .before .before .before .if3 .left) in
+    let two = joined o x y (heads .if1 .left) (word .if2 .left) (joint .if3 .left) in
     let n = boolean-known o (first-parts o (s .args .change) two (p .two .change-at) .first) .start in
     let i = start-inside o x in
     let l = x .further in
     let m = s .pre .0 in
-    let e = c .before .before .before .end-at .ensures in (
+    let e = c-end .end-at .ensures in (
       omega arith,
       record {
-        two = second-parts o (s .args .change) two (c .before .before .before .before .if5 .left) (c .before .before .before .end-at .ensures) (c .before .before .end-at2 .ensures) (p .two .change-at);
-        first-other = c .before .other-of .ensures;
+        two = second-parts o (s .args .change) two (other .if5 .left) (c-end .end-at .ensures) (d-end .end-at2 .ensures) (p .two .change-at);
+        first-other = p-right .other-of .ensures;
         second-other = c .other-of2 .ensures;
       },
     ))
     (λ c.
-    let right = c .before .before .before .before .before .before .before .before .before .before .before .before .before .before .before in
+    let d-end = c .before .before .before in
+    let c-end = d-end .before in
+    let other = c-end .before in
+    let so = other .before in
+    let first = so .before in
+    let joint = first .before .before .before in
+    let word = joint .before in
+    let heads = word .before in
+    let right = heads .before .before .before in
     let left = right .before in
     let s = left .before .before .before in
     let p = s .pre .1 in
     let o = p .two .ends-of in
     let x = left .start-from .ensures .from in
     let y = right .start-from2 .ensures .from in
-    let two = joined o x y (c .before .before .before .before .before .before .before .before .before .before .before .before .if1 .left) (c .before .before .before .before .before .before .before .before .before .before .before .if2 .left) (c .before .before .before .before .before .before .before .before .before .before .if3 .left) in
-    second-same o (s .args .change) two (c .before .before .before .before .before .before .before .same-plain .ensures)
-    (not-false _ (c .before .before .before .before .before .before .if4 .left)) (c .before .before .before .before .before .if5 .left) (c .before .before .before .before .end-at .ensures)
-    (c .before .before .before .end-at2 .ensures) (c .same-plain2 .ensures))
+    let two = joined o x y (heads .if1 .left) (word .if2 .left) (joint .if3 .left) in
+    second-same o (s .args .change) two (first .same-plain .ensures) (not-false _ (so .if4 .left)) (other .if5 .left) (c-end .end-at .ensures)
+    (d-end .end-at2 .ensures) (c .same-plain2 .ensures))

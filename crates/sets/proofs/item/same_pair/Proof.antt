@@ -2,7 +2,7 @@
 -- Assumes nothing.
 use mathlib.Core.Path.{refl}
 use borrow.Author.Tests.{not-true, not-false}
-use Rattle.compare.proofs.Forms.{of-plain, consequent-written}
+use Rattle.compare.proofs.Forms.{of-verbatim, consequent-written}
 use Rattle.compare.proofs.Formed.{of-written, two-written, by-written}
 use Rattle.sets.proofs.Members.{antecedent-any, consequent-any, any-known}
 use Rattle.sets.proofs.Items.{item-not, item-so}
@@ -16,7 +16,7 @@ same-pair-spec =
     (λ c κs. any-known (c .before .before .pre .ends-of) (antecedent-any (c .before .before .pre .member)) .listed)
     (λ c κs.
     let p = c .before .before .before .pre in
-    (any-known (p .ends-of) (consequent-any (p .member) (c .end-at .ensures)), of-plain (p .item-at .consequent-at) refl))
+    (any-known (p .ends-of) (consequent-any (p .member) (c .end-at .ensures)), of-verbatim (p .item-at .consequent-at) refl))
     (λ c.
     let s = c .before in
     let ended = s .before in

@@ -1,7 +1,7 @@
 -- `sets::item::seen_item` meets its contract, by view.
 -- Assumes nothing.
 use borrow.Author.Needs.{needs}
-use Rattle.sets.proofs.Items.{item-plain, item-under, item-unless, item-replaced}
+use Rattle.sets.proofs.Items.{item-written, item-under, item-unless, item-replaced}
 use Rattle.sets.proofs.item.seen_item.Statement.{statement}
 use Rattle.sets.proofs.item.seen_item.Tie as tie
 
@@ -14,7 +14,7 @@ seen-item-spec =
     (λ c. search needs)
     (λ c. search needs)
     (λ c. search needs)
-    (λ c. item-plain _ _ _ _ (c .before .before .end-at .ensures) (c .enum-told .given .1))
+    (λ c. item-written _ _ _ _ (c .before .before .end-at .ensures) (c .enum-told .given .1))
     (λ c. let e = c .before in item-under _ _ _ _ (e .before .before .end-at .ensures) _ (e .view .given .1))
     (λ c. let e = c .before in item-unless _ _ _ _ (e .before .before .end-at .ensures) _ (e .view2 .given .1))
     (λ c. let e = c .before in item-replaced _ _ _ _ (e .before .before .end-at .ensures) _ (e .view3 .given .1)))

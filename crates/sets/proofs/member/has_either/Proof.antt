@@ -1,7 +1,7 @@
 -- `sets::member::has_either` meets its contract.
 -- Assumes nothing.
 use Rattle.sets.proofs.Members.{member-pass}
-use Rattle.sets.proofs.Items.{plain-at, as-they-stand}
+use Rattle.sets.proofs.Items.{written-item, as-they-stand}
 use Rattle.sets.proofs.Loops.{has-as, either-first, either-second}
 use Rattle.sets.proofs.member.has_either.Statement.{statement}
 use Rattle.sets.proofs.member.has_either.Tie as tie
@@ -13,7 +13,7 @@ has-either-spec =
     (λ c κs. let p = c .before .before .pre in member-pass (p .ends-of) (p .member) .first)
     (λ c κs.
     let p = c .before .before .before .pre in
-    record { ends-of = p .ends-of; members = p .members; item-at = plain-at (p .ends-of) (c .seen-item .ensures) (p .member) })
+    record { ends-of = p .ends-of; members = p .members; item-at = written-item (p .ends-of) (c .seen-item .ensures) (p .member) })
     (λ c.
     let first = c .before in
     either-first _ _ _ _ _ (has-as _ _ (first .before .seen-item .ensures) _ (first .has-item .ensures)) (c .if1 .taken))

@@ -5,14 +5,14 @@ use borrow.Author.Needs.{needs}
 use Rattle.sets.specs.Items.{itemHalves}
 use Rattle.sets.specs.Lists.{standsIn}
 use Rattle.sets.proofs.Members.{member-pass}
-use Rattle.sets.specs.declared.item.View.the-variants.{Plain}
+use Rattle.sets.specs.declared.item.View.the-variants.{AsWritten}
 use Rattle.sets.proofs.Loops.{MembersLeft, left-start, left-first, left-stop, left-on, left-end, stands-found}
 use Rattle.sets.proofs.Loops.{stands-skip, item-sym, end-stands}
 use Rattle.sets.proofs.member.has_item.Statement.{statement}
 use Rattle.sets.proofs.member.has_item.Tie as tie
 
 abbrev Inv-loop : tie.InvT-loop
-Inv-loop w ends k at item n₀ i₀ n i = MembersLeft w ends Plain (standsIn (itemHalves w ends item)) n₀ i₀ n i
+Inv-loop w ends k at item n₀ i₀ n i = MembersLeft w ends AsWritten (standsIn (itemHalves w ends item)) n₀ i₀ n i
 
 abbrev μ-loop : tie.MeasureT-loop
 μ-loop w ends k at item n₀ i₀ n i = n

@@ -1,9 +1,10 @@
--- `sets::member::in_rest` meets its contract. The invariant: the member is one of all that are not listed exactly if it is one of those that are left and not listed.
+-- `sets::member::in_rest` meets its contract. The invariant: the member is one of all that are not listed exactly if it is one of those
+-- that are left and not listed.
 -- Assumes nothing.
 use borrow.Author.Needs.{needs}
 use Rattle.sets.specs.Items.{writtenHalves}
 use Rattle.sets.specs.Lists.{written, standsIn, withoutAll}
-use Rattle.sets.specs.declared.item.View.the-variants.{Plain}
+use Rattle.sets.specs.declared.item.View.the-variants.{AsWritten}
 use Rattle.sets.proofs.Members.{member-pass}
 use Rattle.sets.proofs.Loops.{MembersLeft, left-start, left-first, left-stop, left-on, left-end, left-found}
 use Rattle.sets.proofs.Loops.{left-skip, end-left}
@@ -12,7 +13,7 @@ use Rattle.sets.proofs.member.in_rest.Tie as tie
 
 abbrev Inv-loop : tie.InvT-loop
 Inv-loop w ends x l leave k at n₀ i₀ n i =
-    MembersLeft w ends Plain (λ z. standsIn (writtenHalves w ends x) (withoutAll z (written w ends l leave))) n₀ i₀ n i
+    MembersLeft w ends AsWritten (λ z. standsIn (writtenHalves w ends x) (withoutAll z (written w ends l leave))) n₀ i₀ n i
 
 abbrev μ-loop : tie.MeasureT-loop
 μ-loop w ends x l leave k at n₀ i₀ n i = n

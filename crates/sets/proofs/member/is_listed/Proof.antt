@@ -3,7 +3,7 @@
 use borrow.Author.Needs.{needs}
 use Rattle.sets.specs.Items.{writtenHalves}
 use Rattle.sets.specs.Lists.{listedIn}
-use Rattle.sets.specs.declared.item.View.the-variants.{Plain}
+use Rattle.sets.specs.declared.item.View.the-variants.{AsWritten}
 use Rattle.sets.proofs.Members.{member-pass}
 use Rattle.sets.proofs.Loops.{MembersLeft, left-start, left-first, left-stop, left-on, left-end, listed-found}
 use Rattle.sets.proofs.Loops.{listed-skip, end-listed}
@@ -11,7 +11,7 @@ use Rattle.sets.proofs.member.is_listed.Statement.{statement}
 use Rattle.sets.proofs.member.is_listed.Tie as tie
 
 abbrev Inv-loop : tie.InvT-loop
-Inv-loop w ends x l leave n₀ i₀ n i = MembersLeft w ends Plain (listedIn (writtenHalves w ends x)) n₀ i₀ n i
+Inv-loop w ends x l leave n₀ i₀ n i = MembersLeft w ends AsWritten (listedIn (writtenHalves w ends x)) n₀ i₀ n i
 
 abbrev μ-loop : tie.MeasureT-loop
 μ-loop w ends x l leave n₀ i₀ n i = n

@@ -4,14 +4,14 @@ use borrow.Author.Needs.{needs}
 use Rattle.sets.specs.Lists.{written, withinAll, withoutAll}
 use Rattle.sets.proofs.Members.{member-pass}
 use borrow.Author.Tests.{not-true, not-false}
-use Rattle.sets.specs.declared.item.View.the-variants.{Plain}
+use Rattle.sets.specs.declared.item.View.the-variants.{AsWritten}
 use Rattle.sets.proofs.Loops.{MembersLeft, left-start, left-first, left-stop, left-on, left-end, rest-stop, rest-skip, end-rest}
 use Rattle.sets.proofs.member.rest_in.Statement.{statement}
 use Rattle.sets.proofs.member.rest_in.Tie as tie
 
 abbrev Inv-loop : tie.InvT-loop
 Inv-loop w ends j from l leave k at n₀ i₀ n i =
-    MembersLeft w ends Plain (λ z. withinAll (withoutAll z (written w ends l leave)) (written w ends k at)) n₀ i₀ n i
+    MembersLeft w ends AsWritten (λ z. withinAll (withoutAll z (written w ends l leave)) (written w ends k at)) n₀ i₀ n i
 
 abbrev μ-loop : tie.MeasureT-loop
 μ-loop w ends j from l leave k at n₀ i₀ n i = n

@@ -4,7 +4,7 @@ use borrow.Author.Needs.{needs}
 use borrow.Author.Tests.{not-true, not-false}
 use Rattle.sets.specs.Lists.{withinAll}
 use Rattle.sets.specs.Piles.{pilesNumbers}
-use Rattle.sets.specs.declared.item.View.the-variants.{Plain}
+use Rattle.sets.specs.declared.item.View.the-variants.{AsWritten}
 use Rattle.sets.proofs.Members.{member-pass}
 use Rattle.sets.proofs.Loops.{MembersLeft, left-start, left-first, left-stop, left-on, left-end, within-stop}
 use Rattle.sets.proofs.Loops.{within-skip, end-within}
@@ -12,7 +12,7 @@ use Rattle.sets.proofs.pile.set_in.Statement.{statement}
 use Rattle.sets.proofs.pile.set_in.Tie as tie
 
 abbrev Inv-loop : tie.InvT-loop
-Inv-loop w ends k at piles n₀ i₀ n i = MembersLeft w ends Plain (λ z. withinAll z (pilesNumbers w ends piles)) n₀ i₀ n i
+Inv-loop w ends k at piles n₀ i₀ n i = MembersLeft w ends AsWritten (λ z. withinAll z (pilesNumbers w ends piles)) n₀ i₀ n i
 
 abbrev μ-loop : tie.MeasureT-loop
 μ-loop w ends k at piles n₀ i₀ n i = n

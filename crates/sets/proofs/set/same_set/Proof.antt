@@ -1,4 +1,4 @@
--- `sets::set::same_set` meets its contract: the numbers are those of the trees.
+-- `sets::set::same_set` meets its contract: the halves are those of the trees.
 -- Assumes nothing.
 use Rattle.sets.proofs.Rules.{can-same, set-does}
 use Rattle.sets.proofs.set.same_set.Statement.{statement}

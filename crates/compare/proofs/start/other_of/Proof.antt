@@ -1,10 +1,10 @@
--- `compare::plain::other_of` meets its contract: by its end in the list.
+-- `compare::start::other_of` meets its contract: by its end in the list.
 -- Assumes nothing.
 use Rattle.compare.proofs.PlainForms.{boolean-known}
 use Rattle.compare.proofs.Starts.{other-until}
 use native.Mathlib.Omega.{arith}
-use Rattle.compare.proofs.plain.other_of.Statement.{statement}
-use Rattle.compare.proofs.plain.other_of.Tie as tie
+use Rattle.compare.proofs.start.other_of.Statement.{statement}
+use Rattle.compare.proofs.start.other_of.Tie as tie
 
 pub other-of-spec : {M : Type 1} → statement M
 other-of-spec =

@@ -1,9 +1,9 @@
--- `compare::plain::left_other` meets its contract: of an and that stays it is known.
+-- `compare::start::left_other` meets its contract: of an and that stays it is known.
 -- Assumes nothing.
 use native.Mathlib.Omega.{arith}
 use Rattle.compare.proofs.Formed.{can-true}
-use Rattle.compare.proofs.plain.left_other.Statement.{statement}
-use Rattle.compare.proofs.plain.left_other.Tie as tie
+use Rattle.compare.proofs.start.left_other.Statement.{statement}
+use Rattle.compare.proofs.start.left_other.Tie as tie
 
 pub left-other-spec : {M : Type 1} → statement M
 left-other-spec =

@@ -1,16 +1,16 @@
--- `compare::plain::start_from` meets its contract: the boolean there has the plain form, and a turn goes past a side that is true. The measure is the words left.
+-- `compare::start::start_from` meets its contract: the boolean there has the plain form, and a turn goes past a side that is true.
+-- The measure is the words left.
 -- Assumes nothing.
 use mathlib.Core.Path.{refl}
 use Prim.Native.Nat.{_-_}
 use lib.ListN.{length}
 use native.Mathlib.Omega.{arith}
-use borrow.Author.Needs.{needs}
 use borrow.Author.Tests.{not-true, not-false}
-use Rattle.compare.proofs.Starts.{Descends, descends-start, place-inside, other-settled, first-listed, second-boolean, left-dropped, right-dropped}
-use Rattle.compare.proofs.Starts.{and-settled, second-further}
+use Rattle.compare.proofs.Starts.{Descends, descends-start, place-inside, other-settled, first-listed, second-boolean}
+use Rattle.compare.proofs.Starts.{second-further, left-dropped, right-dropped, and-settled}
 use Rattle.compare.proofs.Formed.{can-true}
-use Rattle.compare.proofs.plain.start_from.Statement.{statement}
-use Rattle.compare.proofs.plain.start_from.Tie as tie
+use Rattle.compare.proofs.start.start_from.Statement.{statement}
+use Rattle.compare.proofs.start.start_from.Tie as tie
 
 abbrev Inv-loop : tie.InvT-loop
 Inv-loop w ends f other at₀ at = Descends w ends f other at

@@ -1,10 +1,10 @@
--- `compare::plain::plain_start` meets its contract: an and may drop its first word.
+-- `compare::start::plain_start` meets its contract: an and may drop its first word.
 -- Assumes nothing.
 use native.Mathlib.Omega.{arith}
 use borrow.Author.Needs.{needs}
 use Rattle.compare.proofs.Starts.{boolean-inside, from-other}
-use Rattle.compare.proofs.plain.plain_start.Statement.{statement}
-use Rattle.compare.proofs.plain.plain_start.Tie as tie
+use Rattle.compare.proofs.start.plain_start.Statement.{statement}
+use Rattle.compare.proofs.start.plain_start.Tie as tie
 
 pub plain-start-spec : {M : Type 1} → statement M
 plain-start-spec =

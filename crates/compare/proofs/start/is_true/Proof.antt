@@ -1,10 +1,10 @@
--- `compare::plain::is_true` meets its contract: each word is and or true.
+-- `compare::start::is_true` meets its contract: each word is and or true.
 -- Assumes nothing.
 use borrow.Author.Needs.{needs}
 use Rattle.compare.proofs.PlainForms.{boolean-known}
 use Rattle.compare.proofs.Starts.{true-test}
-use Rattle.compare.proofs.plain.is_true.Statement.{statement}
-use Rattle.compare.proofs.plain.is_true.Tie as tie
+use Rattle.compare.proofs.start.is_true.Statement.{statement}
+use Rattle.compare.proofs.start.is_true.Tie as tie
 
 pub is-true-spec : {M : Type 1} → statement M
 is-true-spec =
