@@ -13,7 +13,7 @@ pub struct Kind {
     most: u32,
 }
 
-pub const KINDS: [Kind; 10] = [
+pub const KINDS: [Kind; 11] = [
     Kind { name: "shared", tries: "an antecedent judged at every leaf of a tree of ifs", make: shared, most: 1_000 },
     Kind { name: "members", tries: "a set whose antecedents each imply false", make: members, most: 64 },
     Kind { name: "chain", tries: "a chain of implications", make: chain, most: 115 },
@@ -24,6 +24,7 @@ pub const KINDS: [Kind; 10] = [
     Kind { name: "calls", tries: "what 16 procedures modify that each call the one below twice, asked at every leaf", make: calls, most: 2_000 },
     Kind { name: "plain", tries: "an assertion among trues, compared at every leaf of a tree of ifs", make: plain, most: 1_000 },
     Kind { name: "plain-sets", tries: "a set and its reverse, each antecedent in a chain of trues", make: plain_sets, most: 64 },
+    Kind { name: "chains", tries: "antecedents each in a chain of trues of its own", make: chains, most: 1_000 },
 ];
 
 impl Kind {
@@ -217,6 +218,27 @@ fn plain_sets(count: u32) -> Vec<u32> {
     let p: Set = (0..count).rev().map(|n| one(n, n % 2 == 0)).collect();
     let q: Set = (0..count).map(|n| one(n, n % 2 == 1)).collect();
     file_words(&skip(), &p, &q, &flow_of(FlowRule::F1))
+}
+
+/// Request [2], rules 2 and 1: each antecedent is one boolean in a chain of trues of its own, nested to the right, to the left or by turns.
+fn chains(steps: u32) -> Vec<u32> {
+    let set = |i: u32| {
+        let phi = compare(Comparison::Less, Arith::Scalar(0), number(1));
+        let chain = (0..80 - 2 * (i % 7)).fold(phi, |b, n| chain_of_trues(1, b, (i + n * (i % 3)) % 2 == 0));
+        vec![member(chain, Arith::Scalar(1))]
+    };
+    let c = tree(0, steps, &|_| skip(), &sequence);
+    file_words(&c, &set(0), &set(steps), &from_set_to_set(0, steps, &set))
+}
+
+/// Evidence that goes from a set to another by the sets between them, over so many skips.
+fn from_set_to_set(from: u32, to: u32, set: &dyn Fn(u32) -> Set) -> Box<Flow> {
+    if to - from <= 1 {
+        return flow_of(FlowRule::F1);
+    }
+    let middle = (from + to) / 2;
+    let (first, second) = (from_set_to_set(from, middle, set), from_set_to_set(middle, to, set));
+    flow_of(FlowRule::F2 { m: set(middle), first, second })
 }
 
 /// Files that take much stack: evidence as deep as may be, and under it a rule that walks an expression as deep as may be.
