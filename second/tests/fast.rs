@@ -37,7 +37,7 @@ fn usual_and_worst_files() {
             agreed += 1;
         }
     }
-    assert_eq!(agreed, 34);
+    assert_eq!(agreed, 35);
 }
 
 #[test]
