@@ -205,7 +205,11 @@ pub +same-plain-spec : {M : Type 1} → statement M
     let l = x .further in
     let m = s .pre .0 in (
       omega arith,
-      record { two = first-parts o (s .args .change) two (p .two .change-at); first-other = p-left .left-other .ensures; second-other = c .left-other2 .ensures },
+      record {
+        two = first-parts o (s .args .change) two (p .two .change-at);
+        first-other = p-left .left-other .ensures;
+        second-other = c .left-other2 .ensures;
+      },
     ))
     (λ c.
     let first = c .before in
