@@ -1,6 +1,7 @@
--- Every starred row of document 01 is as the definitions say: computed from them, row by row.
+-- Every row is as the definitions say: computed from them, row by row.
 -- Assumes nothing.
---     table-right    the rows
+--     table-right       the starred rows of document 01
+--     payloads-right    the least and the greatest payload of each case of request [4] of document 02
 use mathlib.Core.Path.{refl}
 use Rattle.language.specs.Store.{value}
 use Rattle.language.specs.Modifies.{identifiers}
@@ -21,7 +22,7 @@ use Rattle.layout.specs.Verdict.{judgePrograms, verdictOf}
 use Rattle.execution.specs.Evaluate.{evaluate}
 use Rattle.execution.specs.Run.{turns, run}
 use Rattle.execution.specs.Ran.{runFile, runOf}
-use Rattle.claims.specs.Table.{AllRight, starredRows}
+use Rattle.claims.specs.Table.{AllRight, starredRows, payloadRows}
 
 pub table-right : AllRight starredRows
 unfolding starredRows verdictOf fileOf wordsOf wordsRead programs parts finish callsTested steadyFile unsteadyAt firstPlace standard judgePrograms
@@ -29,3 +30,7 @@ unfolding starredRows verdictOf fileOf wordsOf wordsRead programs parts finish c
     identifiers setIdentifiers evaluate turns run runFile runOf
 table-right =
     (refl, (refl, (refl, (refl, (refl, (refl, (refl, (refl, (refl, (refl, ((refl, refl, refl), ((refl, refl, refl), ((refl, refl, refl), tt)))))))))))))
+
+pub payloads-right : AllRight payloadRows
+unfolding payloadRows wordsOf wordDue expression value
+payloads-right = (refl, (refl, (refl, (refl, tt))))

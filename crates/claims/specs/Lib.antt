@@ -3,9 +3,11 @@
 --     Runner           demand 2, of the runner
 --     AsBefore         request [1] of document 02 against the order before it
 --     StillAccepted    request [2] of document 02 against the rules before it
---     Table            document 01's starred rows
+--     ByCases          request [4] of document 02: constants by cases
+--     Table            document 01's starred rows, and the least and the greatest payload of each case of request [4]
 pub mod Check
 pub mod Runner
 pub mod AsBefore
 pub mod StillAccepted
+pub mod ByCases
 pub mod Table

@@ -1,9 +1,13 @@
--- The starred rows of document 01's "Table of files".
+-- The starred rows of document 01's "Table of files", and the least and the greatest payload of each case of request
+-- [4] of document 02.
 -- Trusted. Assumes nothing.
---     bytesOf        the bytes of words that are written as kind and payload
---     TableRow       a file with its verdict; a constant's payload with its integer; a run of a `for` over skip
---     Right          a row is as the definitions say
---     starredRows    the rows
+--     bytesOf                        the bytes of words that are written as kind and payload
+--     TableRow                       a file with its verdict; a constant's payload with its integer; a run of a `for` over skip
+--     storeWith, copying, skipped    a store and files of the rows
+--     ConstantIs, RanAs              what a constant is worth, and how a run ends
+--     Right, AllRight                a row, and each of many, is as the definitions say
+--     starredRows                    the rows of document 01
+--     payloadRows                    those of request [4]
 use mathlib.Core.Path.{_≡_}
 use mathlib.Core.List.{List, [], _∷_}
 use Prim.Native.Nat.{ℕ, _+_, _*_, _/_, _%_}
@@ -79,3 +83,8 @@ starredRows =
     ∷ forSkip (pos 3) 10 (stops 13 1) 10 (pos 4)
     ∷ forSkip (negsuc 4) 2 done 2 (pos 1)
     ∷ []
+
+unfoldable pub payloadRows : List TableRow
+payloadRows =
+    constant 0 (pos 0) ∷ constant 33554431 (pos 33554431)
+    ∷ constant 33554432 (negsuc 33554431) ∷ constant 67108863 (negsuc 0) ∷ []

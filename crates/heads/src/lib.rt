@@ -6,9 +6,9 @@ use words::CommandWord;
 use words::Comparison;
 use words::Operator;
 use words::decode::array_word;
+use words::decode::constant_of;
 use words::decode::kind;
 use words::decode::payload;
-use words::decode::signed;
 use words::kinds::AND;
 use words::kinds::ASSERT;
 use words::kinds::CALL;
@@ -34,7 +34,7 @@ ghost use lib.ListN.{length};
 ghost use Rattle.words.specs.Decode.{arithmeticOf, booleanOf, commandOf};
 ghost use Rattle.heads.specs.Stands.{arithmeticAt, booleanAt, arrayAt, commandAt, OfGroup};
 
-// The word is allowed, so its kind settles the form: but for an operator's, no payload is tested.
+// The word is allowed, so its kind settles the form: but for an operator's, no payload is tested for being allowed.
 pub fn arithmetic_head(w: &[u32], at: usize) -> ArithmeticWord
     requires { ⌜ OfGroup arithmeticOf ArithmeticWord.Other (now w) «at» ⌝ }
     ensures { λ r. ⌜ r ≡ arithmeticAt (now (w .entry)) «at» ⌝ }
@@ -43,7 +43,7 @@ pub fn arithmetic_head(w: &[u32], at: usize) -> ArithmeticWord
     let k = kind(word);
     let p = payload(word);
     match k {
-        CONSTANT => ArithmeticWord::Constant(signed(p)),
+        CONSTANT => ArithmeticWord::Constant(constant_of(p)),
         SCALAR => ArithmeticWord::Scalar(p),
         OPERATOR => match p {
             0 => ArithmeticWord::Operation(Operator::Plus),

@@ -24,7 +24,7 @@ use Rattle.layout.specs.Bytes.{payloads}
 use Rattle.layout.specs.Spelling.{payloadOf, encode, FitsExpression}
 use Rattle.layout.specs.Nodes.{expressionNode}
 use Rattle.layout.specs.Standing.{StandsTo, Stands}
-use Rattle.layout.proofs.Words.{payload-small}
+use Rattle.layout.proofs.Constant.{payload-small}
 use Rattle.layout.proofs.Stands.{stands-end, parted}
 use Rattle.layout.proofs.Nodes.{operator-range, comparison-range, node-range}
 use Rattle.truth_table.specs.Formula.{fixedByte, spell}

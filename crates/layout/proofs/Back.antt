@@ -2,7 +2,7 @@
 -- Assumes nothing.
 --     Back, begun, _⊲_                                   what is read at a place; pure and _⊛_
 --     Allowed, some-back, up-to-back, option-back        a word that may stand there: some, upTo, onOption
---     word-back                                          wordDue, of what stands
+--     due-back, word-back                                wordDue, of a word by its kind and payload; of what stands
 --     expression-stands, command-stands, set-stands      from what stands to what is read
 --     stands-from                                        from what is spelled to what stands
 use mathlib.Core.Path.{_≡_, refl, sym, _∙_, ap, ap₂, subst}
@@ -27,7 +27,8 @@ use Rattle.layout.specs.Read.{operatorOf, comparisonOf, truthOf}
 use Rattle.layout.specs.Read.{expression, command, sortOf, consequentAt, memberAt, set}
 use Rattle.layout.specs.Spelling.{payloadOf, SpelledAt, FitsExpression, FitsCommand}
 use Rattle.layout.specs.Spelling.{memberWords, membersWords, setWords, FitsMembers, FitsSet}
-use Rattle.layout.proofs.Words.{for-first, for-second, signed-payload}
+use Rattle.layout.proofs.Constant.{constant-of-payload}
+use Rattle.layout.proofs.Words.{for-first, for-second}
 use Rattle.layout.specs.Nodes.{expressionNode, kindOf, contentOf, InRange}
 use Rattle.layout.specs.Standing.{Stands}
 use Rattle.layout.proofs.Stands.{rest, less-fit, parted, spelled-stands}
@@ -76,7 +77,7 @@ truth-back : (t : Bool) → truthOf (payloadOf (truthPayload t)) ≡ some t
 truth-back false = refl
 truth-back true = refl
 
-due-back : (file : List ℕ) {A : Type 0} (at k n : ℕ) (step : ℕ → ℕ → ℕ → Option (Reader A)) {a : A} {p : ℕ} →
+pub due-back : (file : List ℕ) {A : Type 0} (at k n : ℕ) (step : ℕ → ℕ → ℕ → Option (Reader A)) {a : A} {p : ℕ} →
     at < wordCount file → kindAt file at ≡ k → payloadAt file at ≡ n → Allowed (step at k n) at a p →
     Back (wordDue file step) at a p
 unfolding wordDue
@@ -102,7 +103,7 @@ module _ (file : List ℕ) where
   unfolding expression words FitsExpression
   expression-stands zero e at p s = absurd (s .fit)
   expression-stands (suc d) (constant z) at p s =
-      word-back _ s (constant-range z (s .fit)) (some-back (rw (signed-payload z (s .fit)) (begun (s .stand .2))))
+      word-back _ s (constant-range z (s .fit)) (some-back (rw (constant-of-payload z (s .fit)) (begun (s .stand .2))))
   expression-stands (suc d) (scalar x) at p s =
       word-back _ s (omega (arith, s .fit), refl, refl) (up-to-back 31 x (s .fit) (begun (s .stand .2)))
   expression-stands (suc d) (operation o a b) at p s =

@@ -1,6 +1,7 @@
 -- Reading is exact (document 01, "Layout"): what is read stands in the file by its words and fits, and what stands
 -- there and fits is read.
 -- Assumes nothing.
+--     Constant           the integer of a constant's payload
 --     Words              words as numbers
 --     Stands             words between two places
 --     Nodes              what stands at a place, by its first word and its parts
@@ -16,6 +17,7 @@
 --     Before             the context of a program that follows procedures
 --     Range              the words of evidence and of a file are in range
 --     Counted            the count of evidence words
+pub mod Constant
 pub mod Words
 pub mod Stands
 pub mod Nodes

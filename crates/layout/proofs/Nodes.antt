@@ -31,11 +31,12 @@ use Rattle.layout.specs.EvidenceWords.{joined, EachFits}
 use Rattle.layout.specs.Nodes.{Node, expressionNode, commandNode, setNode, nodeWords, FitsNode, nodePart, halves, headOf, partsOf}
 use Rattle.layout.specs.Nodes.{kindOf, contentOf, rangeOf, integerOf, InRange, AllInRange, countOf}
 use Rattle.layout.specs.Standing.{StandsTo, Stands, PartStands, Chain}
-use Rattle.layout.proofs.Words.{quotient, remainder, payload-small, signed-payload}
+use Rattle.layout.proofs.Constant.{payload-small, constant-of-payload}
+use Rattle.layout.proofs.Words.{quotient, remainder}
 use Rattle.layout.proofs.Stands.{stands-end, stands-inside, stands-chain}
 
 pub constant-range : (z : ℤ) → FitsConstant z → InRange (word 1 z)
-constant-range z h = (payload-small z h, signed-payload z h, refl)
+constant-range z h = (payload-small z h, constant-of-payload z h, refl)
 
 pub operator-range : (o : Operator) → InRange (word 3 (operatorPayload o))
 operator-range plus = (omega arith, refl, refl)

@@ -20,7 +20,8 @@ use Rattle.layout.specs.Read.{arithmeticWord, booleanWord, arrayWord, ex
 use Rattle.layout.specs.Read.{expression, commandWord, command, sortOf, consequentAt, memberAt, set}
 use Rattle.layout.specs.Spelling.{payloadOf, SpelledAt, FitsExpression, FitsCommand}
 use Rattle.layout.specs.Spelling.{memberWords, membersWords, setWords, FitsMembers, FitsSet}
-use Rattle.layout.proofs.Words.{WordFound, word-found, for-found, payload-signed, signed-fits}
+use Rattle.layout.proofs.Constant.{payload-of-constant, constant-fits}
+use Rattle.layout.proofs.Words.{WordFound, word-found, for-found}
 use Rattle.layout.specs.Standing.{Stands}
 use Rattle.layout.proofs.Stands.{first, both, stands-spelled, stands-end}
 use Rattle.layout.proofs.Yields.{Optional, nothing, something, entry, up-to, on-option}
@@ -77,7 +78,7 @@ module _ (file : List ℕ) where
     unfolding words FitsExpression
     arithmetic-word =
         let small = f .small in
-        entry k 1 (λ e. something (start _ (after f e (payload-signed p small) (alone (signed-fits p small)))))
+        entry k 1 (λ e. something (start _ (after f e (payload-of-constant p small) (alone (constant-fits p small)))))
         (entry k 2 (λ e. up-to 31 p _ λ h. start _ (after f e refl (alone h)))
         (entry k 3 (λ e. on-option (operatorOf p) _ (operators p) λ o x.
         start _ (λ _ _ s _ _ t. after f e x (both s t)) ▹ a Arithmetic ▹ a Arithmetic)

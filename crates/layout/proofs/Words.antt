@@ -1,23 +1,17 @@
--- Words as numbers: a number is its kind and its payload, and `encode` and `signed` undo reading.
+-- Words as numbers: a number is its kind and its payload.
 -- Assumes nothing.
---     WordFound, found-at            the kind and the payload of the word at a place
---     quotient, remainder            of a number by its kind and payload
---     word-found, for-found          a word by its kind and payload
---     for-first, for-second          the scalars of a `for` by its payload
---     payload-signed, signed-fits    the payload of a signed payload is that payload; it is in range
---     signed-payload                 a constant in range is its signed payload
---     payload-small                  its payload has 26 bits
-use mathlib.Core.Path.{_≡_, refl, sym, _∙_, ap}
-use mathlib.Core.Bool.{Bool, true, false, cond}
+--     WordFound, found-at      the kind and the payload of the word at a place
+--     quotient, remainder      of a number by its kind and payload
+--     word-found, for-found    a word by its kind and payload
+--     for-first, for-second    the scalars of a `for` by its payload
+use mathlib.Core.Path.{_≡_, sym, _∙_, ap}
 use mathlib.Core.List.{List}
-use Prim.Native.Nat.{ℕ, suc, _+_, _*_, _-_, _/_, _%_, _<_, _≤_}
+use Prim.Native.Nat.{ℕ, _+_, _*_, _/_, _%_, _<_, _≤_}
 use native.Mathlib.Omega.{arith}
-use borrow.Author.Tests.{ltb-true, ltb-false, lt-ltb, le-ltb}
-use lib.Dec.{ltb}
-use lib.IntN.{ℤ, pos, negsuc, _-ℤ_}
+use lib.IntN.{ℤ}
 use Rattle.rules.specs.Words.{word, forWord}
-use Rattle.layout.specs.Bytes.{wordCount, numberAt, kindAt, payloadAt, signed, payloads}
-use Rattle.layout.specs.Spelling.{payloadOf, encode, FitsConstant}
+use Rattle.layout.specs.Bytes.{wordCount, numberAt, kindAt, payloadAt, payloads}
+use Rattle.layout.specs.Spelling.{payloadOf, encode}
 
 -- a word stands at the place, with this kind and this payload
 pub record WordFound (file : List ℕ) (at k p : ℕ) : Type 0 where
@@ -58,28 +52,3 @@ for-first q m h = omega arith
 
 pub for-second : (q m : ℕ) → q ≤ 31 → (q + 32 * m) / 32 ≡ m
 for-second q m h = omega arith
-
-pub payload-signed : (p : ℕ) → p < payloads → payloadOf (signed p) ≡ p
-payload-signed p h = go (ltb p 33554432)
-  where
-    go : (b : Bool) → payloadOf (cond b (pos p) (pos p -ℤ pos payloads)) ≡ p
-    go true = refl
-    go false = simp (lt-ltb p payloads h) (omega arith)
-
-pub signed-fits : (p : ℕ) → p < payloads → FitsConstant (signed p)
-signed-fits p h = go (ltb p 33554432) refl
-  where
-    go : (b : Bool) → ltb p 33554432 ≡ b → FitsConstant (cond b (pos p) (pos p -ℤ pos payloads))
-    go true e = let l = ltb-true p 33554432 e in omega arith
-    go false e = let l = ltb-false p 33554432 e in simp (lt-ltb p payloads h) (omega arith)
-
-pub payload-small : (z : ℤ) → FitsConstant z → payloadOf z < payloads
-payload-small (pos n) h = omega arith
-payload-small (negsuc n) h = omega arith
-
-high : (p : ℕ) → 33554432 ≤ p → p < payloads → signed p ≡ negsuc (payloads - suc p)
-high p h k = simp (le-ltb p 33554432 h, lt-ltb p payloads k)
-
-pub signed-payload : (z : ℤ) → FitsConstant z → signed (payloadOf z) ≡ z
-signed-payload (pos n) h = simp (lt-ltb n 33554432 (omega arith))
-signed-payload (negsuc n) h = high (payloads - suc n) (omega arith) (omega arith) ∙ ap negsuc (omega arith)

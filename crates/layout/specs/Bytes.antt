@@ -1,16 +1,12 @@
 -- The words of a file (document 01, "Layout"): 32 bits, low byte first; the top 6 bits are the kind, the low 26 the
 -- payload.
 -- Trusted. Assumes nothing.
---     payloads, wordOf    as many as there are payloads; the word of a kind and a payload
+--     payloads, wordOf       as many as there are payloads; the word of a kind and a payload
 --     wordsOf                the words that bytes make
 --     wordCount, numberAt    how many words there are; the word at a place
 --     kindAt, payloadAt      its kind and its payload
---     signed                 a payload in two's complement
-use mathlib.Core.Bool.{cond}
 use mathlib.Core.List.{List, [], _∷_}
 use Prim.Native.Nat.{ℕ, _+_, _*_, _/_, _%_}
-use lib.Dec.{ltb}
-use lib.IntN.{ℤ, pos, _-ℤ_}
 use lib.ListN.{length, getD}
 
 -- as many as there are payloads, of 26 bits
@@ -40,6 +36,3 @@ kindAt file at = numberAt file at / payloads
 
 abbrev pub payloadAt : List ℕ → ℕ → ℕ
 payloadAt file at = numberAt file at % payloads
-
-abbrev pub signed : ℕ → ℤ
-signed p = cond (ltb p 33554432) (pos p) (pos p -ℤ pos payloads)

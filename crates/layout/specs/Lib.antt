@@ -1,5 +1,6 @@
 -- The layout of a file and its judging, from the list of its bytes (document 01, "Layout" and "Judging order").
 --     Bytes           the words of a file
+--     Constant        the integer of a constant's payload
 --     Reading         what reading gives, and readers one after the other
 --     Read            expressions, commands and sets
 --     ReadEvidence    evidence
@@ -16,6 +17,7 @@
 --     Counted         the count of evidence words
 --     Verdict         refusals 1 to 9 and 16: the answer, and the parts of an accepted file
 pub mod Bytes
+pub mod Constant
 pub mod Reading
 pub mod Read
 pub mod ReadEvidence

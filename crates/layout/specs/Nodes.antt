@@ -21,7 +21,8 @@ use Rattle.rules.specs.Words.{Word, word, forWord, words, commandWords}
 use Rattle.rules.specs.Words.{operatorPayload, comparisonPayload, truthPayload}
 use Rattle.rules.specs.Assertion.{Members}
 use Rattle.rules.specs.Context.{Context}
-use Rattle.layout.specs.Bytes.{signed, payloads}
+use Rattle.layout.specs.Bytes.{payloads}
+use Rattle.layout.specs.Constant.{constantOf}
 use Rattle.layout.specs.Spelling.{payloadOf, FitsExpression, FitsCommand, FitsSet, setWords}
 use Rattle.layout.specs.EvidenceWords.{Part}
 
@@ -90,9 +91,9 @@ contentOf (forWord q m) = q + 32 * m
 abbrev pub rangeOf : ℕ → ℕ
 rangeOf k = cond (eqb k 2 || (eqb k 16 || (eqb k 27 || eqb k 28))) 32 payloads
 
--- the integer of a word by its payload: only a constant's is signed
+-- the integer of a word by its payload: a constant's by its two cases, any other's is the payload
 abbrev pub integerOf : ℕ → ℕ → ℤ
-integerOf k p = cond (eqb k 1) (signed p) (pos p)
+integerOf k p = cond (eqb k 1) (constantOf p) (pos p)
 
 -- kind 31 is that of a `for` alone
 abbrev pub InRange : Word → Type 0

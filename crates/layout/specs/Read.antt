@@ -16,7 +16,8 @@ use Rattle.language.specs.Syntax.{compare, truth, and, or, neg, array, zeros, u
 use Rattle.language.specs.Syntax.{Command, skip, sequence, assert, assign, ifElse, while, for}
 use Rattle.rules.specs.Assertion.{Member, Members, member}
 use Rattle.rules.specs.Context.{Context, called}
-use Rattle.layout.specs.Bytes.{kindAt, signed}
+use Rattle.layout.specs.Bytes.{kindAt}
+use Rattle.layout.specs.Constant.{constantOf}
 use Rattle.layout.specs.Reading.{Reader, pure, _⊛_, several, noLevel, wordDue, allow, upTo, onOption}
 
 abbrev pub operatorOf : ℕ → Option Operator
@@ -32,7 +33,7 @@ truthOf p = allow p ((0, some false) ∷ (1, some true) ∷ [])
 module _ (part : (j : Sort) → Reader (Expr j)) where
   abbrev pub arithmeticWord : ℕ → ℕ → Option (Reader (Expr Arithmetic))
   arithmeticWord k p = allow k (
-      (1, some (pure (constant (signed p))))
+      (1, some (pure (constant (constantOf p))))
       ∷ (2, upTo 31 p (pure (scalar p)))
       ∷ (3, onOption (operatorOf p) λ o. pure (operation o) ⊛ part Arithmetic ⊛ part Arithmetic)
       ∷ (4, upTo 0 p (pure select ⊛ part Array ⊛ part Arithmetic))

@@ -6,7 +6,7 @@
 use mathlib.Core.Bool.{true, false, cond}
 use Prim.Native.Nat.{ℕ, _/_, _%_}
 use lib.Dec.{eqb, leb}
-use Rattle.layout.specs.Bytes.{signed}
+use Rattle.layout.specs.Constant.{constantOf}
 use Rattle.words.specs.declared.Operator.the-variants.{Plus, Minus, Times}
 use Rattle.words.specs.declared.Comparison.the-variants.{Equal, Less, AtMost}
 use Rattle.words.specs.declared.ArithmeticWord.{ArithmeticWord}
@@ -40,7 +40,7 @@ truthWord p = cond (eqb p 0) (Truth false) (cond (eqb p 1) (Truth true) boolean.
 
 unfoldable pub arithmeticOf : ℕ → ℕ → ArithmeticWord
 arithmeticOf k p =
-    cond (eqb k 1) (Constant (signed p))
+    cond (eqb k 1) (Constant (constantOf p))
     (cond (eqb k 2) (within 31 p (Scalar p) arithmetic.Other)
     (cond (eqb k 3) (operatorWord p)
     (cond (eqb k 4) (within 0 p Select arithmetic.Other) arithmetic.Other)))

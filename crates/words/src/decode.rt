@@ -17,7 +17,6 @@ use super::kinds::KIND;
 use super::kinds::NOT;
 use super::kinds::OPERATOR;
 use super::kinds::OR;
-use super::kinds::PAYLOADS;
 use super::kinds::SCALAR;
 use super::kinds::SELECT;
 use super::kinds::SEQUENCE;
@@ -30,7 +29,8 @@ use super::kinds::WHILE;
 use super::kinds::ZEROS;
 ghost use mathlib.Core.Path.{_≡_};
 ghost use Prim.Native.Nat.{_/_, _%_};
-ghost use Rattle.layout.specs.Bytes.{signed as signedOf, payloads};
+ghost use Rattle.layout.specs.Bytes.{payloads};
+ghost use Rattle.layout.specs.Constant.{constantOf};
 ghost use Rattle.words.specs.Decode.{operatorWord, comparisonWord, truthWord, arithmeticOf, booleanOf};
 ghost use Rattle.words.specs.Decode.{arrayOf, commandOf};
 
@@ -46,12 +46,13 @@ pub fn payload(word: u32) -> u32
     word % KIND
 }
 
-// A payload in two's complement.
-pub fn signed(payload: u32) -> i64
-    ensures { λ r. ⌜ r ≡ signedOf payload ⌝ }
+// The constant of a payload (document 02, request [4]): for every payload from 0 to 67,108,863, below 33,554,432 the payload
+// itself, otherwise the payload less 67,108,864. Whoever reads a constant reads it here.
+pub fn constant_of(payload: u32) -> i64
+    ensures { λ r. ⌜ r ≡ constantOf payload ⌝ }
 {
     let p = payload as i64;
-    if payload < 33554432 { p } else { p - PAYLOADS }
+    if payload < 33554432 { p } else { p - 67108864 }
 }
 
 fn operator_word(payload: u32) -> ArithmeticWord
@@ -91,7 +92,7 @@ pub fn arithmetic_word(kind: u32, payload: u32) -> ArithmeticWord
     ensures { λ r. ⌜ r ≡ arithmeticOf kind payload ⌝ }
 {
     match kind {
-        CONSTANT => ArithmeticWord::Constant(signed(payload)),
+        CONSTANT => ArithmeticWord::Constant(constant_of(payload)),
         SCALAR => {
             if payload <= 31 {
                 ArithmeticWord::Scalar(payload)

@@ -1,7 +1,5 @@
 // Kinds and words by name (document 01, "Layout"; document 02, request [3]): a word is its kind × KIND + its payload.
 pub const KIND: u32 = 67108864;
-// As many as there are payloads, for one in two's complement.
-pub const PAYLOADS: i64 = 67108864;
 
 // Arithmetic.
 pub const CONSTANT: u32 = 1;

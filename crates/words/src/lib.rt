@@ -17,7 +17,7 @@ pub enum Comparison {
     AtMost,
 }
 
-// Kinds 1 to 4; a constant's payload is signed. A word that is not of a group is its Other.
+// Kinds 1 to 4; a constant with the integer of its payload. A word that is not of a group is its Other.
 pub enum ArithmeticWord {
     Constant(i64),
     Scalar(u32),

@@ -23,7 +23,7 @@ arithmetic-head-spec =
     (λ c κs. search needs)
     (λ c κs. search needs)
     (λ c κs. search needs)
-    (λ c. ap Constant (toZ-ofZ (record { sfits = c .signed .ok }) ∙ c .signed .ensures)
+    (λ c. ap Constant (toZ-ofZ (record { sfits = c .constant-of .ok }) ∙ c .constant-of .ensures)
     ∙ sym (ap₂ arithmeticOf (sym (c .before .before .before .kind .ensures) ∙ c .before .match .keys1)
     (sym (c .before .before .payload .ensures))))
     (λ c. let s = c .before .before .before .before .before in let p = payloadAt (s .args .w .now) (s .args .at) in

@@ -19,7 +19,7 @@ arithmetic-word-spec =
     (λ c κs. search needs)
     (λ c κs. search needs)
     (λ c. rw (c .before .match .keys1)
-    (ap (λ (z : ℤ). Constant z) (toZ-ofZ (record { sfits = c .signed .ok }) ∙ c .signed .ensures)))
+    (ap (λ (z : ℤ). Constant z) (toZ-ofZ (record { sfits = c .constant-of .ok }) ∙ c .constant-of .ensures)))
     (λ c. rw (c .before .match .keys2, le-leb _ _ (c .if1 .taken)))
     (λ c. rw (c .before .match .keys2, lt-leb _ _ (c .if1 .left)))
     (λ c. rw (c .before .match .keys3) (c .operator-word .ensures))
