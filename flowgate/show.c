@@ -58,10 +58,10 @@ static void show_form(struct walk *walk, const char *form)
     }
 }
 
-/* A constant's payload is in two's complement of 26 bits. */
+/* Below 33,554,432 the payload itself, otherwise the payload less 67,108,864 (document 02, request [4]). */
 static long constant_of(unsigned payload)
 {
-    return payload < 0x2000000 ? (long)payload : (long)payload - 0x4000000;
+    return payload < 33554432 ? (long)payload : (long)payload - 67108864;
 }
 
 static void show_expression(struct walk *walk)

@@ -1,10 +1,12 @@
 # flowrun: stores as words and files, ends and refusals, what changed, and bad use.
 
-# 63:6 31:32 24:0 32:0 32:0 33:10 is a `for` over scalar 0 up to scalar 1; store 63:9 .. sets array 31 at the index scalar 0 to -1;
+# 63:6 31:32 24:0 32:0 32:0 33:10 is a `for` over scalar 0 up to scalar 1; put 63:9 .. sets array 31 at the index scalar 0 to -1;
+# constants 63:15 .. sets four scalars to the constants of the least and the greatest payload of each case of request [4];
 # guarded 63:18 .. sets scalar 1 to 1 if scalar 0 is at most 63 and array 0 has 1 there, else to 2
 run_files() {
     words 63:6 31:32 24:0 32:0 32:0 33:10 > upto
     words 63:9 28:31 18:0 16:31 2:0 1:67108863 32:0 32:0 33:10 > put
+    words 63:15 25:0 27:0 1:0 25:0 27:1 1:33554431 25:0 27:2 1:33554432 27:3 1:67108863 32:0 32:0 33:10 > constants
     words 63:8 27:0 3:2 2:0 2:0 32:0 32:0 33:10 > square
     words 63:6 26:0 9:0 32:0 32:0 33:10 > false
     words 63:6 27:0 2:31 32:0 32:0 33:10 > take
@@ -26,6 +28,13 @@ a31[63]=-1
 END
     lines 0 put 1 x0=63 'a31[63]=-1' << 'END'
 # put: ended after 1 step
+END
+    lines 0 constants 4 x0=7 << 'END'
+# constants: ended after 4 steps
+x0=0
+x1=33554431
+x2=-33554432
+x3=-1
 END
     lines 0 take 1 x0=5 << 'END'
 # take: ended after 1 step

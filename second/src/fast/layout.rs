@@ -1,4 +1,5 @@
-//! Document 01, "Layout", with request [3]: the kinds of words, and what each evidence word carries; and the sizes of "Runner".
+//! Document 01, "Layout", with requests [3] and [4]: the kinds of words, the constant of a payload, and what each evidence word
+//! carries; and the sizes of "Runner".
 
 pub const MOST_WORDS: usize = 8_192;
 pub const MOST_DEPTH: u32 = 128;
@@ -53,6 +54,15 @@ pub const fn kind(word: u32) -> u32 {
 
 pub const fn payload(word: u32) -> u32 {
     word & ((1 << 26) - 1)
+}
+
+/// A constant's payload (request [4]): below 33,554,432 the payload itself, otherwise the payload less 67,108,864.
+pub const fn constant_of(payload: u32) -> i64 {
+    if payload < 33_554_432 {
+        payload as i64
+    } else {
+        payload as i64 - 67_108_864
+    }
 }
 
 /// What follows an evidence word.

@@ -130,8 +130,7 @@ impl Runner<'_> {
     fn arithmetic(&self, at: usize) -> Valued<i64> {
         let word = self.parts.words[at];
         match kind(word) {
-            // the low 26 bits in two's complement
-            CONSTANT => Ok(i64::from((word << 6) as i32 >> 6)),
+            CONSTANT => Ok(constant_of(payload(word))),
             SCALAR => Ok(self.scalars[payload(word) as usize % SCALARS]),
             OPERATOR => self.operation(at, payload(word)),
             _ => self.select(at + 1),

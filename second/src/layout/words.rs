@@ -38,18 +38,20 @@ pub fn take_apart(place: usize, word: u32) -> Word {
     }
 }
 
-/// A constant's payload in two's complement: -33,554,432 to 33,554,431.
+/// A constant's payload (request [4]): below 33,554,432 the payload itself, otherwise the payload less 67,108,864.
 pub fn constant_of(payload: u32) -> i64 {
-    if payload < 1 << (PAYLOAD_BITS - 1) {
+    if payload < 33_554_432 {
         i64::from(payload)
     } else {
-        i64::from(payload) - (1 << PAYLOAD_BITS)
+        i64::from(payload) - 67_108_864
     }
 }
 
-/// The payload that `constant_of` takes back; only for values in its range.
+/// The payload that `constant_of` takes back; only for -33,554,432 to 33,554,431.
 pub fn payload_of(constant: i64) -> u32 {
-    (constant & i64::from(PAYLOAD_MASK)) as u32
+    assert!((-33_554_432..=33_554_431).contains(&constant), "{constant} is no constant");
+    let payload = if constant < 0 { constant + 67_108_864 } else { constant };
+    payload as u32
 }
 
 /// Bytes to words; refusal 1.

@@ -1,6 +1,6 @@
 //! Naive: the second implementation, of the check and of the runner, over trees, each sentence of document 01 and of requests [3]
-//! (procedures), [1] (what a test of the runner works out) and [2] (plain antecedents) as it stands. It was written from these
-//! alone and shares no code with the proved crates nor with `fast`.
+//! (procedures), [1] (what a test of the runner works out), [2] (plain antecedents) and [4] (constants by cases) as it stands. It was
+//! written from these alone and shares no code with the proved crates nor with `fast`.
 //!
 //! Uses: layout.
 //! For: what the proved code and `fast` are compared with; the generator, the viewers and the examples stand on it.

@@ -3,7 +3,7 @@
 //! `kind:payload` in decimal; `1:-5` is a negative constant, `63:*` the count of the words in the file. A last line
 //! `bytes 05 00` gives up to three bytes that make no word, in hexadecimal.
 
-use crate::layout::words::{bytes_of, pack, payload_of, PAYLOAD_BITS, PAYLOAD_MASK};
+use crate::layout::words::{bytes_of, pack, payload_of, PAYLOAD_MASK};
 
 /// A fault of the text: the line from 1, and what is wrong with it.
 #[derive(Clone, PartialEq, Eq, Debug)]
@@ -14,7 +14,7 @@ pub struct Fault {
 
 const COUNT: u32 = 63;
 const CONSTANT: u32 = 1;
-const LEAST_CONSTANT: i64 = -(1 << (PAYLOAD_BITS - 1));
+const LEAST_CONSTANT: i64 = -33_554_432;
 
 /// A word as written: `63:*` waits for the count.
 enum Written {
