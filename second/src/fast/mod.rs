@@ -1,7 +1,7 @@
-//! Fast: the check and the runner again, plain and for speed, from document 01 and requests [3], [1], [2] and [4]: what one
-//! writes where nothing has to be proved. Nothing is allocated or cleared: the caller lends the arrays. A part of the file is its place among
-//! the words, a goal is such places, and each part's end and identifiers, and each boolean's plain form, are worked out once, while
-//! it is read.
+//! Fast: the check and the runner again, plain and for speed, from document 01 and requests [3], [1], [2] and [4]: what one writes
+//! where nothing has to be proved. Nothing is allocated or cleared: the caller lends the arrays. A part of the file is its place
+//! among the words, a goal is such places, and each part's end and identifiers, and each boolean's plain form, are worked out once,
+//! while it is read.
 //!
 //! Uses: nothing.
 //! For: the benchmark compares the proved code with it; a third answer where the check and the runner are compared.
