@@ -39,3 +39,14 @@ fn runs() {
         assert_eq!(assigned(payload), (constant, constant));
     }
 }
+
+/// Each bit of a payload alone, those below it, and all but that bit.
+#[test]
+fn runs_of_each_bit() {
+    for bit in (0..26).map(|n| 1 << n) {
+        for payload in [bit, bit - 1, 67_108_863 - bit] {
+            let constant = constant_of(payload);
+            assert_eq!(assigned(payload), (constant, constant), "payload {payload}");
+        }
+    }
+}

@@ -33,11 +33,13 @@ impl Pool {
     }
 }
 
+/// The ends of the two cases of request [4], any constant, or a small one: constants that are often the same.
 pub fn constant(rng: &mut Prng) -> Arith {
     let c = match rng.below(12) {
         0 => -33_554_432,
         1 => 33_554_431,
         2 => -1,
+        3 => rng.below(67_108_864) as i64 - 33_554_432,
         _ => rng.below(4) as i64,
     };
     Arith::Constant(c)
