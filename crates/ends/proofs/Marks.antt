@@ -6,6 +6,7 @@
 --                                           a mask with what a word assigns, by its kind
 --     marks-none, marks-next                the end of the scan that collects a mask; a turn
 --     bit-slot                              the mask of one identifier
+--     mark-bit, no-bit                      a bit of a mask with what a word assigns; of no mask
 --     marks-any                             the law
 --     marks-range, marks-empty, marks-join  masks of a range; of no words; of some words and those after them
 --     called-same                           the masks of procedures, in two lists
@@ -93,7 +94,7 @@ slot-same (arrayOf y) (arrayOf x) h k = past-scalars y x
 pub bit-slot : (y x : Identifier) → Low y → Low x → bit (2 ^ slot y) (slot x) ≡ sameIdentifier y x
 bit-slot y x h k = bit-power (slot y) (slot x) ∙ slot-same y x h k
 
-mark-bit : (o : Option ℕ) (m i : ℕ) → bit (withMark m o) i ≡ (bit m i || ifAny (λ n. bit n i) o)
+pub mark-bit : (o : Option ℕ) (m i : ℕ) → bit (withMark m o) i ≡ (bit m i || ifAny (λ n. bit n i) o)
 mark-bit none m i = sym (or-false (bit m i))
 mark-bit (some n) m i = bit-or m n i
 
@@ -108,7 +109,7 @@ marks-any called file x (suc n) at m =
     ∙ or-assoc (bit m (slot x)) (assigns called x (kindAt file at) (payloadAt file at))
     (anyIn (assigns called x) file n (suc at))
 
-no-bit : (i : ℕ) → bit 0 i ≡ false
+pub no-bit : (i : ℕ) → bit 0 i ≡ false
 unfolding bit
 no-bit i = rw (div-eq-of-lt (pow-pos i)) refl
 

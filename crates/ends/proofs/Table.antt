@@ -37,6 +37,7 @@ module _
     pub table-ends : EndsOf file after
     table-ends = record {
       long = omega (arith, m .blocks .room);
+      sized = λ at h. m .kept at h ∙ f at h;
       expression-end = λ e d at p s. by-size (node-sized file d (expressionNode e) at p s);
       command-end = λ Γ c d at p s. by-size (node-sized file d (commandNode Γ c) at p s);
       set-end = λ Γ q d at p s. by-size (node-sized file d (setNode Γ q) at p s);

@@ -4,17 +4,19 @@
 --     EndsOf    the list is such a list
 use mathlib.Core.Path.{_≡_}
 use mathlib.Core.List.{List}
-use Prim.Native.Nat.{ℕ, _≤_}
+use Prim.Native.Nat.{ℕ, _+_, _<_, _≤_}
 use lib.ListN.{length, getD}
 use Rattle.language.specs.Syntax.{Sort, Expr, Command}
 use Rattle.rules.specs.Assertion.{Members}
 use Rattle.rules.specs.Context.{Context}
 use Rattle.layout.specs.EvidenceWords.{expressionPart, commandPart, setPart}
 use Rattle.layout.specs.Standing.{PartStands}
+use Rattle.ends.specs.Sizes.{sizes}
 use Rattle.ends.specs.Blocks.{Blocks}
 
 pub record EndsOf (file ends : List ℕ) : Type 0 where
   pub long : length file ≤ length ends
+  pub sized : (at : ℕ) → at < length file → getD ends at 0 ≡ at + getD (sizes file) at 0
   pub expression-end : {k : Sort} (e : Expr k) (d at p : ℕ) →
       PartStands file (expressionPart e) d at p → getD ends at 0 ≡ p
   pub command-end : (Γ : Context) (c : Command) (d at p : ℕ) →

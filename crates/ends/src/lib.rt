@@ -48,7 +48,7 @@ pub fn end_or_zero(ends: &[u32], place: usize) -> usize
 }
 
 // How many expressions and commands follow a word (document 01, "Layout").
-fn parts(x: u32) -> usize
+pub fn parts(x: u32) -> usize
     ensures { λ r. ⌜ r ≡ countOf (x / payloads) (x % payloads) ⌝ }
 {
     let kind = x / KIND;

@@ -171,6 +171,7 @@ module _ {Γ : Context} {w : List ℕ} where
               known = λ g q z.
                   subst (KnownAt (limitsOf Γ) w table) (words-back (limitsOf Γ) w (it .file) g (it .end) q was z) (record {
                     starts = starts-kept;
+                    masked = called-file;
                     procedures = λ low n l.
                         procedures-known w table (m .ends-of) (limitsOf Γ) (it .file) stood called starts-kept (m .made) low n l;
                   });

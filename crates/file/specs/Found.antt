@@ -24,6 +24,7 @@ use Rattle.ends.specs.Blocks.{tableAt}
 use Rattle.ends.specs.Procedures.{startAt, Procedures}
 use Rattle.scan.specs.Programs.{procedureCount, StartsListed, MaskMade}
 use Rattle.scan.specs.Calls.{wrongAt}
+use Rattle.scan.specs.Steady.{MaskedFile}
 use Rattle.context.specs.Contexts.{limitsOf}
 use Rattle.reader.specs.File.{placesOf, readOf}
 use Rattle.context.specs.declared.Context.{Context}
@@ -54,6 +55,7 @@ pub record TableMade (file before after : List ℕ) : Type 0 where
 -- program i follows i procedures, and is read and judged under these
 pub record KnownAt (limits : Limits) (file table : List ℕ) (f : File) : Type 0 where
   pub starts : StartsListed file table f
+  pub masked : MaskedFile file table limits f
   pub procedures : limits .depth ≤ 256 → (i : ℕ) → i ≤ length (f .procedures) →
       Procedures file table (contextBefore (alone limits) file i 2)
 

@@ -68,7 +68,7 @@ fn read_called(w: &[u32], table: &mut [u32], context: Context, places: Places) -
 }
 
 // Refusals 2 to 7 and 16. The starts of the programs stand behind the room for ends and masks of blocks.
-fn read_table(w: &[u32], table: &mut [u32], context: Context) -> Layout
+pub fn read_table(w: &[u32], table: &mut [u32], context: Context) -> Layout
     requires { ⌜ TableRoom (now w) (now table) ⌝ }
     ensures { λ r. ⌜ Tabled (now (w .entry)) context r (now (table .exit)) ⌝ }
 {

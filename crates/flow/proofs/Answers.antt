@@ -1,7 +1,7 @@
 -- The answer of the check, by what refusals 1 to 9 leave of the file.
 -- Assumes nothing.
 --     standard-within               document 01's limits
---     answerFrom, outcome-answer    the answer, by the outcome
+--     outcome-answer                the answer, by the outcome
 --     checked                       what the check promises of it
 use mathlib.Core.Path.{_≡_, refl, sym, _∙_, ap, subst}
 use mathlib.Core.List.{List}
@@ -20,7 +20,7 @@ use Rattle.reader.specs.Program.{places}
 use Rattle.reader.specs.declared.Places.{Places}
 use Rattle.outcomes.specs.Outcome.{withPlaces, outcomeOf, WithinLimits}
 use Rattle.outcomes.specs.declared.Outcome.{Outcome}
-use Rattle.outcomes.specs.declared.Outcome.the-variants.{Accepted, Refused}
+use Rattle.flow.specs.Answer.{answerFrom}
 use Rattle.flow.specs.Checked.{answerOf, Checked}
 use Rattle.flow.specs.declared.Verdict.{Verdict}
 use Rattle.flow.specs.declared.Verdict.the-variants as Verdict
@@ -33,10 +33,6 @@ standard-within context e = record {
   low = subst (λ (l : Limits). l .depth ≤ 256) (sym e) (omega arith);
 }
 
-abbrev pub answerFrom : Outcome → Verdict
-answerFrom (Accepted n s) = Verdict.Accepted n
-answerFrom (Refused x) = Verdict.Refused x
-
 answer-places : (v : judge.Verdict) (s : Places) → answerFrom (withPlaces v s) ≡ answerOf v
 answer-places (judge.accepted n) s = refl
 answer-places (judge.refused k i) s = refl
@@ -47,16 +43,16 @@ answer-read limits (read f p) =
     (places (f .main .start) (f .main .preAt) (f .main .postAt) (f .main .evidenceAt) p)
 answer-read limits (fault n p) = refl
 
-pub outcome-answer : (limits : Limits) (bytes : List ℕ) (r q : Outcome) →
-    r ≡ outcomeOf limits (fileOf limits bytes) → r ≡ q → answerFrom q ≡ answerOf (verdictOf limits bytes)
+pub outcome-answer : (limits : Limits) (bytes : List ℕ) {q : Outcome} {r : Verdict} →
+    q ≡ outcomeOf limits (fileOf limits bytes) → r ≡ answerFrom q → r ≡ answerOf (verdictOf limits bytes)
 unfolding verdictOf
-outcome-answer limits bytes r q e h =
-    ap (λ (z : Outcome). answerFrom z) (sym h ∙ e) ∙ answer-read limits (fileOf limits bytes)
+outcome-answer limits bytes e h =
+    h ∙ ap (λ (z : Outcome). answerFrom z) e ∙ answer-read limits (fileOf limits bytes)
 
-pub checked : (bytes : List ℕ) (r q : Outcome) → r ≡ outcomeOf standard (fileOf standard bytes) → r ≡ q →
-    Checked bytes (answerFrom q)
-checked bytes r q e h = record {
-  answer = outcome-answer standard bytes r q e h;
+pub checked : (bytes : List ℕ) {q : Outcome} {r : Verdict} → q ≡ outcomeOf standard (fileOf standard bytes) → r ≡ answerFrom q →
+    Checked bytes r
+checked bytes e h = record {
+  answer = outcome-answer standard bytes e h;
   exact = demand-2 standard bytes;
   secure = demand-3 standard bytes;
   still-accepted = still-accepted standard bytes;

@@ -1,12 +1,13 @@
 -- The numbers of a verdict are small, so the answer for C has room for them (document 01, "Judging order").
 -- Assumes nothing.
 --     SmallBy, verdict-small             the numbers of a verdict
---     was-accepted, was-refused          the verdict, by the check's answer
---     accepted-small, refused-small      its numbers are small
---     accepted-packed, refused-packed    the number for C
+--     FewBy, small-few                   the same with 17 and 18
+--     answer-small, answer-packed        the numbers of the answer; the number for C
+--     accepted-verdict, was-accepted, was-refused
+--                                        the verdict, by the check's answer
 use mathlib.Core.Path.{_≡_, refl, sym, _∙_, ap, subst}
 use mathlib.Core.List.{List}
-use Prim.Native.Nat.{ℕ, _+_, _*_, _≤_}
+use Prim.Native.Nat.{ℕ, _≤_}
 use native.Mathlib.Omega.{arith}
 use Rattle.rules.specs.Context.{Limits, alone, standard}
 use Rattle.rules.specs.Judge as judge
@@ -17,6 +18,7 @@ use Rattle.layout.specs.Verdict.{judged, verdictOf, packed}
 use Rattle.layout.proofs.Counted.{count-words, file-counted}
 use Rattle.words.proofs.Loading.{words-length}
 use Rattle.context.specs.declared.Refusal.{Refusal}
+use Rattle.flow.specs.Answer.{packedAnswer, SmallAnswer}
 use Rattle.flow.specs.Checked.{answerOf, Checked}
 use Rattle.flow.specs.declared.Verdict.{Verdict}
 use Rattle.flow.specs.declared.Verdict.the-variants.{Accepted, Refused}
@@ -53,8 +55,32 @@ module _ (limits : Limits) (bytes : List ℕ) where
       go (read f p) e h = read-small f p e (judged limits (read f p)) refl
       go (fault n p) e h = h
 
--- ---- the answer of the check
-accepted-verdict : (v : judge.Verdict) (n : ℕ) → Accepted n ≡ answerOf v → v ≡ judge.accepted n
+-- ---- the answer
+-- 18 is the last number of a refusal
+abbrev pub FewBy : judge.Verdict → Type 0
+FewBy (judge.accepted m) = m ≤ 8192
+FewBy (judge.refused k i) = (k ≤ 18) × (i ≤ 8192)
+
+pub small-few : (v : judge.Verdict) → SmallBy 8192 v → FewBy v
+small-few (judge.accepted m) h = h
+small-few (judge.refused k i) h = (omega (arith, h .0), h .1)
+
+answer-few : (v : judge.Verdict) → FewBy v → SmallAnswer (answerOf v)
+answer-few (judge.accepted m) h = h
+answer-few (judge.refused k i) h = h
+
+pub answer-small : (v : judge.Verdict) {r : Verdict} → FewBy v → r ≡ answerOf v → SmallAnswer r
+answer-small v h e = subst SmallAnswer (sym e) (answer-few v h)
+
+answer-number : (v : judge.Verdict) → packedAnswer (answerOf v) ≡ packed v
+answer-number (judge.accepted m) = refl
+answer-number (judge.refused k i) = refl
+
+pub answer-packed : (v : judge.Verdict) {r : Verdict} {n : ℕ} → r ≡ answerOf v → n ≡ packedAnswer r → n ≡ packed v
+answer-packed v e h = h ∙ ap packedAnswer e ∙ answer-number v
+
+-- ---- the verdict, by the check's answer
+pub accepted-verdict : (v : judge.Verdict) (n : ℕ) → Accepted n ≡ answerOf v → v ≡ judge.accepted n
 accepted-verdict (judge.accepted m) n e = cc
 accepted-verdict (judge.refused k i) n e = absurd (let z : _≡_ {A = ℕ} 0 1 = cc in omega arith)
 
@@ -68,17 +94,3 @@ module _ {bytes : List ℕ} {r : Verdict} (h : Checked bytes r) where
 
   pub was-refused : (x : Refusal) → r ≡ Refused x → verdictOf standard bytes ≡ judge.refused (x .number) (x .place)
   was-refused x e = refused-verdict (verdictOf standard bytes) x (sym e ∙ h .answer)
-
-  pub accepted-small : (n : ℕ) → r ≡ Accepted n → n ≤ 8192
-  accepted-small n e =
-      subst (λ (v : judge.Verdict). SmallBy 8192 v) (was-accepted n e) (verdict-small standard bytes)
-
-  pub refused-small : (x : Refusal) → r ≡ Refused x → (x .number ≤ 16) × (x .place ≤ 8192)
-  refused-small x e =
-      subst (λ (v : judge.Verdict). SmallBy 8192 v) (was-refused x e) (verdict-small standard bytes)
-
-  pub accepted-packed : (n : ℕ) → r ≡ Accepted n → n ≡ packed (verdictOf standard bytes)
-  accepted-packed n e = sym (ap (λ (v : judge.Verdict). packed v) (was-accepted n e))
-
-  pub refused-packed : (x : Refusal) → r ≡ Refused x → x .number * 65536 + x .place ≡ packed (verdictOf standard bytes)
-  refused-packed x e = sym (ap (λ (v : judge.Verdict). packed v) (was-refused x e))

@@ -13,6 +13,7 @@ use Rattle.rules.specs.Condition.{onOne}
 use Rattle.rules.specs.Evidence.{flow10, flow11, child, done, _&_}
 use Rattle.rules.specs.Judge.{misfit, flowRule, judge}
 use Rattle.ends.specs.Places.{endAt}
+use Rattle.masks.specs.Filled.{MasksOf}
 use Rattle.implication.specs.declared.Condition.the-variants.{Fails}
 use Rattle.goals.specs.declared.Goal.the-variants.{Flow}
 use Rattle.goals.specs.Conditions.{conditionOf}
@@ -27,9 +28,10 @@ use Rattle.set_laws.proofs.Sets.{is-one, not-one}
 use Rattle.flow_compound.proofs.Goal.{first-fails, second-test, no-parts, trees}
 
 module _ {Γ : Context} {file ends : List ℕ} {p c q at : ℕ} (can : CanTry file ends Γ 10 (Flow p c q) at) where
-  pub can-keep-set : CanKeep file ends q c
-  can-keep-set = record {
+  pub can-keep-set : {masks : List ℕ} → MasksOf file ends masks → CanKeep file ends masks q c
+  can-keep-set m = record {
     ends-of = can .can .ends-of;
+    masks-of = m;
     part = node-known (can .can .ends-of) (trees (can .can) .after-at);
     command = node-known (can .can .ends-of) (trees (can .can) .command-at .there);
   }
@@ -57,11 +59,12 @@ module _ {Γ : Context} {file ends : List ℕ} {p c q at : ℕ} (can : CanTry fi
     not-one-after n = flow-rule can flow11 λ x y e t d end f g z s.
         rw (is-one f (can .can .ends-of) one .is) (misfit-comes (not-one z misfit _ n))
 
-    pub can-keep : {i : ℕ} → i ≡ endAt ends (p + 1) → CanKeep file ends i c
-    can-keep e =
+    pub can-keep : {masks : List ℕ} → MasksOf file ends masks → {i : ℕ} → i ≡ endAt ends (p + 1) → CanKeep file ends masks i c
+    can-keep m e =
         let o = can .can .ends-of in
         record {
           ends-of = o;
+          masks-of = m;
           part = known-to e (node-known o (is-one (trees (can .can) .before-at) o one .only-at .consequent-at));
           command = node-known o (trees (can .can) .command-at .there);
         }

@@ -1,7 +1,8 @@
 // The rules of flow (document 01, rules 1 to 14; document 02, rule 31), at the evidence word at `at`, of kind 33, for the set at p, the
 // command at c and the set at q; those of compound commands are in `flow_compound`. `rule_` with a rule's number tries
-// its conditions, `child_` gives the goal of its k-th child, 0 the first. They are called alike, so that some do not use
-// all that they are given; no rule of flow has an implication of its own, and none uses the context.
+// its conditions, `child_` gives the goal of its k-th child, 0 the first. They are called alike, rules 10 and 11 with the
+// masks besides, so that some do not use all that they are given; no rule of flow has an implication of its own, and none
+// uses the context.
 pub mod atomic; // rules 1, 3, 4 and 5: commands of one step
 pub mod consequence; // rules 7 and 8
 pub mod union; // rule 9
@@ -39,6 +40,7 @@ use unmodified::rule_11;
 use words::kinds::KIND;
 ghost use mathlib.Core.Path.{_≡_};
 ghost use Rattle.context.specs.Contexts.{contextIn};
+ghost use Rattle.masks.specs.Filled.{MasksOf};
 ghost use Rattle.goals.specs.Children.{flowChild};
 ghost use Rattle.goals.specs.Goals.{CanStep, StepOf};
 ghost use Rattle.goals.specs.declared.Goal.the-variants.{Flow};
@@ -48,13 +50,14 @@ ghost use Rattle.flow_compound.specs.Children.{CanFlowChild};
 pub fn flow_condition(
     w: &[u32],
     ends: &[u32],
+    masks: &[u64],
     context: Context,
     at: usize,
     p: usize,
     c: usize,
     q: usize,
 ) -> Condition
-    requires { ⌜ CanStep (now w) (now ends) (contextIn context (now w)) (Flow p c q) «at» ⌝ }
+    requires { ⌜ CanStep (now w) (now ends) (contextIn context (now w)) (Flow p c q) «at» × MasksOf (now w) (now ends) (now masks) ⌝ }
     ensures { λ r. ⌜ StepOf (now (w .entry)) (now (ends .entry)) (contextIn context (now (w .entry))) (Flow p c q) «at» r ⌝ }
 {
     let rule = w[at] % KIND;
@@ -68,8 +71,8 @@ pub fn flow_condition(
         7 => rule_7(w, ends, context, at, p, c, q),
         8 => rule_8(w, ends, context, at, p, c, q),
         9 => rule_9(w, ends, context, at, p, c, q),
-        10 => rule_10(w, ends, context, at, p, c, q),
-        11 => rule_11(w, ends, context, at, p, c, q),
+        10 => rule_10(w, ends, masks, context, at, p, c, q),
+        11 => rule_11(w, ends, masks, context, at, p, c, q),
         12 => rule_12(w, ends, context, at, p, c, q),
         13 => rule_13(w, ends, context, at, p, c, q),
         14 => rule_14(w, ends, context, at, p, c, q),

@@ -10,6 +10,7 @@ use sets::pile::count;
 use sets::rule::same_written;
 ghost use mathlib.Core.Path.{_≡_};
 ghost use Rattle.context.specs.Contexts.{contextIn};
+ghost use Rattle.masks.specs.Filled.{MasksOf};
 ghost use Rattle.goals.specs.Children.{flowChild};
 ghost use Rattle.goals.specs.Goals.{CanTry, StepOf};
 ghost use Rattle.goals.specs.declared.Goal.the-variants.{Flow};
@@ -19,32 +20,34 @@ ghost use Rattle.flow_compound.specs.Children.{CanFlowChild};
 pub fn rule_10(
     w: &[u32],
     ends: &[u32],
+    masks: &[u64],
     context: Context,
     at: usize,
     p: usize,
     c: usize,
     q: usize,
 ) -> Condition
-    requires { ⌜ CanTry (now w) (now ends) (contextIn context (now w)) 10 (Flow p c q) «at» ⌝ }
+    requires { ⌜ CanTry (now w) (now ends) (contextIn context (now w)) 10 (Flow p c q) «at» × MasksOf (now w) (now ends) (now masks) ⌝ }
     ensures { λ r. ⌜ StepOf (now (w .entry)) (now (ends .entry)) (contextIn context (now (w .entry))) (Flow p c q) «at» r ⌝ }
 {
     if !same_written(w, ends, p, q) {
         return Condition::Fails;
     }
-    condition(is_kept(w, ends, q, c))
+    condition(is_kept(w, ends, masks, q, c))
 }
 
 // Rule 11. P one written member φ ⇒ E, Q one φ' ⇒ E; none of E modified.
 pub fn rule_11(
     w: &[u32],
     ends: &[u32],
+    masks: &[u64],
     context: Context,
     at: usize,
     p: usize,
     c: usize,
     q: usize,
 ) -> Condition
-    requires { ⌜ CanTry (now w) (now ends) (contextIn context (now w)) 11 (Flow p c q) «at» ⌝ }
+    requires { ⌜ CanTry (now w) (now ends) (contextIn context (now w)) 11 (Flow p c q) «at» × MasksOf (now w) (now ends) (now masks) ⌝ }
     ensures { λ r. ⌜ StepOf (now (w .entry)) (now (ends .entry)) (contextIn context (now (w .entry))) (Flow p c q) «at» r ⌝ }
 {
     if count(w, p) != 1 {
@@ -58,7 +61,7 @@ pub fn rule_11(
     if !is_same_consequent(w, ends, e, f) {
         return Condition::Fails;
     }
-    condition(is_kept(w, ends, e, c))
+    condition(is_kept(w, ends, masks, e, c))
 }
 
 // Its child: precondition (φ, C, φ').

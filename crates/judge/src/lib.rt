@@ -13,6 +13,7 @@ use rule::child_of;
 use rule::condition_at;
 use words::kinds::KIND;
 ghost use Rattle.context.specs.Contexts.{contextIn};
+ghost use Rattle.masks.specs.Filled.{MasksOf};
 ghost use Rattle.goals.specs.Goals.{CanJudge, JudgedOf};
 ghost use Rattle.judge.specs.Going.{CanGo, Goes};
 
@@ -21,17 +22,18 @@ ghost use Rattle.judge.specs.Going.{CanGo, Goes};
 pub fn judge(
     w: &[u32],
     ends: &[u32],
+    masks: &[u64],
     context: Context,
     goal: Goal,
     at: usize,
     left: usize,
 ) -> Judged
-    requires { ⌜ CanJudge (now w) (now ends) (contextIn context (now w)) goal «at» left ⌝ }
+    requires { ⌜ CanJudge (now w) (now ends) (contextIn context (now w)) goal «at» left × MasksOf (now w) (now ends) (now masks) ⌝ }
     ensures { λ r. ⌜ JudgedOf (now (w .entry)) (now (ends .entry)) (contextIn context (now (w .entry))) goal «at» left r ⌝ }
 {
-    let condition = condition_at(w, ends, context, goal, at);
+    let condition = condition_at(w, ends, masks, context, goal, at);
     match condition {
-        Condition::Passes => judge_children(w, ends, context, goal, at, left - 1),
+        Condition::Passes => judge_children(w, ends, masks, context, goal, at, left - 1),
         Condition::Fails => Judged::Refused(Refusal {
             number: 8,
             place: at,
@@ -47,12 +49,13 @@ pub fn judge(
 fn judge_children(
     w: &[u32],
     ends: &[u32],
+    masks: &[u64],
     context: Context,
     goal: Goal,
     at: usize,
     left: usize,
 ) -> Judged
-    requires { ⌜ CanGo (now w) (now ends) (contextIn context (now w)) goal «at» left ⌝ }
+    requires { ⌜ CanGo (now w) (now ends) (contextIn context (now w)) goal «at» left × MasksOf (now w) (now ends) (now masks) ⌝ }
     ensures { λ r. ⌜ Goes (now (w .entry)) (now (ends .entry)) (contextIn context (now (w .entry))) goal «at» left r ⌝ }
 {
     let rule = w[at] % KIND;
@@ -63,7 +66,7 @@ fn judge_children(
     let mut k = 0;
     while rest != 0 {
         let child = child_of(w, ends, rule, goal, at, k);
-        let judged = judge(w, ends, context, child, next, left);
+        let judged = judge(w, ends, masks, context, child, next, left);
         match judged {
             Judged::Accepted(n, to) => {
                 count += n;

@@ -10,19 +10,27 @@ use set_rules::set_child;
 use set_rules::set_condition;
 ghost use mathlib.Core.Path.{_≡_};
 ghost use Rattle.context.specs.Contexts.{contextIn};
+ghost use Rattle.masks.specs.Filled.{MasksOf};
 ghost use Rattle.goals.specs.Goals.{CanStep, StepOf};
 ghost use Rattle.goals.specs.Children.{childAt};
 ghost use Rattle.judge.specs.Going.{CanChild};
 
 // The result of the rule's conditions.
-pub fn condition_at(w: &[u32], ends: &[u32], context: Context, goal: Goal, at: usize) -> Condition
-    requires { ⌜ CanStep (now w) (now ends) (contextIn context (now w)) goal «at» ⌝ }
+pub fn condition_at(
+    w: &[u32],
+    ends: &[u32],
+    masks: &[u64],
+    context: Context,
+    goal: Goal,
+    at: usize,
+) -> Condition
+    requires { ⌜ CanStep (now w) (now ends) (contextIn context (now w)) goal «at» × MasksOf (now w) (now ends) (now masks) ⌝ }
     ensures { λ r. ⌜ StepOf (now (w .entry)) (now (ends .entry)) (contextIn context (now (w .entry))) goal «at» r ⌝ }
 {
     match goal {
-        Goal::Flow(p, c, q) => flow_condition(w, ends, context, at, p, c, q),
+        Goal::Flow(p, c, q) => flow_condition(w, ends, masks, context, at, p, c, q),
         Goal::Set(p, q) => set_condition(w, ends, context, at, p, q),
-        Goal::Pre(f, c, g) => pre_condition(w, ends, context, at, f, c, g),
+        Goal::Pre(f, c, g) => pre_condition(w, ends, masks, context, at, f, c, g),
     }
 }
 

@@ -1,16 +1,24 @@
 -- Outcomes, from words and from bytes.
 -- Assumes nothing.
 --     outcomeFrom, judged-outcome    8 and 9: the verdict of a file's programs, with the places of the main program
+--     none-of, none-stored           no masks are lent
+--     can-store, stored-of, stored-count, stored-done
+--                                    masks are stored
 --     can-load                       room for so many words
 --     found-judge, found-outcome, refused-outcome
 --                                    refusals 1 to 7 and 16
-use mathlib.Core.Path.{_≡_, refl, sym, _∙_, ap, subst}
+use mathlib.Core.Path.{_≡_, refl, sym, _∙_, ap, ap₂, subst}
+use mathlib.Core.Bool.{Bool, true, false, cond}
 use mathlib.Core.List.{List}
-use Prim.Native.Nat.{ℕ, _+_, _*_, _/_, _≤_}
+use Prim.Native.Nat.{ℕ, _+_, _*_, _/_, _<_, _≤_}
 use native.Mathlib.Omega.{arith}
+use borrow.Author.Tests.{lt-ltb, le-ltb}
+use lib.Dec.{ltb}
 use lib.ListN.{length, take}
+use lib.Seq.{length-take-le}
 use Rattle.rules.specs.Context.{Limits}
 use Rattle.rules.specs.Judge as judge
+use Rattle.layout.specs.Bytes.{wordsOf, wordCount}
 use Rattle.layout.specs.Reading.{Reading, read, fault}
 use Rattle.layout.specs.File.{File, fileOf, wordsRead}
 use Rattle.layout.specs.Verdict.{judged}
@@ -26,10 +34,13 @@ use Rattle.reader.proofs.Whole.{refused-file}
 use Rattle.file.specs.Found.{CanLoad, FileRead}
 use Rattle.file.proofs.Found.{found-read}
 use Rattle.file.proofs.Files.{file-words}
+use Rattle.masks.specs.WithMasks.{storedIf}
+use Rattle.masks.specs.Filled.{CanStore, Filled, MasksOf}
+use Rattle.masks.proofs.Stored.{filled-masks, filled-stored}
 use Rattle.goals.specs.Goals.{judgedOf}
 use Rattle.goals.specs.declared.Judged.{Judged}
 use Rattle.goals.specs.declared.Judged.the-variants as Judged
-use Rattle.outcomes.specs.Outcome.{withPlaces, outcomeOf, WithinLimits, FitsRoom}
+use Rattle.outcomes.specs.Outcome.{withPlaces, outcomeOf, storedWhere, WordsDone, OutcomeDone, WithinLimits, FitsRoom}
 use Rattle.outcomes.specs.Programs.{judgedFile, CanJudgeFile}
 use Rattle.outcomes.specs.declared.Outcome.{Outcome}
 use Rattle.outcomes.specs.declared.Outcome.the-variants.{Accepted, Refused}
@@ -56,6 +67,40 @@ pub judged-outcome : {w ends : List ℕ} (context : Context) {s : Places} → Ca
     outcomeFrom q s ≡ outcomeOf (limitsOf context) (wordsRead (limitsOf context) w)
 judged-outcome {w} context {s} h r q j e =
     ap (λ (z : Judged). outcomeFrom z s) (sym e ∙ j) ∙ file-outcome (limitsOf context) (wordsRead (limitsOf context) w) s (h .found)
+
+-- ---- masks
+-- no masks
+pub none-of : {file ends : List ℕ} (l : List ℕ) → MasksOf file ends (take 0 l)
+none-of l = record { mask = λ at h. absurd (omega arith) }
+
+module _ {w table : List ℕ} {context : Context} {s : Places} (c : CanJudgeFile w table context s) (lent : List ℕ) where
+  abbrev was : wordsRead (limitsOf context) w ≡ read (c .programs .contents) (c .programs .end)
+  was = c .programs .was-read
+
+  -- too few numbers are lent
+  pub none-stored : {r : Outcome} → length lent < length w → r ≡ outcomeOf (limitsOf context) (wordsRead (limitsOf context) w) →
+      WordsDone (limitsOf context) w lent r lent
+  none-stored h e = record { outcome = e; masks = rw (lt-ltb (length lent) (length w) h) refl }
+
+  module _ (room : length w ≤ length lent) where
+    pub can-store : CanStore w table lent
+    can-store = record { ends-of = c .programs .ends-of; room = room }
+
+    module _ {left : List ℕ} (f : Filled w table lent left) where
+      pub stored-of : MasksOf w table (take (length w) left)
+      stored-of = filled-masks (c .programs .ends-of) room f
+
+      pub stored-count : length w ≡ length (take (length w) left)
+      stored-count = sym (length-take-le (length w) left (omega (arith, room, f .same-length)))
+
+      pub stored-done : {r : Outcome} → r ≡ outcomeOf (limitsOf context) (wordsRead (limitsOf context) w) →
+          WordsDone (limitsOf context) w lent r left
+      stored-done e = record {
+        outcome = e;
+        masks =
+            filled-stored w table (limitsOf context) (c .programs .contents) (c .programs .ends-of) (c .programs .known .masked) room f
+            ∙ sym (rw (le-ltb (length lent) (length w) room) (ap (λ x. storedIf (limitsOf context) w x lent) was));
+      }
 
 -- ---- refusals 1 to 7 and 16
 -- room for so many words
@@ -85,13 +130,25 @@ module _ {context : Context} {bytes words table : List ℕ} {r : Layout} (f : Fi
         found = w .was-read;
       }
 
-  pub found-outcome : {s : Places} (q : Outcome) → r ≡ Layout.Found s →
-      q ≡ outcomeOf (limitsOf context) (wordsRead (limitsOf context) (take (length bytes / 4) words)) →
-      q ≡ outcomeOf (limitsOf context) (fileOf (limitsOf context) bytes)
-  found-outcome q e h = h ∙ ap (λ (z : Reading File). outcomeOf (limitsOf context) z) (file-words f e .of-file)
+  pub found-outcome : {s : Places} {q : Outcome} {lent left : List ℕ} → r ≡ Layout.Found s →
+      WordsDone (limitsOf context) (take (length bytes / 4) words) lent q left → OutcomeDone (limitsOf context) bytes lent q left
+  found-outcome {s} {lent = lent} {left} e h =
+      let same = file-words f e .of-file in
+      record {
+        outcome = h .outcome ∙ ap (outcomeOf (limitsOf context)) same;
+        masks =
+            h .masks
+            ∙ ap₂ (λ w x. storedWhere (limitsOf context) w x lent) (f .loaded s e) same;
+      }
 
-  pub refused-outcome : (x : Refusal) → r ≡ Layout.Refused x →
-      Refused x ≡ outcomeOf (limitsOf context) (fileOf (limitsOf context) bytes)
-  refused-outcome x e =
-      sym (ap (λ (z : Reading File). outcomeOf (limitsOf context) z)
-      (refused-file (fileOf (limitsOf context) bytes) x (sym e ∙ f .layout)))
+  pub refused-outcome : {x : Refusal} (lent : List ℕ) → r ≡ Layout.Refused x → OutcomeDone (limitsOf context) bytes lent (Refused x) lent
+  refused-outcome {x} lent e =
+      let h = refused-file (fileOf (limitsOf context) bytes) x (sym e ∙ f .layout) in
+      record {
+        outcome = sym (ap (outcomeOf (limitsOf context)) h);
+        masks = sym (ap (λ y. storedWhere (limitsOf context) (wordsOf bytes) y lent) h ∙ same (ltb (length lent) (wordCount (wordsOf bytes))));
+      }
+    where
+      same : (b : Bool) → cond b lent lent ≡ lent
+      same true = refl
+      same false = refl

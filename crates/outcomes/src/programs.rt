@@ -8,11 +8,12 @@ use scan::programs::procedure_count;
 ghost use mathlib.Core.Path.{_≡_};
 ghost use Rattle.layout.specs.File.{wordsRead};
 ghost use Rattle.context.specs.Contexts.{limitsOf};
+ghost use Rattle.masks.specs.Filled.{MasksOf};
 ghost use Rattle.outcomes.specs.Programs.{CanJudgeAt, JudgedAt, CanJudgePrograms, judgedFile};
 
 // Program number i, under the procedures before it, with every level left.
-fn judge_at(w: &[u32], table: &[u32], context: Context, i: usize) -> Judged
-    requires { ⌜ CanJudgeAt (now w) (now table) context i ⌝ }
+fn judge_at(w: &[u32], table: &[u32], masks: &[u64], context: Context, i: usize) -> Judged
+    requires { ⌜ CanJudgeAt (now w) (now table) context i × MasksOf (now w) (now table) (now masks) ⌝ }
     ensures { λ r. ⌜ JudgedAt (now (w .entry)) (now (table .entry)) context i r ⌝ }
 {
     let n = w.len();
@@ -27,19 +28,19 @@ fn judge_at(w: &[u32], table: &[u32], context: Context, i: usize) -> Judged
         procedures: i,
     };
     let goal = Goal::Flow(pre, at, post);
-    judge::judge(w, table, own, goal, evidence, context.depth)
+    judge::judge(w, table, masks, own, goal, evidence, context.depth)
 }
 
 // All programs of a file: the count of their evidence words, or the first refusal.
-pub fn judge_programs(w: &[u32], table: &[u32], context: Context) -> Judged
-    requires { ⌜ CanJudgePrograms (now w) (now table) context ⌝ }
+pub fn judge_programs(w: &[u32], table: &[u32], masks: &[u64], context: Context) -> Judged
+    requires { ⌜ CanJudgePrograms (now w) (now table) context × MasksOf (now w) (now table) (now masks) ⌝ }
     ensures { λ r. ⌜ r ≡ judgedFile (limitsOf context) (wordsRead (limitsOf context) (now (w .entry))) ⌝ }
 {
     let procedures = procedure_count(w);
     let mut count = 0;
     let mut i = 0;
     while i < procedures {
-        let judged = judge_at(w, table, context, i);
+        let judged = judge_at(w, table, masks, context, i);
         match judged {
             Judged::Accepted(n, _) => {
                 count += n;
@@ -48,7 +49,7 @@ pub fn judge_programs(w: &[u32], table: &[u32], context: Context) -> Judged
         }
         i += 1;
     }
-    let main = judge_at(w, table, context, i);
+    let main = judge_at(w, table, masks, context, i);
     match main {
         Judged::Accepted(n, end) => Judged::Accepted(count + n, end),
         Judged::Refused(_) => main,

@@ -1,7 +1,7 @@
 // The rules of necessary preconditions (document 01, rules 20 to 30; document 02, rule 32), tried at an evidence word of kind 35; those of
 // compound commands are in `pre_compound`. All take the same, also what a rule does not ask for: the file, its ends,
 // the context, the place of the evidence word, and the places f, c and g of the assertion, the command and the other
-// assertion.
+// assertion; rule 27 also the masks.
 pub mod command; // rules 22, 24, 25 and 26: commands of one step
 pub mod unmodified; // rule 27: what a command does not modify
 pub mod consequence; // rules 28 and 29: a stronger assertion, and true
@@ -31,6 +31,7 @@ use unmodified::rule_27;
 use words::kinds::KIND;
 ghost use mathlib.Core.Path.{_≡_};
 ghost use Rattle.context.specs.Contexts.{contextIn};
+ghost use Rattle.masks.specs.Filled.{MasksOf};
 ghost use Rattle.goals.specs.Children.{childAt};
 ghost use Rattle.goals.specs.Goals.{CanStep, StepOf};
 ghost use Rattle.goals.specs.declared.Goal.the-variants.{Pre};
@@ -40,13 +41,14 @@ ghost use Rattle.pre_compound.specs.Children.{CanPreChild};
 pub fn pre_condition(
     w: &[u32],
     ends: &[u32],
+    masks: &[u64],
     context: Context,
     at: usize,
     f: usize,
     c: usize,
     g: usize,
 ) -> Condition
-    requires { ⌜ CanStep (now w) (now ends) (contextIn context (now w)) (Pre f c g) «at» ⌝ }
+    requires { ⌜ CanStep (now w) (now ends) (contextIn context (now w)) (Pre f c g) «at» × MasksOf (now w) (now ends) (now masks) ⌝ }
     ensures { λ r. ⌜ StepOf (now (w .entry)) (now (ends .entry)) (contextIn context (now (w .entry))) (Pre f c g) «at» r ⌝ }
 {
     let rule = w[at] % KIND;
@@ -58,7 +60,7 @@ pub fn pre_condition(
         24 => rule_24(w, ends, context, at, f, c, g),
         25 => rule_25(w, ends, context, at, f, c, g),
         26 => rule_26(w, ends, context, at, f, c, g),
-        27 => rule_27(w, ends, context, at, f, c, g),
+        27 => rule_27(w, ends, masks, context, at, f, c, g),
         28 => rule_28(w, ends, context, at, f, c, g),
         29 => rule_29(w, ends, context, at, f, c, g),
         30 => rule_30(w, ends, context, at, f, c, g),

@@ -25,6 +25,7 @@ use Rattle.layout.specs.Bytes.{wordOf}
 use Rattle.ends.specs.Ends.{EndsOf}
 use Rattle.ends.specs.Places.{WrittenAt, CommandAt, SetAt, PartKnown}
 use Rattle.ends.specs.Procedures.{Procedures}
+use Rattle.masks.specs.Filled.{MasksOf}
 use Rattle.compare.specs.Places.{ExpressionAt}
 use Rattle.goals.specs.Resolved.{ResolvedAt}
 
@@ -66,8 +67,9 @@ module _ (file ends : List ℕ) where
     pub is : (Γ : Context) (e : Command) (q m : ℕ) (body : Command) → CommandAt file ends Γ e d →
         CommandAt file ends Γ (for q m body) c → r ≡ sameWords (commandWords e) (commandWords (meaning q m body))
 
-  pub record CanKeep (e c : ℕ) : Type 0 where
+  pub record CanKeep (masks : List ℕ) (e c : ℕ) : Type 0 where
     pub ends-of : EndsOf file ends
+    pub masks-of : MasksOf file ends masks
     pub part : PartKnown file ends e
     pub command : PartKnown file ends c
 

@@ -7,6 +7,7 @@
 --     ProcedureMasks    the masks of procedures as they are filled
 --     Procedures    what the list of ends has of the procedures
 --     WrongCalls    refusal 16
+--     FileNodes     what each word of a file that was read is the first of
 --     Fors          each word of kind 31 of a file that was read is the first of a `for`
 --     Tests         the test of a place and the scan for the first
 pub mod Ranges
@@ -17,5 +18,6 @@ pub mod FilePrograms
 pub mod ProcedureMasks
 pub mod Procedures
 pub mod WrongCalls
+pub mod FileNodes
 pub mod Fors
 pub mod Tests

@@ -93,7 +93,7 @@ module _ (file ends : List ℕ) (at : ℕ) where
   tested-for l h b f = record {
     place = λ limits g k.
         let Δ = fileContext limits g in
-        let x = file-fors file ends limits g k .each at (omega arith) l h in
+        let x = file-fors file ends limits g k at l h in
         f Δ (k .masks) (x .q) (x .m) (x .body) (over Δ x)
         ∙ sym (is-for Δ h ∙ ap unsteady (read-for Δ x) ∙ for-steady (x .q) (x .m) (x .body) (x .past));
   }

@@ -2,6 +2,7 @@
 -- Assumes nothing.
 --     anyOf, any-stands                        a test passes at one of some words; a scan of where they stand
 --     CallsKnown, marked-command               masks of called procedures; the mask of a command's words
+--     unmarked-expression, unmarked-set        the mask of the words of an expression, of a set
 --     modified-tree, unmarked-tree, closed-tree
 --                                              the contracts of the scans
 use mathlib.Core.Path.{_≡_, refl, sym, ap, ap₂, subst, _∙_}
@@ -25,7 +26,7 @@ use Rattle.rules.specs.Tests.{unmodified, isEmpty}
 use Rattle.layout.specs.Spelling.{FitsExpression, FitsCommand}
 use Rattle.layout.specs.Spelling.{memberWords, membersWords, setWords, FitsMembers, FitsSet}
 use Rattle.layout.specs.Nodes.{expressionNode, commandNode, setNode, kindOf, contentOf, AllInRange}
-use Rattle.layout.specs.EvidenceWords.{commandPart}
+use Rattle.layout.specs.EvidenceWords.{expressionPart, commandPart, setPart}
 use Rattle.layout.specs.Standing.{StandsTo, PartStands}
 use Rattle.layout.proofs.Stands.{stands-end}
 use Rattle.layout.proofs.Nodes.{kind-at, content-at, node-range}
@@ -140,6 +141,33 @@ marked-command {called} {file} {from} {to} Γ known m c d s r = record {
       ∙ any-stands (assigns called x) file from (commandWords c) to (s .stand) (node-range d (commandNode Γ c) (s .fit))
       ∙ command-assigns called x l Γ known d c (s .fit) r;
 }
+
+-- ---- the masks of words that assign nothing
+members-quiet : (called : ℕ → ℕ) (x : Identifier) (m : Members) → anyOf (assigns called x) (membersWords m) ≡ false
+members-quiet called x [] = refl
+members-quiet called x (m ∷ p) =
+    appended (assigns called x) (memberWords m) (membersWords p)
+    (appended (assigns called x) (words (m .antecedent)) (words (m .consequent)) (expression-quiet called x (m .antecedent))
+    (expression-quiet called x (m .consequent))) (members-quiet called x p)
+
+set-quiet : (called : ℕ → ℕ) (x : Identifier) (m : Members) → anyOf (assigns called x) (setWords m) ≡ false
+unfolding written
+set-quiet called x m = members-quiet called x m
+
+module _ {called : ℕ → ℕ} {file : List ℕ} {from to mask : ℕ} (h : Marks called file (to - from) from mask) where
+  pub unmarked-expression : {k : Sort} (e : Expr k) (d : ℕ) → PartStands file (expressionPart e) d from to → (x : Identifier) →
+      bit mask (slot x) ≡ false
+  unmarked-expression e d s x =
+      h .marks x
+      ∙ any-stands (assigns called x) file from (words e) to (s .stand) (node-range d (expressionNode e) (s .fit))
+      ∙ expression-quiet called x e
+
+  pub unmarked-set : (Γ : Context) (m : Members) (d : ℕ) → PartStands file (setPart Γ m) d from to → (x : Identifier) →
+      bit mask (slot x) ≡ false
+  unmarked-set Γ m d s x =
+      h .marks x
+      ∙ any-stands (assigns called x) file from (setWords m) to (s .stand) (node-range d (setNode Γ m) (s .fit))
+      ∙ set-quiet called x m
 
 -- ---- the masks that stand in a list of ends
 pub item-inside : {A : Type 0} (l : List A) (n : ℕ) (k : A) → itemAt l n ≡ some k → n < length l

@@ -27,7 +27,7 @@ fn byte_number(x: u8) -> u32
 }
 
 // Four bytes, the low one first.
-fn word_at(file: &[u8], place: usize) -> u32
+pub fn word_at(file: &[u8], place: usize) -> u32
     requires { ⌜ 4 * place + 3 < length (now file) ⌝ }
     ensures { λ r. ⌜ r ≡ wordAt (now (file .entry)) place ⌝ }
 {

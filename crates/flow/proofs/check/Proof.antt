@@ -1,4 +1,4 @@
--- `flow::check` meets its contract: the outcome without its places; demands 2 and 3 hold of any bytes.
+-- `flow::check` meets its contract: the answer for the outcome; demands 2 and 3 hold of any bytes.
 -- Assumes nothing.
 use borrow.Author.Needs.{needs}
 use Rattle.flow.proofs.Answers.{checked}
@@ -9,6 +9,6 @@ pub check-spec : {M : Type 1} → statement M
 check-spec =
     tie.close
     (tie.spec
-    (λ c κs. search needs) (λ c. search needs) (λ c. search needs)
-    (λ c. checked _ _ _ (c .before .before .before .standard-outcome .ensures) (c .before .done .given .1))
-    (λ c. checked _ _ _ (c .before .before .before .standard-outcome .ensures) (c .before .done2 .given .1)))
+    (λ c κs. search needs)
+    (λ c κs. search needs)
+    (λ c. checked _ (c .before .standard-outcome .ensures) (c .verdict-of .ensures)))

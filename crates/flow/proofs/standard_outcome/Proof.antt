@@ -13,9 +13,11 @@ pub standard-outcome-spec : {M : Type 1} → statement M
 standard-outcome-spec =
     tie.close
     (tie.spec
+    (λ c. search needs)
     (λ c κs. search needs)
     (λ c κs. standard-within _ (c .standard-context .ensures))
     (λ c.
-    let bytes = c .before .before .before .args .file .now in
-    c .outcome .ensures
-    ∙ ap (λ (l : Limits). outcomeOf l (fileOf l bytes)) (c .before .standard-context .ensures)))
+    let outcome = c .before in
+    let bytes = outcome .before .before .before .before .args .file .now in
+    outcome .outcome .ensures .outcome
+    ∙ ap (λ (l : Limits). outcomeOf l (fileOf l bytes)) (outcome .before .standard-context .ensures)))

@@ -11,12 +11,12 @@ pub rule-10-spec : {M : Type 1} → statement M
 rule-10-spec =
     tie.close
     (tie.spec
-    (λ c κs. can-two (c .before .before .pre .can))
+    (λ c κs. can-two (c .before .before .before .pre .0 .can))
     (λ c.
-    not-same (c .before .before .before .before .pre) (c .before .same-written .ensures) (not-true _ (c .if1 .taken)))
-    (λ c κs. can-keep-set (c .before .before .before .before .pre))
+    not-same (c .before .before .before .before .before .pre .0) (c .before .same-written .ensures) (not-true _ (c .if1 .taken)))
+    (λ c κs. let asked = c .before .before .before .before .before .pre in can-keep-set (asked .0) (asked .1))
     (λ c κs. search needs)
     (λ c.
-    rw (c .condition .ensures) (set-kept (c .before .before .before .before .before .before .pre)
+    rw (c .condition .ensures) (set-kept (c .before .before .before .before .before .before .before .pre .0)
     (c .before .before .before .same-written .ensures) (not-false _ (c .before .before .if1 .left))
     (c .before .is-kept .ensures))))

@@ -12,15 +12,15 @@ use Rattle.outcomes.proofs.programs.judge_programs.Statement.{statement
 use Rattle.outcomes.proofs.programs.judge_programs.Tie as tie
 
 abbrev Inv-loop : tie.InvT-loop
-Inv-loop w table context procedures count₀ i₀ count i =
+Inv-loop w table masks context procedures count₀ i₀ count i =
     (procedures ≡ procedureCount w) × ((h : CanJudgePrograms w table context) → ProgramsGoing context h i count)
 
 abbrev μ-loop : tie.MeasureT-loop
-μ-loop w table context procedures count₀ i₀ count i = procedures - i
+μ-loop w table masks context procedures count₀ i₀ count i = procedures - i
 
 -- what was asked for, seen from the loop
 abbrev start : tie.At-loop Inv-loop μ-loop → tie.Start Inv-loop μ-loop
-start loop = loop .before .before .before .before
+start loop = loop .before .before .before .before .before
 
 pub judge-programs-spec : {M : Type 1} → statement M
 judge-programs-spec =
@@ -32,13 +32,13 @@ judge-programs-spec =
     (λ c. (c .procedure-count .ensures, λ h. going-start _ h))
     (λ c κs.
     let loop = c .before in
-    let pre = start loop .pre in
-    can-procedure _ pre (loop .loop .inv .1 pre) (omega (arith, loop .loop .inv .0, c .loop-test .taken)))
+    let pre = start loop .pre .0 in
+    (can-procedure _ pre (loop .loop .inv .1 pre) (omega (arith, loop .loop .inv .0, c .loop-test .taken)), start loop .pre .1))
     (λ c. search needs)
     (λ c.
     let called = c .before .before .before in
     let loop = called .before .before in
-    let pre = start loop .pre in
+    let pre = start loop .pre .0 in
     let n = count-fits _ pre (loop .loop .inv .1 pre) (omega (arith, loop .loop .inv .0, called .before .loop-test .taken))
     (called .judge-at .ensures) (c .before .judged .given .1) in
     record { fits = omega (arith, n) })
@@ -46,7 +46,7 @@ judge-programs-spec =
     (λ c.
     let called = c .before .before in
     let loop = called .before .before in
-    let pre = start loop .pre in
+    let pre = start loop .pre .0 in
     going-refused _ pre (loop .loop .inv .1 pre) (omega (arith, loop .loop .inv .0, called .before .loop-test .taken))
     (called .judge-at .ensures) (c .enum-told .given .1))
     (λ c. search needs)
@@ -60,13 +60,13 @@ judge-programs-spec =
     ))
     (λ c κs.
     let loop = c .before in
-    let pre = start loop .pre in
-    can-main _ pre (loop .loop .inv .1 pre) (omega (arith, loop .loop .inv .0, c .loop-test .left)))
+    let pre = start loop .pre .0 in
+    (can-main _ pre (loop .loop .inv .1 pre) (omega (arith, loop .loop .inv .0, c .loop-test .left)), start loop .pre .1))
     (λ c. search needs)
     (λ c.
     let called = c .before .before .before in
     let loop = called .before .before in
-    let pre = start loop .pre in
+    let pre = start loop .pre .0 in
     let n = main-fits _ pre (loop .loop .inv .1 pre) (omega (arith, loop .loop .inv .0, called .before .loop-test .left))
     (called .judge-at2 .ensures) (c .before .main .given .1) in
     record { fits = omega (arith, n) })
@@ -74,12 +74,12 @@ judge-programs-spec =
     (λ c.
     let called = c .before .before .before in
     let loop = called .before .before in
-    let pre = start loop .pre in
+    let pre = start loop .pre .0 in
     main-accepted _ pre (loop .loop .inv .1 pre) (omega (arith, loop .loop .inv .0, called .before .loop-test .left))
     (called .judge-at2 .ensures) (c .before .main .given .1))
     (λ c.
     let called = c .before .before in
     let loop = called .before .before in
-    let pre = start loop .pre in
+    let pre = start loop .pre .0 in
     main-refused _ pre (loop .loop .inv .1 pre) (omega (arith, loop .loop .inv .0, called .before .loop-test .left))
     (called .judge-at2 .ensures) (c .enum-told2 .given .1)))

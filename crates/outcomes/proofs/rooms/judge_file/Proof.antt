@@ -13,7 +13,9 @@ judge-file-spec =
     (λ c. search needs) (λ c. search needs)
     (λ c.
     let judge = c .before .before .before in
-    judged-outcome _ (judge .before .before .before .pre) _ _ (judge .judge-programs .ensures) (c .before .judged .given .1))
+    let asked = judge .before .before .before .before .pre .0 in
+    judged-outcome _ asked _ _ (judge .judge-programs .ensures) (c .before .judged .given .1))
     (λ c.
     let judge = c .before .before .before in
-    judged-outcome _ (judge .before .before .before .pre) _ _ (judge .judge-programs .ensures) (c .before .judged2 .given .1)))
+    let asked = judge .before .before .before .before .pre .0 in
+    judged-outcome _ asked _ _ (judge .judge-programs .ensures) (c .before .judged2 .given .1)))

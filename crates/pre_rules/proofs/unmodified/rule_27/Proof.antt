@@ -12,13 +12,13 @@ rule-27-spec =
     tie.close
     (tie.spec
     (λ c κs.
-    let p = c .before .before .pre in
+    let p = c .before .before .before .pre .0 in
     record { ends-of = p .can .ends-of; first = first-boolean p; second = second-boolean p })
-    (λ c. differs-fails (c .before .before .before .before .pre) (c .before .is-same-assertion .ensures) (not-true _
+    (λ c. differs-fails (c .before .before .before .before .before .pre .0) (c .before .is-same-assertion .ensures) (not-true _
     (c .if1 .taken)))
-    (λ c κs. let c₄ = c .before .before .before .before in
-    record { ends-of = c₄ .pre .can .ends-of; part = first-known (c₄ .pre); command = command-known (c₄ .pre) })
+    (λ c κs. let asked = c .before .before .before .before .before .pre in let p = asked .0 in
+    record { ends-of = p .can .ends-of; masks-of = asked .1; part = first-known p; command = command-known p })
     (λ c κs. search needs)
-    (λ c. let c₁ = c .before in let c₂ = c₁ .before in let c₃ = c₂ .before in let c₆ = c₃ .before .before .before in
-    kept-rule (c₆ .pre) (c₃ .is-same-assertion .ensures) (not-false _ (c₂ .if1 .left)) (c₁ .is-kept .ensures)
+    (λ c. let c₁ = c .before in let c₂ = c₁ .before in let c₃ = c₂ .before in let c₇ = c₃ .before .before .before .before in
+    kept-rule (c₇ .pre .0) (c₃ .is-same-assertion .ensures) (not-false _ (c₂ .if1 .left)) (c₁ .is-kept .ensures)
     (c .condition .ensures)))

@@ -8,13 +8,11 @@ use Rattle.rule_laws.proofs.kept.is_kept.Tie as tie
 returns : tie.Need-returns
 returns c =
     let ended = c .before in
-    let scanned = ended .before in
-    kept-at (scanned .before .end-at .ensures) (scanned .modified .ensures) (ended .end-at2 .ensures)
-    (c .unmarked .ensures)
+    kept-at (ended .before .modified-at .ensures) (ended .end-at .ensures) (c .unmarked .ensures)
 
 pub is-kept-spec : {M : Type 1} → statement M
 is-kept-spec =
     tie.close
     (tie.spec
-    (λ c κs. search needs) (λ c κs. search needs) (λ c κs. search needs) (λ c κs. search needs)
+    (λ c κs. search needs) (λ c κs. search needs) (λ c κs. search needs)
     returns)

@@ -1,0 +1,62 @@
+-- `masks::fill` meets its contract: the masks of the words from a place on are stored, and each turn stores the one before.
+-- The measure is that place. Assumes nothing.
+use native.Mathlib.Omega.{arith}
+use borrow.Author.Needs.{needs}
+use Rattle.masks.proofs.Joined.{with-first}
+use Rattle.masks.proofs.Filling.{Filling, filling-none, filling-more, filling-all, can-mask}
+use Rattle.masks.proofs.fill.Statement.{statement}
+use Rattle.masks.proofs.fill.Tie as tie
+
+abbrev Inv-loop : tie.InvT-loop
+Inv-loop w ends masks₀ n procedures i₀ masks i = Filling w ends masks₀ masks i
+
+abbrev μ-loop : tie.MeasureT-loop
+μ-loop w ends masks₀ n procedures i₀ masks i = i
+
+parts-mask-requires : tie.Need-parts-mask-requires Inv-loop μ-loop
+parts-mask-requires c κs =
+    let test = c .before in
+    let loop = test .before in
+    can-mask _ _ _ (loop .before .before .before .before .pre) (test .loop-test .taken) (loop .loop .inv)
+
+mark-requires : tie.Need-mark-requires Inv-loop μ-loop
+mark-requires c κs =
+    let loop = c .before .before .before .before in
+    omega (arith, loop .before .before .before .before .pre .ends-of .blocks .room)
+
+slice-write-masks : tie.Need-slice-write-masks Inv-loop μ-loop
+slice-write-masks c =
+    let loop = c .before .before .before .before .before in
+    omega (arith, loop .loop .inv .inside, loop .loop .inv .same-length, loop .before .before .before .before .pre .room)
+
+loop-again : tie.Need-loop-again Inv-loop μ-loop
+loop-again c =
+    let test = c .before .before .before .before in
+    let loop = test .before in
+    let pre = loop .before .before .before .before .pre in
+    filling-more _ _ _ pre (test .loop-test .taken) (loop .loop .inv)
+    (with-first _ _ (pre .ends-of) (omega (arith, test .loop-test .taken, loop .loop .inv .inside)) (c .before .before .parts-mask .ensures)
+    (c .mark .ensures))
+    (search needs)
+
+pub fill-spec : {M : Type 1} → statement M
+fill-spec =
+    tie.close
+    (tie.spec
+    Inv-loop
+    μ-loop
+    (λ c. search needs)
+    (λ c. search needs)
+    (λ c. search needs)
+    (λ c. filling-none _ _ _)
+    (λ c. search needs)
+    parts-mask-requires
+    (λ c. search needs)
+    (λ c. omega (arith, c .before .before .before .before .loop .inv .inside))
+    mark-requires
+    (λ c. search needs)
+    slice-write-masks
+    (λ c. search needs)
+    loop-again
+    (λ c. c .before .loop .inv .same-length)
+    (λ c. filling-all _ _ _ (c .loop-test .left) (c .before .loop .inv)))
