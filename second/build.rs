@@ -1,8 +1,10 @@
-//! With the feature `first`, links a first implementation into `compare` and
-//! `bench_check`: SECOND_FIRST_DIR is the folder of its static library,
-//! SECOND_FIRST_LIB the file in it (by default its only `*.a`). The library has
-//! `extern "C" fn flow_check(ptr: *const u8, len: usize) -> u32`. `compare_runs`
-//! and `bench_run` take librunner.a of the same folder, which has `flow_run`.
+//! With the feature `first`, links a first implementation into `compare`,
+//! `compare_calls` and `bench_check`: SECOND_FIRST_DIR is the folder of its
+//! static library, SECOND_FIRST_LIB the file in it (by default its only `*.a`).
+//! The library has `extern "C" fn flow_check(ptr: *const u8, len: usize) -> u32`,
+//! and for `compare_calls` `flow_check_masks` and `flow_put` (bin/first/calls.rs).
+//! `compare_runs` and `bench_run` take librunner.a of the same folder, which has
+//! `flow_run`.
 
 fn main() {
     println!("cargo:rerun-if-changed=build.rs");
@@ -28,8 +30,9 @@ fn main() {
         }
     };
     println!("cargo:rerun-if-changed={}", library.display());
-    println!("cargo:rustc-link-arg-bin=compare={}", library.display());
-    println!("cargo:rustc-link-arg-bin=bench_check={}", library.display());
+    for program in ["compare", "compare_calls", "bench_check"] {
+        println!("cargo:rustc-link-arg-bin={program}={}", library.display());
+    }
     let runner = dir.join("librunner.a");
     println!("cargo:rerun-if-changed={}", runner.display());
     println!("cargo:rustc-link-arg-bin=compare_runs={}", runner.display());

@@ -1,8 +1,9 @@
 //! The fast version against known answers, and the files of growing size.
 
 use second::benchmark::worst::{deepest, KINDS};
-use second::fast::{check, Work};
+use second::fast::{check, check_with_masks, put, Work};
 use second::naive::judge::{self, line_of, Answer};
+use second::tool::calls::{compare_rows, Version};
 use std::path::Path;
 
 fn tests() -> std::path::PathBuf {
@@ -24,6 +25,19 @@ fn rows() {
 }
 
 #[test]
+fn call_rows() {
+    let fast = Version {
+        name: "fast",
+        check_with_masks: |bytes, masks| Some(check_with_masks(bytes, masks, &mut Work::new())),
+        put: |bytes, masks, place, new| Some(put(bytes, masks, place, new, &mut Work::new())),
+    };
+    let text = std::fs::read_to_string(tests().join("calls.tsv")).expect("the rows");
+    let (compared, differ) = compare_rows(&text, &fast).expect("rows of calls");
+    assert!(differ.is_empty(), "{}", differ.join("\n"));
+    assert!(compared > 50);
+}
+
+#[test]
 fn usual_and_worst_files() {
     let mut work = Box::new(Work::new());
     let mut agreed = 0;
@@ -34,6 +48,8 @@ fn usual_and_worst_files() {
             let bytes = std::fs::read(folder.join(fields[0])).expect("a file");
             assert_eq!(line_of(check(&bytes, &mut work)), fields[1], "{}", fields[0]);
             assert_eq!(judge::check(&bytes).line(), fields[1], "{}", fields[0]);
+            let mut masks = vec![u64::MAX; bytes.len() / 4];
+            assert_eq!(line_of(check_with_masks(&bytes, &mut masks, &mut work)), fields[1], "{}, with masks", fields[0]);
             agreed += 1;
         }
     }

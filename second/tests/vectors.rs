@@ -2,6 +2,7 @@
 
 use second::naive::judge::check;
 use second::naive::run::{run, SCALARS};
+use second::tool::calls::{compare_rows, NAIVE};
 use second::tool::rows::{bytes_of_hex, changes_of, store_of};
 use std::path::PathBuf;
 
@@ -57,6 +58,15 @@ fn run_rows() {
     println!("runs.tsv: {agreed} rows agree, {} differ", differ.len());
     assert!(differ.is_empty(), "{}", differ.join("\n"));
     assert!(agreed > 0);
+}
+
+#[test]
+fn call_rows() {
+    let text = std::fs::read_to_string(folder().join("calls.tsv")).expect("a text of vectors");
+    let (compared, differ) = compare_rows(&text, &NAIVE).expect("rows of calls");
+    println!("calls.tsv: {compared} rows, {} differ", differ.len());
+    assert!(differ.is_empty(), "{}", differ.join("\n"));
+    assert!(compared > 50);
 }
 
 fn whole_files(sub: &str) {

@@ -54,7 +54,7 @@ impl Judge<'_> {
             5 => f.kind(c) == ASSERT && f.same_as(p, &[Under(q, c + 1)]),
             31 => f.kind(c) == CALL && f.same(p, f.called(c).pre) && f.same(q, f.called(c).post),
             // rule 10
-            _ => f.same(p, q) && f.identifiers[q] & f.identifiers[c] == 0,
+            _ => f.same(p, q) && f.identifiers[q] & self.modified[c] == 0,
         }
     }
 
@@ -86,7 +86,7 @@ impl Judge<'_> {
         let f = self.parts;
         need(f.one(p).is_some() && f.one(q).is_some(), at)?;
         let e = f.end(q + 1);
-        need(f.equal(f.end(p + 1), e) && f.identifiers[e] & f.identifiers[c] == 0, at)?;
+        need(f.equal(f.end(p + 1), e) && f.identifiers[e] & self.modified[c] == 0, at)?;
         self.precondition(p + 1, c, q + 1, at + 1)
     }
 

@@ -1,25 +1,28 @@
-//! Fast: the check and the runner again, plain and for speed, from document 01 and requests [3], [1], [2] and [4]: what one writes
-//! where nothing has to be proved. Nothing is allocated or cleared: the caller lends the arrays. A part of the file is its place
-//! among the words, a goal is such places, and each part's end and identifiers, and each boolean's plain form, are worked out once,
-//! while it is read.
+//! Fast: the check, the runner and the calls of request [5] again, plain and for speed, from document 01 and requests [3], [1], [2],
+//! [4] and [5]: what one writes where nothing has to be proved. Nothing is allocated or cleared: the caller lends the arrays. A part of
+//! the file is its place among the words, a goal is such places, and each part's end and identifiers, and each boolean's plain form, are
+//! worked out once, while it is read.
 //!
 //! Uses: nothing.
-//! For: the benchmark compares the proved code with it; a third answer where the check and the runner are compared.
+//! For: the benchmark compares the proved code with it; a third answer where the check, the runner and the calls are compared.
 
 mod flow;
 mod implication;
 mod implies;
 mod layout;
+mod masks;
 mod plain;
 mod pre;
 mod read;
 mod run;
 mod sets;
 
+pub use masks::{check_with_masks, put};
 pub use run::run;
 
 use layout::{MOST_PROCEDURES, MOST_WORDS};
 use plain::Plain;
+use read::File;
 
 /// A refusal: number × 65,536 + place. As wide as what a part's reading gives, so that a result is handed back in registers.
 type Refused = u64;
@@ -124,6 +127,8 @@ impl Parts {
 /// The judge of a file that was read.
 struct Judge<'a> {
     parts: &'a Parts,
+    /// At a command's place, what it modifies: as reading found it, or the stored masks.
+    modified: &'a [u64],
     numbers: &'a mut [u8; MOST_WORDS],
 }
 
@@ -141,15 +146,23 @@ fn need(condition: bool, place: usize) -> Judged {
 
 /// The check on bytes: the count of evidence words if accepted, else number × 65,536 + place.
 pub fn check(bytes: &[u8], work: &mut Work) -> u32 {
-    let file = match read::read(bytes, &mut work.parts) {
-        Ok(file) => file,
-        Err(refused) => return refused as u32,
-    };
-    let mut judge = Judge { parts: &work.parts, numbers: &mut work.numbers };
-    let procedures = &work.parts.procedures[..file.procedures];
-    let mut all = procedures.iter().chain(std::iter::once(&file.main));
-    match all.try_for_each(|part| judge.flow(part.pre, part.command, part.post, part.evidence)) {
-        Ok(()) => file.count,
+    match read::read(bytes, &mut work.parts) {
+        Ok(file) => {
+            let Work { parts, numbers } = work;
+            Judge { parts, modified: &parts.identifiers, numbers }.file(&file)
+        }
         Err(refused) => refused as u32,
+    }
+}
+
+impl Judge<'_> {
+    /// The evidence of each procedure, then that of the main program.
+    fn file(&mut self, file: &File) -> u32 {
+        let procedures = &self.parts.procedures[..file.procedures];
+        let mut all = procedures.iter().chain(std::iter::once(&file.main));
+        match all.try_for_each(|part| self.flow(part.pre, part.command, part.post, part.evidence)) {
+            Ok(()) => file.count,
+            Err(refused) => refused as u32,
+        }
     }
 }

@@ -48,7 +48,7 @@ impl Judge<'_> {
             24 => f.kind(c) == ASSIGN && f.is_plain_replaced(phi, post, word(SCALAR, x), c + 1),
             25 => f.kind(c) == ASSIGN_ARRAY && f.is_plain_replaced(phi, post, word(ARRAY, x), c + 1),
             26 => f.kind(c) == ASSERT && f.is_and(phi, post, c + 1, false),
-            27 => f.equal_plain(phi, post) && f.identifiers[post] & f.identifiers[c] == 0,
+            27 => f.equal_plain(phi, post) && f.identifiers[post] & self.modified[c] == 0,
             // rule 29
             _ => f.is_true(phi),
         }

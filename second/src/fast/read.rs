@@ -30,6 +30,12 @@ struct Reader<'a> {
 type Read = Result<u64, Refused>;
 
 pub fn read(bytes: &[u8], parts: &mut Parts) -> Result<File, Refused> {
+    let words = read_words(bytes, parts)?;
+    read_parts(words, parts)
+}
+
+/// Refusals 1 and 2; the words are then in their array, and this is their count.
+pub fn read_words(bytes: &[u8], parts: &mut Parts) -> Result<usize, Refused> {
     let words = bytes.len() / 4;
     if bytes.is_empty() || words > MOST_WORDS || bytes.len() % 4 != 0 {
         return Err(refusal(1, 0));
@@ -40,7 +46,12 @@ pub fn read(bytes: &[u8], parts: &mut Parts) -> Result<File, Refused> {
     if parts.words[0] != word(FILE, words as u32) {
         return Err(refusal(2, 0));
     }
-    let mut reader = Reader { parts, words, at: 1, count: 0, callable: 0, bad_call: usize::MAX, bad_for: usize::MAX };
+    Ok(words)
+}
+
+/// Refusals 3 to 7 and 16 of so many words in their array.
+pub fn read_parts(words: usize, parts: &mut Parts) -> Result<File, Refused> {
+    let mut reader = Reader::from(1, words, parts);
     let file = reader.file()?;
     if reader.at < words {
         return Err(refusal(6, reader.at));
@@ -54,7 +65,18 @@ pub fn read(bytes: &[u8], parts: &mut Parts) -> Result<File, Refused> {
     Ok(file)
 }
 
-impl Reader<'_> {
+/// Whether the words from a place to an end are one whole command without calls, at this depth; what is known of them is then stored.
+pub fn read_command(place: usize, end: usize, depth: u32, parts: &mut Parts) -> bool {
+    let mut reader = Reader::from(place, end, parts);
+    reader.command(depth).is_ok() && reader.at == end
+}
+
+impl<'a> Reader<'a> {
+    /// Of the words from a place to an end.
+    fn from(at: usize, words: usize, parts: &'a mut Parts) -> Reader<'a> {
+        Reader { parts, words, at, count: 0, callable: 0, bad_call: usize::MAX, bad_for: usize::MAX }
+    }
+
     fn file(&mut self) -> Result<File, Refused> {
         let procedures = self.table();
         while self.callable < procedures {

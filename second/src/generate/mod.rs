@@ -1,5 +1,5 @@
 //! Generate: the seeded generator of accepted files, the same with true put in and taken out, mutations, nearly readable files, files
-//! at the limits, and runs.
+//! at the limits, runs, and replacements of commands.
 //!
 //! Uses: layout, naive, tool.
 //! For: the programs that compare, the tests, and rows; any file can be made again by its seed and number.
@@ -13,6 +13,7 @@ pub mod plain;
 pub mod prng;
 pub mod procedures;
 pub mod prove;
+pub mod put_cases;
 pub mod run_cases;
 
 use self::derive::Maker;
@@ -108,23 +109,27 @@ pub enum Kind {
 
 /// File number `i` of a seed, alone: any one can be made again.
 pub fn mixed(seed: u64, i: u64) -> (Kind, Vec<u8>) {
-    let mut rng = file_prng(seed, i);
+    any_file(&mut file_prng(seed, i))
+}
+
+/// A file of any kind.
+fn any_file(rng: &mut Prng) -> (Kind, Vec<u8>) {
     match rng.below(12) {
-        0 | 1 => (Kind::Accepted, accepted(&mut rng)),
-        2 | 3 => (Kind::NearMiss, near_miss(&mut rng)),
+        0 | 1 => (Kind::Accepted, accepted(rng)),
+        2 | 3 => (Kind::NearMiss, near_miss(rng)),
         4..=6 => {
             let base = match rng.below(8) {
-                0 => limit(&mut rng),
-                1 => nearly(&mut rng),
-                2 => plain::tidied(&mut rng),
-                _ => accepted(&mut rng),
+                0 => limit(rng),
+                1 => nearly(rng),
+                2 => plain::tidied(rng),
+                _ => accepted(rng),
             };
-            (Kind::Mutated, mutate(&mut rng, &base))
+            (Kind::Mutated, mutate(rng, &base))
         }
-        9 => (Kind::Tidied, plain::tidied(&mut rng)),
-        10 => (Kind::ByWords, plain::by_words(&mut rng)),
-        7 | 8 => (Kind::Nearly, nearly(&mut rng)),
-        _ => (Kind::Limit, limit(&mut rng)),
+        9 => (Kind::Tidied, plain::tidied(rng)),
+        10 => (Kind::ByWords, plain::by_words(rng)),
+        7 | 8 => (Kind::Nearly, nearly(rng)),
+        _ => (Kind::Limit, limit(rng)),
     }
 }
 

@@ -1,5 +1,5 @@
-//! Refusals 16 and 7, which are of the commands of a file that was read: those of the procedures and of the main program,
-//! and those that evidence carries.
+//! The commands of a file that was read: those of the procedures and of the main program, and those that evidence carries; and
+//! refusals 16 and 7, which are of these.
 
 use super::modified::modified_by;
 use crate::layout::syntax::*;
@@ -28,6 +28,25 @@ fn commands_of(file: &File) -> Vec<(usize, &Command)> {
     let count = file.procedures.len();
     all.push((count, &file.command));
     all.extend(carried_in_flow(&file.evidence).into_iter().map(|command| (count, command)));
+    all
+}
+
+/// Every command of a file in file order, those within others too.
+pub fn all_commands(file: &File) -> Vec<&Command> {
+    commands_of(file).into_iter().flat_map(|(_, command)| with_inner(command)).collect()
+}
+
+/// A command and those within it, in file order.
+pub fn with_inner(command: &Command) -> Vec<&Command> {
+    let mut all = vec![command];
+    match &command.form {
+        Form::Skip | Form::Assert(_) | Form::AssignScalar(..) | Form::AssignArray(..) | Form::Call(_) => {}
+        Form::Sequence(a, b) | Form::If(_, a, b) => {
+            all.extend(with_inner(a));
+            all.extend(with_inner(b));
+        }
+        Form::While(_, body) | Form::For(_, _, body) => all.extend(with_inner(body)),
+    }
     all
 }
 

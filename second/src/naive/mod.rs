@@ -1,12 +1,12 @@
 //! Naive: the second implementation, of the check and of the runner, over trees, each sentence of document 01 and of requests [3]
-//! (procedures), [1] (what a test of the runner works out), [2] (plain antecedents) and [4] (constants by cases) as it stands. It was
-//! written from these alone and shares no code with the proved crates nor with `fast`.
+//! (procedures), [1] (what a test of the runner works out), [2] (plain antecedents), [4] (constants by cases) and [5] (stored
+//! modified sets) as it stands. It was written from these alone and shares no code with the proved crates nor with `fast`.
 //!
 //! Uses: layout.
 //! For: what the proved code and `fast` are compared with; the generator, the viewers and the examples stand on it.
 
 // Refusals 1 to 7, and 16.
-mod commands;
+pub mod commands;
 pub mod read;
 
 // The judge, refusals 8 and 9.
@@ -16,6 +16,9 @@ pub mod modified;
 pub mod plain;
 pub mod replace;
 pub mod sets;
+
+// Stored masks and the workbench call, refusals 17 and 18.
+pub mod masks;
 
 // The runner, refusals 10 to 15.
 pub mod run;

@@ -66,7 +66,7 @@ pub fn modified_by(command: &Command, procedures: &[Procedure]) -> Identifiers {
 }
 
 /// The command and the bodies that it reaches through calls, each once.
-fn reached<'a>(command: &'a Command, procedures: &'a [Procedure]) -> Vec<&'a Command> {
+pub fn reached<'a>(command: &'a Command, procedures: &'a [Procedure]) -> Vec<&'a Command> {
     let mut all = vec![command];
     let mut called = vec![false; procedures.len()];
     let mut next = 0;

@@ -367,13 +367,27 @@ impl Reader<'_> {
     }
 }
 
-/// Refusals 1 to 7, and 16 between 6 and 7.
-pub fn read(bytes: &[u8]) -> Result<File, Refusal> {
+/// Refusals 1 and 2: the words of a file, if word 0 counts them.
+pub fn counted_words(bytes: &[u8]) -> Result<Vec<u32>, Refusal> {
     let words = words_of(bytes)?;
     if words[0] != pack(63, words.len() as u32) {
         return refuse(2, 0);
     }
+    Ok(words)
+}
+
+/// Refusals 1 to 7, and 16 between 6 and 7.
+pub fn read(bytes: &[u8]) -> Result<File, Refusal> {
+    let words = counted_words(bytes)?;
     let file = Reader { words: &words, at: 1 }.file()?;
     check_commands(&file)?;
     Ok(file)
+}
+
+/// The command whose words these bytes are, all of them and no others, read by itself (request [5]).
+pub fn read_command(bytes: &[u8]) -> Option<Command> {
+    let words = words_of(bytes).ok()?;
+    let mut reader = Reader { words: &words, at: 0 };
+    let command = reader.command(1).ok()?;
+    (reader.at == words.len()).then_some(command)
 }

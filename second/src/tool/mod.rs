@@ -2,8 +2,9 @@
 //! writes one line, `NAME: what is wrong`, on standard error, and its exit status is 2.
 //!
 //! Uses: layout, naive.
-//! For: the programs of `src/bin`; and rows of tests as text (`rows`).
+//! For: the programs of `src/bin`; rows of tests as text (`rows`); and the calls of request [5] of any version (`calls`).
 
+pub mod calls;
 pub mod rows;
 
 use crate::layout::words::MOST_BYTES;

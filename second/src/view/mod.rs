@@ -1,12 +1,13 @@
 //! View: files as text for people, and back. Here a file shown word by word: a line is a place, `|`, the word indented by its
 //! depth, and after `#` its role and meaning. The refused word has `>` before its place. `assemble` takes the text back. And a
-//! file's procedures, program and contract alone, in readable notation.
+//! file's procedures, program and contract alone, in readable notation; or what each of its commands modifies.
 //!
 //! Uses: layout, naive.
 //! For: `flowview` and `flowasm`, and the texts of `examples/`.
 
 pub mod annotate;
 pub mod assemble;
+pub mod masks;
 pub mod meaning;
 pub mod show;
 
@@ -204,13 +205,17 @@ fn contract(names: &Names, file: &File) -> String {
     out
 }
 
-/// The answer, then the program and the two sets if there are some: refusals 8 and 9 are of the evidence alone.
-pub fn view_parts(bytes: &[u8], names: &Names) -> String {
+/// The count of bytes and the answer.
+fn headline(bytes: &[u8]) -> String {
     let answer = check(bytes);
     let said = match answer {
         Answer::Accepted(_) => String::new(),
         Answer::Refused(refusal) => format!(": {}", refusal_meaning(refusal.number)),
     };
-    let shown = read(bytes).map_or(String::new(), |file| contract(names, &file));
-    format!("# {} bytes: {}{said}\n{shown}", bytes.len(), answer.line())
+    format!("# {} bytes: {}{said}\n", bytes.len(), answer.line())
+}
+
+/// The answer, then the program and the two sets if there are some: refusals 8 and 9 are of the evidence alone.
+pub fn view_parts(bytes: &[u8], names: &Names) -> String {
+    headline(bytes) + &read(bytes).map_or(String::new(), |file| contract(names, &file))
 }

@@ -12,11 +12,11 @@ pub struct Names {
 pub const NUMBERED: Names = Names { scalars: &[], arrays: &[] };
 
 impl Names {
-    fn scalar(&self, x: u32) -> String {
+    pub fn scalar(&self, x: u32) -> String {
         self.scalars.get(x as usize).map_or(format!("x{x}"), |name| name.to_string())
     }
 
-    fn array(&self, h: u32) -> String {
+    pub fn array(&self, h: u32) -> String {
         self.arrays.get(h as usize).map_or(format!("a{h}"), |name| name.to_string())
     }
 
