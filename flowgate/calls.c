@@ -1,6 +1,6 @@
 /* The library's calls with known answers, and what the header takes them apart into: document 01's rows on a `for` over skip, where the
- * parts of a file stand, and refusals of the runner. It is C and C++ alike. Writes a line for each answer that is wrong; exit status 0
- * if none is. */
+ * parts of a file stand, and refusals of the runner. masks.c has the calls with masks. It is C and C++ alike. Writes a line for each
+ * answer that is wrong; exit status 0 if none is. */
 #include <stdint.h>
 #include <stdio.h>
 #include <string.h>
@@ -157,16 +157,16 @@ static void calls_with_null(void)
     expect("run of bytes", flow_run_bytes(loop, sizeof loop, scalars, SCALARS, values, VALUES, 2), steps_and(2, 0, 0));
 }
 
-/* Sixteen meanings, no two alike, and one text for every other number. */
+/* Eighteen meanings, no two alike, and one text for every other number. */
 static void meanings(void)
 {
     uint32_t i, j;
-    for (i = 0; i <= 17; i++) {
+    for (i = 0; i <= 19; i++) {
         for (j = 1; j < i; j++) {
             expect("meanings that differ", strcmp(flow_meaning(i), flow_meaning(j)) != 0, 1);
         }
     }
-    expect("no meaning", strcmp(flow_meaning(0), flow_meaning(17)) == 0, 1);
+    expect("no meaning", strcmp(flow_meaning(0), flow_meaning(19)) == 0, 1);
     expect("meaning of 8", strcmp(flow_meaning(8), "a rule's condition fails") == 0, 1);
 }
 

@@ -1,6 +1,6 @@
 /* How much stack the library's calls take: `stack ROWS RUNS FOLDER/...`, with the rows and runs that have known answers, and folders of
  * files with theirs in `expected`. To these it adds files in which evidence, expressions or commands nest as deep as may be, also through
- * procedures.
+ * procedures. flow_put is given the longest command that it takes, in its own place.
  *
  * Each call is made in a thread whose stack lies above a page that can't be touched. First the stack is more than enough and filled
  * with a pattern, and the lowest byte that was written says how much the call took. Then it is just what flowcheck.h states. Writes the
@@ -23,10 +23,18 @@ enum { PAGE = 4096, ROOM = 2 * MOST_STACK, PATTERN = 0xa5, BUDGET = 10000 };
 /* A run may be in sixteen procedures at once. */
 enum { MOST_RUN_STACK = (FLOW_MOST_PROCEDURES + 1) * MOST_STACK, MOST_ROOM = 2 * MOST_RUN_STACK };
 
+/* The kinds of words, and the most levels. */
+enum { CONSTANT = 1, SCALAR = 2, OPERATOR = 3, SELECT = 4, LESS = 8, TRUTH = 9, AND = 10, OR = 11, NOT = 12 };
+enum { ARRAY = 16, ZERO = 17, UPDATE = 18 };
+enum { SKIP = 24, SEQUENCE = 25, ASSERT = 26, TO_SCALAR = 27, TO_ARRAY = 28, IF = 29, WHILE = 30, FOR = 31, CALL = 38, TABLE = 62 };
+enum { SET = 32, FLOW = 33, IMPLICATION = 34, BEFORE = 35, FIRST_WORD = 63, DEEPEST = 128 };
+
 /* What is to be called, and the answer. */
-enum call { CHECK, PROGRAM, PRECONDITION, POSTCONDITION, RUN, CALLS };
-static const char *const names[CALLS] = {"flow_check", "flow_program", "flow_precondition", "flow_postcondition", "flow_run"};
-static const size_t stated[CALLS] = {FLOW_CHECK_STACK, FLOW_CHECK_STACK, FLOW_CHECK_STACK, FLOW_CHECK_STACK, FLOW_RUN_STACK};
+enum call { CHECK, PROGRAM, PRECONDITION, POSTCONDITION, RUN, CHECK_MASKS, PUT, CALLS };
+static const char *const names[CALLS]
+    = {"flow_check", "flow_program", "flow_precondition", "flow_postcondition", "flow_run", "flow_check_masks", "flow_put"};
+static const size_t stated[CALLS] = {FLOW_CHECK_STACK, FLOW_CHECK_STACK, FLOW_CHECK_STACK, FLOW_CHECK_STACK, FLOW_RUN_STACK,
+    FLOW_CHECK_MASKS_STACK, FLOW_PUT_STACK};
 static uint32_t (*const calls[RUN])(const uint8_t *, size_t) = {flow_check, flow_program, flow_precondition, flow_postcondition};
 static enum call call;
 static uint8_t file[MOST_BYTES + 4];
@@ -34,7 +42,13 @@ static size_t bytes;
 static size_t budget;
 static int64_t scalars[SCALARS];
 static int64_t values[VALUES];
+static uint64_t masks[FLOW_MOST_WORDS];
 static uint64_t answer;
+
+/* What flow_put is given beside the file: a place, and the words that stand there. */
+static size_t place;
+static uint8_t command[MOST_BYTES];
+static size_t command_bytes;
 
 /* Where the thread's stack is, how much of it is filled with the pattern, and where in it the call was made; `above` is what the thread
  * takes above that. */
@@ -66,6 +80,10 @@ static void *make_call(void *unused)
     frame = __builtin_frame_address(0);
     if (call == RUN) {
         answer = flow_run(file, bytes, scalars, SCALARS, values, VALUES, budget);
+    } else if (call == CHECK_MASKS) {
+        answer = flow_check_masks(file, bytes, masks, FLOW_MOST_WORDS);
+    } else if (call == PUT) {
+        answer = flow_put(file, bytes, masks, FLOW_MOST_WORDS, place, command, command_bytes);
     } else {
         answer = calls[call](file, bytes);
     }
@@ -128,7 +146,74 @@ static void try(enum call which, const char *name, const uint64_t *due)
     }
 }
 
-/* Makes the check and the calls for the parts, which are 0 for a refused file. */
+/* The operands of a word in a skip, assert or assignment of a file that reads. */
+static int operands(unsigned kind)
+{
+    switch (kind) {
+    case UPDATE: return 3;
+    case OPERATOR:
+    case SELECT:
+    case LESS:
+    case AND:
+    case OR: return 2;
+    case NOT:
+    case ASSERT:
+    case TO_SCALAR:
+    case TO_ARRAY: return 1;
+    default: return 0;
+    }
+}
+
+/* The kind of the word at a place. */
+static unsigned kind_at(size_t at)
+{
+    return file[4 * at + 3] >> 2;
+}
+
+/* The words of the command at a place. */
+static size_t length_at(size_t at)
+{
+    size_t length = 0;
+    int due = 1;
+
+    for (; due > 0 && 4 * (at + length) < bytes; length++) {
+        due += operands(kind_at(at + length)) - 1;
+    }
+    return length;
+}
+
+/* Finds the longest skip, assert or assignment of a file that reads, and of several the last. */
+static void find_command(void)
+{
+    size_t at;
+
+    command_bytes = 0;
+    for (at = 1; 4 * at < bytes; at++) {
+        unsigned kind = kind_at(at);
+
+        if ((kind == SKIP || (kind >= ASSERT && kind <= TO_ARRAY)) && 4 * length_at(at) >= command_bytes) {
+            place = at;
+            command_bytes = 4 * length_at(at);
+        }
+    }
+    memcpy(command, file + 4 * place, command_bytes);
+}
+
+/* Puts the words that are there: a file that reads then takes them, and one without such a command is refused. */
+static void try_put(const char *name, uint64_t due)
+{
+    uint64_t put = due;
+
+    place = 0;
+    command_bytes = 0;
+    if (flow_stored((uint32_t)due)) {
+        find_command();
+        put = command_bytes > 0 ? 0 : 18 << 16;
+    }
+    try(PUT, name, &put);
+}
+
+/* Makes the checks, the calls for the parts, which are 0 for a refused file, and flow_put. */
 static void try_check(const char *name, const uint64_t *due)
 {
     static const uint64_t none = 0;
@@ -138,6 +223,8 @@ static void try_check(const char *name, const uint64_t *due)
     for (i = PROGRAM; i <= POSTCONDITION; i++) {
         try((enum call)i, name, *due >> 16 ? &none : NULL);
     }
+    try(CHECK_MASKS, name, due);
+    try_put(name, *due);
 }
 
 /* Runs the file from a store that is 0 but for the bounds of `for` loops. */
@@ -265,11 +352,6 @@ static void try_file(char *at)
 }
 
 /* ---- files as deep as may be, word by word */
-
-enum { CONSTANT = 1, SCALAR = 2, OPERATOR = 3, SELECT = 4, LESS = 8, TRUTH = 9, AND = 10, OR = 11, NOT = 12 };
-enum { ARRAY = 16, ZERO = 17, UPDATE = 18 };
-enum { SKIP = 24, SEQUENCE = 25, ASSERT = 26, TO_SCALAR = 27, TO_ARRAY = 28, IF = 29, WHILE = 30, FOR = 31, CALL = 38, TABLE = 62 };
-enum { SET = 32, FLOW = 33, IMPLICATION = 34, BEFORE = 35, FIRST_WORD = 63, DEEPEST = 128 };
 
 static void put(uint32_t kind, uint32_t payload)
 {

@@ -1,9 +1,10 @@
 /* The proved calls for C and C++, and small functions that take their answers apart. `./library` makes target/c/lib/libflowcheck.a
  * and puts this header into target/c/include; `./library --prefix DIR` installs both. Link for x86-64.
  *
- * The calls end for every input, allocate nothing, keep nothing, and write to the lent store alone. What is lent may not overlap, and
- * no pointer may be null, also where its count is 0; the functions with `_bytes` in their names take null for no bytes. A place is that
- * of a 32-bit word of the file, from 0. */
+ * The calls end for every input, allocate nothing, keep nothing, and write only to what is lent without const: flow_run to the store,
+ * flow_check_masks to the masks, flow_put to the masks and the file. What is lent may not overlap, and no pointer may be null, also where
+ * its count is 0; the functions with `_bytes` in their names take null where nothing is lent. A place is that of a 32-bit word of the
+ * file, from 0. */
 #ifndef FLOWCHECK_H
 #define FLOWCHECK_H
 
@@ -12,14 +13,16 @@
 
 /* The version of these calls and of what their numbers mean. It is written here alone. */
 #define FLOWCHECK_VERSION_MAJOR 1
-#define FLOWCHECK_VERSION_MINOR 3
+#define FLOWCHECK_VERSION_MINOR 4
 #define FLOWCHECK_VERSION_PATCH 0
 #define FLOWCHECK_QUOTE(a, b, c) #a "." #b "." #c
 #define FLOWCHECK_QUOTED(a, b, c) FLOWCHECK_QUOTE(a, b, c)
 #define FLOWCHECK_VERSION FLOWCHECK_QUOTED(FLOWCHECK_VERSION_MAJOR, FLOWCHECK_VERSION_MINOR, FLOWCHECK_VERSION_PATCH)
 
-/* The most bytes of a file; the most procedures in it; the size of the runner's store; its largest budget. */
+/* The most bytes of a file; the most words, so that as many masks are enough for every file; the most procedures in it; the size of the
+ * runner's store; its largest budget. */
 #define FLOW_MOST_BYTES 32768
+#define FLOW_MOST_WORDS 8192
 #define FLOW_MOST_PROCEDURES 16
 #define FLOW_SCALARS 32
 #define FLOW_ARRAYS 32
@@ -31,6 +34,8 @@
  * for the parts of a file take what flow_check takes. Measured on files that nest as deep as the layout allows, and rounded up
  * (flowgate/stack.c); not proved. */
 #define FLOW_CHECK_STACK 212992
+#define FLOW_CHECK_MASKS_STACK 212992
+#define FLOW_PUT_STACK 122880
 #define FLOW_RUN_STACK 1425408
 
 #ifdef __cplusplus
@@ -41,6 +46,25 @@ extern "C" {
  * number one of 1 to 9 and 16 (flow_meaning). Antecedents, and the assertions of rules 20 to 32, are compared without their "true and"
  * and "and true"; consequents are compared by words. */
 uint32_t flow_check(const uint8_t *file, size_t count);
+
+/* Checks the file as flow_check does, and stores in the `n` lent numbers what its commands modify: the number at place p becomes the mask
+ * of word p. The mask of a command's first word, in the main program, in a procedure or in a command that evidence carries, has bit i if
+ * the command modifies scalar i and bit 32 + i if it modifies array i; a call modifies what its procedure's body modifies, a `for` its q as
+ * well. The mask of every other word is 0. The lent numbers are written and never read.
+ * Answer: 17 at place 0 if 1 and 2 pass and `n` is less than the words of the file, else that of flow_check, in the same form.
+ * Accepted, or refused by 8 or 9: the first count / 4 numbers are the masks, and those past them are as they were lent. Refused by 1 to
+ * 7, 16 or 17: all are as they were lent. */
+uint32_t flow_check_masks(const uint8_t *file, size_t count, uint64_t *masks, size_t n);
+
+/* Puts the command of `k` bytes in the place of the one whose first word is at `place`. Each is one whole skip, assert or assignment, and
+ * they have equal length; the old one may stand in the main program, in a procedure or in a command that evidence carries. The new one may
+ * have the words of the old one, but `command` may not point into `file`. The lent numbers are written and never read.
+ * Answer: 0 if it was put. Then the file has the new words, the first count / 4 numbers are the masks of the file so changed, and those
+ * past them are as they were lent. Else number * 65,536 + place, the file and all numbers as they were lent: first the refusals of the
+ * file as it was lent, 1, 2, 17 (as for flow_check_masks), 3 to 6, 16 and 7; then 18 at place 0, if no such command starts at `place`, the
+ * `k` bytes are not the words of just one such command, the lengths differ, or the file so changed would not be read: a new word would be
+ * deeper than 128 there, or a `for` around it, also through calls, would be refused by 7. Evidence is not judged: no 8 and no 9. */
+uint32_t flow_put(uint8_t *file, size_t count, uint64_t *masks, size_t n, size_t place, const uint8_t *command, size_t k);
 
 /* Where the program, the precondition and the postcondition of an accepted file stand: the place of the part's first word * 65,536 + the
  * place past its last. 0 if the file is refused. They are those of the main program: what it calls stands before it, from word 1 on (62:k
@@ -61,8 +85,8 @@ uint64_t flow_run(const uint8_t *file, size_t count, int64_t *scalars, size_t n,
 }
 #endif
 
-/* What the number of a refusal means. They are tried in this order, but 3 to 5 at each word in file order, 16 after 6, and 8 and 9 at
- * each evidence word. docs/FORMAT.md has the usual causes. */
+/* What the number of a refusal means. They are tried in this order, but 17 after 2, 3 to 5 at each word in file order, 16 after 6, 18
+ * after 7, and 8 and 9 at each evidence word. docs/FORMAT.md has the usual causes. */
 static inline const char *flow_meaning(uint32_t number)
 {
     switch (number) {
@@ -82,12 +106,15 @@ static inline const char *flow_meaning(uint32_t number)
     case 14: return "a value leaves the signed 64-bit range";
     case 15: return "an index is outside 0 to 63";
     case 16: return "a call's number is not below its own procedure's, or not in the table"; /* place of the first such call */
+    case 17: return "fewer masks are lent than the file has words"; /* place 0 */
+    case 18: /* place 0 */
+        return "the place or the new command is no skip, assert or assignment of equal length, or the changed file would not be read";
     default: return "no refusal has this number";
     }
 }
 
-/* Of an answer of flow_check: whether the file is accepted; the count of its evidence words, if so; the refusal's number (0: none) and
- * place, if not. */
+/* Of an answer of flow_check or flow_check_masks: whether the file is accepted; the count of its evidence words, if so; the refusal's
+ * number (0: none) and place, if not. flow_number and flow_place are for answers of flow_put too. */
 static inline int flow_accepted(uint32_t answer)
 {
     return answer < 65536;
@@ -103,6 +130,27 @@ static inline uint32_t flow_number(uint32_t answer)
 static inline uint32_t flow_place(uint32_t answer)
 {
     return flow_accepted(answer) ? 0 : answer & 65535;
+}
+
+/* Of an answer of flow_check_masks: whether the masks were stored. Of one of flow_put: whether the command was put, and so the file
+ * and the masks are changed. */
+static inline int flow_stored(uint32_t answer)
+{
+    return flow_accepted(answer) || flow_number(answer) == 8 || flow_number(answer) == 9;
+}
+static inline int flow_was_put(uint32_t answer)
+{
+    return answer == 0;
+}
+
+/* Of a mask: whether the command modifies this scalar, or this array. */
+static inline int flow_modifies_scalar(uint64_t mask, uint32_t scalar)
+{
+    return scalar < FLOW_SCALARS && (mask >> scalar & 1) != 0;
+}
+static inline int flow_modifies_array(uint64_t mask, uint32_t array)
+{
+    return array < FLOW_ARRAYS && (mask >> (FLOW_SCALARS + array) & 1) != 0;
 }
 
 /* Of an answer of flow_program, flow_precondition or flow_postcondition: the place of the first word, and the one past the last. */
@@ -161,6 +209,19 @@ static inline uint64_t flow_run_bytes(const uint8_t *file, size_t count, int64_t
     int64_t none[2] = {0, 0};
     return flow_run(flow_lent(file), file ? count : 0, scalars ? scalars : none, scalars ? n : 0, values ? values : none + 1,
         values ? k : 0, budget);
+}
+static inline uint32_t flow_check_masks_bytes(const uint8_t *file, size_t count, uint64_t *masks, size_t n)
+{
+    uint64_t none = 0;
+    return flow_check_masks(flow_lent(file), file ? count : 0, masks ? masks : &none, masks ? n : 0);
+}
+static inline uint32_t flow_put_bytes(uint8_t *file, size_t count, uint64_t *masks, size_t n, size_t place, const uint8_t *command,
+    size_t k)
+{
+    uint8_t no_file = 0;
+    uint64_t none = 0;
+    return flow_put(file ? file : &no_file, file ? count : 0, masks ? masks : &none, masks ? n : 0, place, flow_lent(command),
+        command ? k : 0);
 }
 
 #endif

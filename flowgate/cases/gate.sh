@@ -131,6 +131,26 @@ all_rows() {
     fi
 }
 
+# format_call CALL FILE: a line of docs/FORMAT.md with masks, `masks WORDS gives ANSWER` or `put WORDS at PLACE WORDS gives ANSWER`, where
+# the answer has the masks, in hexadecimal
+format_call() {
+    asked=${2%% gives *}
+    words ${asked%% at *} > file
+    set -- "$1" "$2" file
+    case $1$asked in
+        put*" at "*)
+            asked=${asked##* at }
+            words ${asked#* } > command
+            set -- "$1" "$2" file "${asked%% *}" command
+            ;;
+        put* | *" at "*) wrong "docs/FORMAT.md: $1 $2" ;;
+    esac
+    echo "${2##* gives }" | sed 's/ *$//' > due
+    shift 2
+    "$bin/numbers" "$@" | diff due - || wrong "docs/FORMAT.md: $file"
+    calls=$((calls + 1))
+}
+
 # the files written out in docs/FORMAT.md: by words up to `gives`, and the one in hexadecimal, which is that of rule 3
 format_files() {
     program=flowgate
@@ -138,7 +158,14 @@ format_files() {
     cmp hex copy || wrong "docs/FORMAT.md: the file in hexadecimal"
     awk '/^```/ { block = !block; next } block { sub(/ *#.*/, ""); printf "%s ", $0 } block && / gives / { print "" }' "$format" > table
     count=0
+    calls=0
     while read -r rule file; do
+        case $rule in
+            masks | put)
+                format_call "$rule" "$file"
+                continue
+                ;;
+        esac
         words ${file%% gives *} > file
         case $rule in
             *:*) has=" $rule " ;;
@@ -153,8 +180,8 @@ format_files() {
         diff due got || wrong "docs/FORMAT.md: $file"
         count=$((count + 1))
     done < table
-    tried "$count"
-    if [ "$count" -lt 64 ]; then
-        wrong "docs/FORMAT.md: it has $count files"
+    tried $((count + calls))
+    if [ "$count" -lt 64 ] || [ "$calls" -lt 10 ]; then
+        wrong "docs/FORMAT.md: it has $count files and $calls calls"
     fi
 }
