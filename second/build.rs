@@ -1,8 +1,8 @@
 //! With the feature `first`, links a first implementation into `compare`,
-//! `compare_calls` and `bench_check`: SECOND_FIRST_DIR is the folder of its
-//! static library, SECOND_FIRST_LIB the file in it (by default its only `*.a`).
+//! `compare_calls`, `bench_check` and `bench_calls`: SECOND_FIRST_DIR is the folder
+//! of its static library, SECOND_FIRST_LIB the file in it (by default its only `*.a`).
 //! The library has `extern "C" fn flow_check(ptr: *const u8, len: usize) -> u32`,
-//! and for `compare_calls` `flow_check_masks` and `flow_put` (bin/first/calls.rs).
+//! and for those of calls `flow_check_masks` and `flow_put` (bin/first/calls.rs).
 //! `compare_runs` and `bench_run` take librunner.a of the same folder, which has
 //! `flow_run`.
 
@@ -30,7 +30,7 @@ fn main() {
         }
     };
     println!("cargo:rerun-if-changed={}", library.display());
-    for program in ["compare", "compare_calls", "bench_check"] {
+    for program in ["compare", "compare_calls", "bench_check", "bench_calls"] {
         println!("cargo:rustc-link-arg-bin={program}={}", library.display());
     }
     let runner = dir.join("librunner.a");

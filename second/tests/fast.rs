@@ -1,6 +1,6 @@
 //! The fast version against known answers, and the files of growing size.
 
-use second::benchmark::worst::{deepest, KINDS};
+use second::benchmark::worst::{deepest, without_assignments, KINDS};
 use second::fast::{check, check_with_masks, put, Work};
 use second::naive::judge::{self, line_of, Answer};
 use second::tool::calls::{compare_rows, Version};
@@ -54,6 +54,25 @@ fn usual_and_worst_files() {
         }
     }
     assert_eq!(agreed, 35);
+}
+
+/// What the benchmark of the check with masks compares: a file, and one as long that is accepted alike and modifies nothing.
+#[test]
+fn worst_files_without_assignments() {
+    let mut work = Box::new(Work::new());
+    for name in ["w09-modified.bin", "w10-halves.bin", "w11-modified-one.bin"] {
+        let bytes = std::fs::read(tests().join("worst").join(name)).expect("a file");
+        let other = without_assignments(&bytes);
+        assert_eq!(other.len(), bytes.len(), "{name}");
+        let answer = judge::check(&bytes);
+        assert!(matches!(answer, Answer::Accepted(_)), "{name}: {}", answer.line());
+        let modifies = [bytes, other].map(|bytes| {
+            let mut masks = vec![u64::MAX; bytes.len() / 4];
+            assert_eq!(check_with_masks(&bytes, &mut masks, &mut work), answer.packed(), "{name}");
+            masks.iter().any(|mask| *mask != 0)
+        });
+        assert_eq!(modifies, [true, false], "{name}");
+    }
 }
 
 #[test]

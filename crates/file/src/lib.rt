@@ -43,7 +43,7 @@ fn fill_table(w: &[u32], table: &mut [u32])
 }
 
 // Refusal 7, of words that refusals 2 to 6 and 16 let pass; their table is filled.
-fn read_steady(w: &[u32], table: &mut [u32], context: Context, places: Places) -> Layout
+pub fn read_steady(w: &[u32], table: &mut [u32], context: Context, places: Places) -> Layout
     requires { ⌜ CallsRight (now w) context places (now table) × TableRoom (now w) (now table) ⌝ }
     ensures { λ r. ⌜ Tabled (now (w .entry)) context r (now (table .exit)) ⌝ }
 {

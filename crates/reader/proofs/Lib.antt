@@ -8,6 +8,7 @@
 --     ProgramParts    the places of a program's parts
 --     Programs        where procedures and the main program start
 --     Whole           a whole file
+--     Kept            a command in the place of another is read with all that stands around it
 pub mod Walks
 pub mod Forward
 pub mod Leaving
@@ -17,3 +18,4 @@ pub mod Contexts
 pub mod ProgramParts
 pub mod Programs
 pub mod Whole
+pub mod Kept

@@ -48,12 +48,12 @@ prepend-both : (l m : List ℕ) (t : Trace) → prepend l (prepend m t) ≡ prep
 prepend-both l m (ends k s) = ap (λ (x : List ℕ). ends x s) (sym (append-assoc l m k))
 prepend-both l m (stops x) = refl
 
-abbrev onPlaces : Layout → (Places → Trace) → Trace
+abbrev pub onPlaces : Layout → (Places → Trace) → Trace
 onPlaces (Found s) f = f s
 onPlaces (Refused x) f = stops x
 
 -- a main program at the places s
-abbrev mainAt : Places → Trace
+abbrev pub mainAt : Places → Trace
 mainAt s = ends (s .start ∷ []) s
 
 module _ (w : List ℕ) where
@@ -72,7 +72,7 @@ module _ (w : List ℕ) where
       go (read f q) = refl
       go (fault n q) = refl
 
-  trace-main : (Γ : Context) (at : ℕ) → traceOf (programs Γ w 0 at) ≡ onPlaces (programLayout (program Γ w at)) mainAt
+  pub trace-main : (Γ : Context) (at : ℕ) → traceOf (programs Γ w 0 at) ≡ onPlaces (programLayout (program Γ w at)) mainAt
   unfolding programs
   trace-main Γ at = go (program Γ w at)
     where
@@ -106,10 +106,10 @@ module _ (w : List ℕ) where
       (program-same w Γ Δ e at)
 
   -- a procedure at the places s, then k more and the main program
-  abbrev procedureAt : Context → ℕ → Places → Trace
+  abbrev pub procedureAt : Context → ℕ → Places → Trace
   procedureAt Γ k s = prepend (s .start ∷ []) (traceOf (programs Γ w k (s .end)))
 
-  trace-more : (Γ : Context) (k at : ℕ) →
+  pub trace-more : (Γ : Context) (k at : ℕ) →
       traceOf (programs Γ w (suc k) at) ≡ onPlaces (programLayout (program Γ w at)) (procedureAt Γ k)
   unfolding programs
   trace-more Γ k at = go (program Γ w at)

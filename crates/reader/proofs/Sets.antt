@@ -21,7 +21,7 @@ pub no-kind : (file : List ℕ) (at : ℕ) → length file ≤ at → 0 ≡ kind
 no-kind file at h = rw (List·getD-eq-default file 0 h)
 
 module _ {A : Type 0} (x : Reader A) where
-  several-walk : (n at : ℕ) → walkOf (several (suc n) x at) ≡ onward (walkOf (x at)) (λ p. walkOf (several n x p))
+  pub several-walk : (n at : ℕ) → walkOf (several (suc n) x at) ≡ onward (walkOf (x at)) (λ p. walkOf (several n x p))
   unfolding several
   several-walk n at = go (x at)
     where

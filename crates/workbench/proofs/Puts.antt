@@ -3,15 +3,16 @@
 --     refused-put, few-put, unread-put       a refusal changes nothing; 17; the file's own
 --     part-put, old-put, changed-unread      18: the new bytes are no words; the old command; the changed file is not read
 --     done                                   the new command stands in the file
---     finish-not, finish-done                the new command is none; it is one
---     change-unread                          the changed file is not read
+--     finish-done                            the new command is one
+--     change-not, change-unread              the new command is none; the changed file is not read
 --     replace-past, replace-part, replace-not
 --                                            the old command is none, or of another length
---     can-store, can-table, can-finish, can-change, can-replace
+--     can-store, can-table, can-finish, can-change, can-replace, was-right
 --                                            what the next step asks for
 use mathlib.Core.Path.{_≡_, refl, sym, ap, subst, _∙_}
 use mathlib.Core.Bool.{Bool, true, false, _&&_}
 use mathlib.Core.List.{List}
+use mathlib.Core.Option.{Option, none, some}
 use Prim.Native.Nat.{ℕ, _+_, _*_, _-_, _/_, _%_, _≤_}
 use native.Mathlib.Omega.{arith}
 use borrow.Author.Tests.{eq-eqb, ne-eqb}
@@ -19,15 +20,20 @@ use lib.Dec.{eqb}
 use borrow.Rule.Slice.PartMut.{midOf, putMid}
 use lib.ListN.{length, take}
 use Rattle.rules.specs.Context.{Limits, alone}
-use Rattle.layout.specs.Bytes.{wordsOf}
-use Rattle.layout.specs.Reading.{Reading, read, fault}
+use Rattle.layout.specs.Bytes.{wordsOf, wordCount}
+use Rattle.layout.specs.Reading.{Reading, read, fault, onRead, firstPlace}
 use Rattle.layout.specs.Read.{command}
-use Rattle.layout.specs.File.{File, badLength, fileOf, wordsRead}
+use Rattle.layout.specs.Program.{afterAll}
+use Rattle.layout.specs.Call.{wrongCall}
+use Rattle.layout.specs.For.{unsteadyAt}
+use Rattle.layout.specs.File.{File, badLength, steadyFile, callsTested, fileOf, wordsRead}
 use Rattle.words.proofs.Loading.{words-length}
 use Rattle.words.specs.Load.{Loaded}
 use Rattle.words.proofs.Lengths.{good-length, good-file}
 use Rattle.ends.specs.Ends.{EndsOf}
+use Rattle.scan.specs.Programs.{StartsListed}
 use Rattle.scan.specs.Steady.{fileContext}
+use Rattle.scan.proofs.WrongCalls.{wrong-calls}
 use Rattle.masks.specs.Masks.{commandAt, stored}
 use Rattle.masks.specs.WithMasks.{fewNumbers, readLent, storedIf}
 use Rattle.masks.specs.Filled.{CanStore, Filled}
@@ -36,24 +42,43 @@ use Rattle.masks.proofs.Stored.{filled-stored}
 use Rattle.context.specs.Contexts.{limitsOf, refusal}
 use Rattle.context.specs.declared.Context.{Context}
 use Rattle.context.specs.declared.Refusal.{Refusal}
-use Rattle.reader.specs.File.{placesOf}
+use Rattle.reader.specs.File.{placesOf, readOf}
+use Rattle.reader.proofs.Whole.{words-read}
 use Rattle.reader.specs.declared.Places.{Places}
 use Rattle.reader.specs.declared.Layout.{Layout}
 use Rattle.reader.specs.declared.Layout.the-variants as Layout
-use Rattle.file.specs.Found.{TableRoom, Tabled, FileRead}
+use Rattle.file.specs.Found.{CallsRight, TableRoom, Tabled, FileRead}
 use Rattle.file.proofs.Found.{found-read}
 use Rattle.workbench.specs.Put.{simpleTo, spliced, changed, replaceable, orUnread, readPut, answerOf, fileAfter, PutDone}
-use Rattle.workbench.specs.Simple.{SimpleAt}
-use Rattle.workbench.specs.Steps.{OldRead, CanReplace, Simple, CanChange, CanFinish}
+use Rattle.workbench.specs.Simple.{SimpleAt, readTo}
+use Rattle.workbench.specs.Steps.{OldRead, CanReplace, Simple, CanChange, ReadAgain, CanFinish}
+use Rattle.workbench.specs.Extent.{ExtentOf}
+use Rattle.workbench.specs.declared.extent.Extent.{Extent}
 use Rattle.workbench.specs.declared.Replaced.{Replaced}
 use Rattle.workbench.specs.declared.Replaced.the-variants.{Done, Refused}
 use Rattle.workbench.proofs.Splice.{spliced-length, spliced-in, spliced-words, loaded-at, front-spliced}
 use Rattle.workbench.proofs.SimpleWords.{simple-past}
 use Rattle.workbench.proofs.Shift.{shifted-simple, simple-inside}
+use Rattle.workbench.proofs.Again.{read-simple-to, spliced-right}
 
 and-none : (a : Bool) {b : Bool} → b ≡ false → (a && b) ≡ false
 and-none true h = h
 and-none false h = refl
+
+-- what refusals 16 and 7 let pass
+called-read : (limits : Limits) (w : List ℕ) (x : Reading File) {f : File} {p : ℕ} → onRead x (callsTested limits w) ≡ read f p → x ≡ read f p
+unfolding callsTested steadyFile
+called-read limits w (read g q) {f} {p} e =
+    go (firstPlace (wrongCall w (g .procedures)) (wordCount w) 0)
+    (firstPlace (unsteadyAt (afterAll (alone limits) (g .procedures)) w) (wordCount w) 0) e
+  where
+    go : (a b : Option ℕ) →
+        _≡_ {A = Reading File} (elim a [ none ↦ elim b [ none ↦ read g q | some at ↦ fault 7 at ] | some at ↦ fault 16 at ]) (read f p) →
+        read g q ≡ read f p
+    go none none e = e
+    go none (some at) e = absurd (let z : _≡_ {A = ℕ} 0 1 = cc in omega arith)
+    go (some at) b e = absurd (let z : _≡_ {A = ℕ} 0 1 = cc in omega arith)
+called-read limits w (fault n q) e = absurd (let z : _≡_ {A = ℕ} 0 1 = cc in omega arith)
 
 -- what was not read
 refused-read : (x : Reading File) (y : Refusal) → Layout.Refused y ≡ placesOf x → x ≡ fault (y .number) (y .place)
@@ -174,15 +199,6 @@ module _ {limits : Limits} {bytes : List ℕ} {n place : ℕ} {new : List ℕ} (
 -- ---- the changed file was read
 module _ {limits : Limits} {bytes : List ℕ} (lent : List ℕ) {place : ℕ} {new w table : List ℕ}
     (c : CanFinish limits bytes (length lent) place new w table) where
-  -- whether the new command is one
-  new-is : {b : Bool} → SimpleAt w table place (place + length new / 4) b →
-      simpleTo (command (alone limits) (wordsOf new) (limits .depth) 0) (length new / 4) ≡ b
-  new-is h = new-simple (c .simple) (c .contents) (c .loaded) ∙ sym (h .is limits (c .contents) (c .masked))
-
-  pub finish-not : {b : Bool} {r : Replaced} → SimpleAt w table place (place + length new / 4) b → b ≡ false → r ≡ Refused (refusal 18 0) →
-      PutDone limits bytes lent place new r bytes lent
-  finish-not h e = new-not limits bytes lent place new (c .simple .old) (new-is h ∙ e)
-
   pub can-store : CanStore w table lent
   can-store = record {
     ends-of = c .ends-of;
@@ -192,13 +208,13 @@ module _ {limits : Limits} {bytes : List ℕ} (lent : List ℕ) {place : ℕ} {n
         omega (arith, k, ap length (c .loaded), words-length (changed bytes place new), words-length bytes, changed-length s);
   }
 
-  pub finish-done : {b : Bool} {left numbers : List ℕ} → SimpleAt w table place (place + length new / 4) b → b ≡ true →
-      Filled w table lent numbers → left ≡ changed bytes place new → PutDone limits bytes lent place new Done left numbers
-  finish-done {numbers = numbers} h e f a =
+  pub finish-done : {left numbers : List ℕ} → Filled w table lent numbers → left ≡ changed bytes place new →
+      PutDone limits bytes lent place new Done left numbers
+  finish-done {numbers = numbers} f a =
       let s = c .simple in
       let o = s .old in
       let m = filled-stored w table limits (c .contents) (c .ends-of) (c .masked) (can-store .room) f in
-      done limits bytes lent place new o (replaceable-both limits bytes lent place new o (s .words) (s .simple) (new-is h ∙ e))
+      done limits bytes lent place new o (replaceable-both limits bytes lent place new o (s .words) (s .simple) (c .new-simple))
       (changed-file s ∙ ap (wordsRead limits) (sym (c .loaded)) ∙ c .was-read) a
       (subst (λ k. numbers ≡ stored limits k (c .contents) lent) (c .loaded) m)
 
@@ -211,13 +227,26 @@ module _ (Γ : Context) {bytes : List ℕ} (lent : List ℕ) {place : ℕ} {new 
       let n : length w ≡ length bytes / 4 = ap length (c .loaded) ∙ words-length (changed bytes place new) ∙ ap (λ k. k / 4) (changed-length s) in
       record { size = omega (arith, n, good-length bytes (good s)); room = c .wide }
 
-  pub can-finish : {after : List ℕ} {r : Layout} {s : Places} → Tabled w Γ r after → r ≡ Layout.Found s →
-      CanFinish (limitsOf Γ) bytes (length lent) place new w after
-  can-finish {r = r} {s} t e =
+  -- whether the new command is one; b is what was returned for it
+  new-is : {b : Bool} → b ≡ readTo w (Γ .depth) place (place + length new / 4) →
+      simpleTo (command (alone (limitsOf Γ)) (wordsOf new) (Γ .depth) 0) (length new / 4) ≡ b
+  new-is h =
+      let f = c .simple .old .contents in
+      new-simple (c .simple) f (c .loaded)
+      ∙ sym (h ∙ read-simple-to w (fileContext (limitsOf Γ) f) (Γ .depth) place (place + length new / 4))
+
+  pub change-not : {b : Bool} {r : Replaced} → b ≡ readTo w (Γ .depth) place (place + length new / 4) → b ≡ false →
+      r ≡ Refused (refusal 18 0) → PutDone (limitsOf Γ) bytes lent place new r bytes lent
+  change-not h e = new-not (limitsOf Γ) bytes lent place new (c .simple .old) (new-is h ∙ e)
+
+  pub can-finish : {b : Bool} {after : List ℕ} {r : Layout} {s : Places} → b ≡ readTo w (Γ .depth) place (place + length new / 4) →
+      b ≡ true → Tabled w Γ r after → r ≡ Layout.Found s → CanFinish (limitsOf Γ) bytes (length lent) place new w after
+  can-finish {r = r} {s} h k t e =
       let x = found-read (wordsRead (limitsOf Γ) w) s (sym e ∙ t .layout) in
       record {
         simple = c .simple;
         loaded = c .loaded;
+        new-simple = new-is h ∙ k;
         contents = x .file;
         end = x .end;
         was-read = x .was-read;
@@ -297,6 +326,22 @@ module _ {limits : Limits} {bytes : List ℕ} (lent : List ℕ) {words table : L
       can-change =
           record { simple = was-simple; loaded = changed-there; wide = omega (arith, changed-count, c .inside, c .wide) }
 
+      -- x is the extent of the old command
+      pub read-again : {Γ : Context} {s : Places} {x : Extent} → CallsRight (wordsOf bytes) Γ s table →
+          ExtentOf (take (length bytes / 4) words) place (limits .depth) x →
+          ReadAgain words-after Γ s table place (place + length new / 4) (x .levels)
+      read-again {Γ} {s} {x} k y =
+          let f = c .old .contents in
+          let old = read-simple-to (wordsOf bytes) (fileContext limits f) (limits .depth) place (place + length new / 4) ∙ simple in
+          let e : words-after ≡ spliced (wordsOf bytes) place (wordsOf new) = changed-there ∙ changed-words was-simple in
+          let t : ReadAgain (spliced (wordsOf bytes) place (wordsOf new)) Γ s table place (place + length (wordsOf new)) (x .levels) = record {
+            right = spliced-right k (wordsOf new) place (words-room was-simple) (limits .depth)
+                (subst (λ n. readTo (wordsOf bytes) (limits .depth) place (place + n) ≡ true) (sym (words-length new)) old)
+                (subst (λ w. ExtentOf w place (limits .depth) x) (c .loaded) y);
+          } in
+          subst (λ w. ReadAgain w Γ s table place (place + length new / 4) (x .levels)) (sym e)
+          (subst (λ n. ReadAgain (spliced (wordsOf bytes) place (wordsOf new)) Γ s table place (place + n) (x .levels)) (words-length new) t)
+
 -- ---- refusals 1 to 7 and 16
 module _ {Γ : Context} {bytes : List ℕ} (lent : List ℕ) {words table : List ℕ} {r : Layout} (f : FileRead bytes Γ r words table)
     (enough : fewNumbers bytes (length lent) ≡ false) where
@@ -311,6 +356,26 @@ module _ {Γ : Context} {bytes : List ℕ} (lent : List ℕ) {words table : List
         wide = w;
         ends-of = f .ends-of s e;
         masked = f .known (x .file) (x .end) (x .was-read) .masked;
+      }
+
+  -- refusals 2 to 6 and 16 of its words
+  pub was-right : {s : Places} → r ≡ Layout.Found s → CallsRight (wordsOf bytes) Γ s table
+  was-right {s} e =
+      let x = found-read (fileOf (limitsOf Γ) bytes) s (sym e ∙ f .layout) in
+      let limits = limitsOf Γ in
+      let w = wordsOf bytes in
+      let k = f .known (x .file) (x .end) (x .was-read) in
+      let h : readOf limits w ≡ read (x .file) (x .end) =
+      called-read limits w (readOf limits w) (sym (words-read limits w) ∙ sym (f .from-words s e) ∙ x .was-read) in
+      record {
+        found = record {
+          found = ap Layout.Found (x .at) ∙ sym (ap placesOf h);
+          starts = λ g p y.
+              let z : read (x .file) (x .end) ≡ read g p = sym h ∙ y in
+              let i : x .file ≡ g = cc in
+              subst (StartsListed w table) i (k .starts);
+        };
+        right = ap (λ t. firstPlace t (wordCount w) 0) (wrong-calls w table limits (x .file) (k .masked .stands) (k .starts)) ∙ k .masked .called;
       }
 
   pub own-refusal : {x : Refusal} (place : ℕ) (new : List ℕ) → r ≡ Layout.Refused x →

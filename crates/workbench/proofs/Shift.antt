@@ -1,5 +1,7 @@
 -- A skip, an assert or an assignment read by itself is the one that is read where its words stand in a file.
 -- Assumes nothing.
+--     SimpleRead, simple-read     what was read is such a command
+--     read-stands       what is read stands there
 --     simple-inside     where it ends
 --     shifted-simple    the law
 use mathlib.Core.Path.{_≡_, refl, sym, ap, subst, _∙_}
@@ -34,7 +36,7 @@ pub record SimpleRead (x : Reading Command) (to : ℕ) : Type 0 where
   pub is : x ≡ read command to
   pub simple : isSimple command ≡ true
 
-simple-read : (x : Reading Command) (to : ℕ) → simpleTo x to ≡ true → SimpleRead x to
+pub simple-read : (x : Reading Command) (to : ℕ) → simpleTo x to ≡ true → SimpleRead x to
 simple-read (read c p) to h = record {
   command = c;
   is = ap (read c) (eqb-true p to (and-right (isSimple c) (eqb p to) h));
@@ -60,7 +62,7 @@ any-context Γ Δ (for q m c) (suc d) h f = clash refl (sym h)
 any-context Γ Δ (call n c) (suc d) h f = clash refl (sym h)
 
 -- what is read stands there
-read-stands : (file : List ℕ) (Γ : Context) (d at : ℕ) {c : Command} {p : ℕ} → command Γ file d at ≡ read c p →
+pub read-stands : (file : List ℕ) (Γ : Context) (d at : ℕ) {c : Command} {p : ℕ} → command Γ file d at ≡ read c p →
     CommandSpelled file Γ d at c p × (p ≤ wordCount file)
 read-stands file Γ d at {c} {p} e =
     let x = subst (PastBy file at (CommandSpelled file Γ d at)) e (command-past file Γ d at .past) in

@@ -1,6 +1,7 @@
 -- A skip, an assert or an assignment at a place of a file that was read, by its first word and its end.
 -- Assumes nothing.
 --     simple-kind, other-kind                  the kinds of these commands; another
+--     kind-simple                              such a command by the kind of its first word
 --     simple-past, simple-other, simple-here   past the file; at a word of another kind; at one of these kinds
 use mathlib.Core.Path.{_≡_, refl, sym, ap, ap₂, _∙_}
 use mathlib.Core.Bool.{Bool, true, false, _&&_}
@@ -41,7 +42,7 @@ not-simple {k} (inl h) = other-kind k (λ e. omega arith) (λ e. omega arith) (�
 not-simple {k} (inr h) =
     other-kind k (λ e. omega (arith, h .0)) (λ e. omega (arith, h .0)) (λ e. omega (arith, h .0)) (λ e. omega (arith, h .0))
 
-kind-simple : (Γ : Context) (c : Command) → isSimpleKind (kindOf (headOf (commandNode Γ c))) ≡ isSimple c
+pub kind-simple : (Γ : Context) (c : Command) → isSimpleKind (kindOf (headOf (commandNode Γ c))) ≡ isSimple c
 unfolding isSimpleKind
 kind-simple Γ skip = refl
 kind-simple Γ (sequence c d) = refl

@@ -5,21 +5,27 @@
 --     CanReplace    its words and its table are there
 --     Simple        at the place stands a skip, an assert or an assignment as long as the new bytes
 --     CanChange     the words of the file are changed
---     CanFinish     the changed file was read, and its table is there
+--     ReadAgain     with a command that takes no more levels than the old one, refusals 2 to 6 and 16 let them pass as before
+--     CanFinish     the new command is one, the changed file was read, and its table is there
 use mathlib.Core.Path.{_≡_}
 use mathlib.Core.Bool.{true, false}
 use mathlib.Core.List.{List}
 use Prim.Native.Nat.{ℕ, _+_, _*_, _/_, _%_, _≤_}
 use lib.ListN.{length, take}
-use Rattle.rules.specs.Context.{Limits}
+use Rattle.rules.specs.Context.{Limits, alone}
 use Rattle.layout.specs.Bytes.{wordsOf}
 use Rattle.layout.specs.Reading.{read}
+use Rattle.layout.specs.Read.{command}
 use Rattle.layout.specs.File.{File, fileOf, wordsRead}
 use Rattle.ends.specs.Ends.{EndsOf}
 use Rattle.scan.specs.Steady.{MaskedFile}
 use Rattle.masks.specs.Masks.{commandAt}
 use Rattle.masks.specs.WithMasks.{fewNumbers}
+use Rattle.context.specs.declared.Context.{Context}
+use Rattle.reader.specs.declared.Places.{Places}
+use Rattle.file.specs.Found.{CallsRight}
 use Rattle.workbench.specs.Put.{simpleTo, changed}
+use Rattle.workbench.specs.Simple.{readTo}
 
 module _ (limits : Limits) (bytes : List ℕ) (n : ℕ) where
   -- n numbers are lent, and they are enough
@@ -52,8 +58,13 @@ module _ (limits : Limits) (bytes : List ℕ) (n : ℕ) where
     pub record CanFinish (w table : List ℕ) : Type 0 where
       pub simple : Simple
       pub loaded : w ≡ wordsOf (changed bytes place new)
+      pub new-simple : simpleTo (command (alone limits) (wordsOf new) (limits .depth) 0) (length new / 4) ≡ true
       pub contents : File
       pub end : ℕ
       pub was-read : wordsRead limits w ≡ read contents end
       pub ends-of : EndsOf w table
       pub masked : MaskedFile w table limits contents
+
+-- s are the places of the parts, and the starts of the programs are in the table
+pub record ReadAgain (w : List ℕ) (Γ : Context) (s : Places) (table : List ℕ) (place to levels : ℕ) : Type 0 where
+  pub right : readTo w levels place to ≡ true → CallsRight w Γ s table

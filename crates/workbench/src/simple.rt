@@ -1,5 +1,7 @@
 // A skip, an assert or an assignment at a place.
 use ends::end_at;
+use reader::Walk;
+use reader::command::read_command;
 use words::kinds::ASSERT;
 use words::kinds::KIND;
 use words::kinds::SKIP;
@@ -9,7 +11,7 @@ ghost use mathlib.Core.Path.{_≡_};
 ghost use Prim.Native.Nat.{_/_};
 ghost use Rattle.layout.specs.Bytes.{payloads};
 ghost use Rattle.ends.specs.Ends.{EndsOf};
-ghost use Rattle.workbench.specs.Simple.{isSimpleKind, SimpleAt};
+ghost use Rattle.workbench.specs.Simple.{isSimpleKind, SimpleAt, readTo};
 
 // Whether a word is the first of such a command.
 fn is_simple(x: u32) -> bool
@@ -37,4 +39,21 @@ pub fn is_simple_to(w: &[u32], ends: &[u32], at: usize, to: usize) -> bool
         return false;
     }
     end_at(ends, at) == to
+}
+
+// Whether such a command is read from a place up to another, with so many levels.
+pub fn is_read_to(w: &[u32], at: usize, to: usize, levels: usize) -> bool
+    ensures { λ r. ⌜ r ≡ readTo (now (w .entry)) levels «at» to ⌝ }
+{
+    if w.len() <= at {
+        return false;
+    }
+    if !is_simple(w[at]) {
+        return false;
+    }
+    let walk = read_command(w, at, levels);
+    match walk {
+        Walk::Next(p) => p == to,
+        Walk::Refused(_) => false,
+    }
 }

@@ -2,8 +2,8 @@
 //! has a parameter that its size and its cost grow with.
 
 use crate::layout::syntax::*;
-use crate::layout::words::{bytes_of, MOST_PROCEDURES};
-use crate::layout::write::{file_words, file_words_with};
+use crate::layout::words::{bytes_of, take_apart, words_of, MOST_PROCEDURES};
+use crate::layout::write::{self, file_words, file_words_with};
 
 /// A kind of files: its name, what it tries, and the file of a parameter.
 pub struct Kind {
@@ -42,6 +42,21 @@ impl Kind {
         }
         bytes_of(&(self.make)(low))
     }
+}
+
+/// Request [5]: a file that is read, with `assert true` for each assignment of two words. Its size and its evidence stay.
+pub fn without_assignments(bytes: &[u8]) -> Vec<u8> {
+    let mut words = words_of(bytes).expect("a file");
+    let mut new = Vec::new();
+    write::command(&command(Form::Assert(always())), &mut new);
+    for place in 1..words.len() {
+        let [kind, right] = [place - 1, place].map(|at| take_apart(at, words[at]).kind);
+        // x := n, x := y, h := g, h := zero everywhere
+        if matches!((kind, right), (27, 1 | 2) | (28, 16 | 17)) {
+            words[place - 1..=place].copy_from_slice(&new);
+        }
+    }
+    bytes_of(&words)
 }
 
 fn number(n: u32) -> Arith {

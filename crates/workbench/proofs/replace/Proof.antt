@@ -2,7 +2,7 @@
 -- Assumes nothing.
 use borrow.Author.Needs.{needs}
 use borrow.Author.Tests.{not-true, not-false}
-use Rattle.workbench.proofs.Puts.{word-count, ends-here, replace-past, replace-part, replace-not, can-change, changed-count}
+use Rattle.workbench.proofs.Puts.{word-count, ends-here, replace-past, replace-part, replace-not, can-change, changed-count, read-again}
 use Rattle.workbench.proofs.replace.Statement.{statement}
 use Rattle.workbench.proofs.replace.Tie as tie
 
@@ -10,51 +10,60 @@ returns : tie.Need-returns
 returns c =
     let if1 = c .before in
     let start = if1 .before .before .before .before .before .before in
-    replace-past (start .args .masks .now) (start .pre) _ _ (if1 .if1 .taken) (c .refused-18 .ensures)
+    replace-past (start .args .masks .now) (start .pre .0) _ _ (if1 .if1 .taken) (c .refused-18 .ensures)
 
 returns-2 : tie.Need-returns-2
 returns-2 c =
     let if2 = c .before in
     let start = if2 .before .before .before .before .before .before .before in
-    replace-part (start .args .masks .now) (start .pre) _ _ (if2 .if2 .taken) (c .refused-182 .ensures)
+    replace-part (start .args .masks .now) (start .pre .0) _ _ (if2 .if2 .taken) (c .refused-182 .ensures)
 
 slice-aggregate-is-simple-to : tie.Need-slice-aggregate-is-simple-to
 slice-aggregate-is-simple-to c =
     let start = c .before .before .before .before .before .before .before .before in
-    word-count (start .args .masks .now) (start .pre) (start .args .place) (start .args .new .now)
+    word-count (start .args .masks .now) (start .pre .0) (start .args .place) (start .args .new .now)
 
 is-simple-to-requires : tie.Need-is-simple-to-requires
 is-simple-to-requires c κs =
     let start = c .before .before .before .before .before .before .before .before .before in
-    ends-here (start .args .masks .now) (start .pre) (start .args .place) (start .args .new .now)
+    ends-here (start .args .masks .now) (start .pre .0) (start .args .place) (start .args .new .now)
 
 returns-3 : tie.Need-returns-3
 returns-3 c =
     let if3 = c .before in
     let tested = if3 .before in
     let start = tested .before .before .before .before .before .before .before .before .before .before in
-    replace-not (start .args .masks .now) (start .pre) _ _ (tested .is-simple-to .ensures) (not-true _ (if3 .if3 .taken))
+    replace-not (start .args .masks .now) (start .pre .0) _ _ (tested .is-simple-to .ensures) (not-true _ (if3 .if3 .taken))
     (c .refused-183 .ensures)
+
+slice-aggregate-extent-at : tie.Need-slice-aggregate-extent-at
+slice-aggregate-extent-at c =
+    let start = c .before .before .before .before .before .before .before .before .before .before .before .before in
+    word-count (start .args .masks .now) (start .pre .0) (start .args .place) (start .args .new .now)
 
 slice-aggregate-change : tie.Need-slice-aggregate-change
 slice-aggregate-change c =
     let loaded = c .before .before .before in
-    let if3 = loaded .before .before in
+    let if3 = loaded .before .before .before .before in
     let tested = if3 .before in
     let if2 = tested .before .before .before in
     let start = if2 .before .before .before .before .before .before .before in
-    changed-count (start .args .masks .now) (start .pre) (start .args .place) (start .args .new .now) (tested .is-simple-to .ensures)
+    changed-count (start .args .masks .now) (start .pre .0) (start .args .place) (start .args .new .now) (tested .is-simple-to .ensures)
     (not-false _ (if3 .if3 .left)) (if2 .if2 .left) (loaded .load .ensures)
 
 change-requires : tie.Need-change-requires
 change-requires c κs =
     let loaded = c .before .before .before .before .before .before in
-    let if3 = loaded .before .before in
+    let old = loaded .before .before in
+    let if3 = old .before .before in
     let tested = if3 .before in
     let if2 = tested .before .before .before in
-    let start = if2 .before .before .before .before .before .before .before in
-    can-change (start .args .masks .now) (start .pre) (start .args .place) (start .args .new .now) (tested .is-simple-to .ensures)
-    (not-false _ (if3 .if3 .left)) (if2 .if2 .left) (loaded .load .ensures)
+    let start = if2 .before .before .before .before .before .before .before in (
+      can-change (start .args .masks .now) (start .pre .0) (start .args .place) (start .args .new .now) (tested .is-simple-to .ensures)
+          (not-false _ (if3 .if3 .left)) (if2 .if2 .left) (loaded .load .ensures),
+      read-again (start .args .masks .now) (start .pre .0) (start .args .place) (start .args .new .now) (tested .is-simple-to .ensures)
+          (not-false _ (if3 .if3 .left)) (if2 .if2 .left) (loaded .load .ensures) (start .pre .1) (old .extent-at .ensures),
+    )
 
 pub replace-spec : {M : Type 1} → statement M
 replace-spec =
@@ -72,6 +81,9 @@ replace-spec =
     (λ c. search needs)
     (λ c. search needs)
     returns-3
+    (λ c. search needs)
+    slice-aggregate-extent-at
+    (λ c κs. search needs)
     (λ c. search needs)
     (λ c. search needs)
     (λ c. search needs)

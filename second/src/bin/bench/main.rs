@@ -1,7 +1,9 @@
 //! `bench`, from the repository's root (see `./benchmark`): the proved check and runner against the fast version and the second
-//! implementation. Prints what it measures, and writes docs/PERFORMANCE.md and its pictures. `bench stack`: only the stack.
+//! implementation. Prints what it measures, and writes docs/PERFORMANCE.md and its pictures. `bench stack`: only the stack. `bench masks`:
+//! only the calls with masks.
 
 mod machine;
+mod masks;
 mod measure;
 mod plot;
 mod report;
@@ -22,6 +24,7 @@ pub struct Measured {
     pub worst: Vec<Row>,
     /// For each kind of growing files, a row for each size.
     pub growing: Vec<Vec<Row>>,
+    pub masks: masks::Measured,
     pub runs: Vec<Row>,
     pub stack: Vec<stack::Used>,
 }
@@ -50,13 +53,17 @@ fn growing(bench: &Bench) -> Vec<Vec<Row>> {
 }
 
 fn main() {
-    tool::run(env!("CARGO_BIN_NAME"), "[stack]", program)
+    tool::run(env!("CARGO_BIN_NAME"), "[stack|masks]", program)
 }
 
 fn program(arguments: &[String], _: &mut dyn std::io::Write) -> Result<u8, Fault> {
     match arguments {
         [] => {}
         [word] if word == "stack" => return Ok(u8::from(stack::measure().iter().any(|one| one.limit.is_none()))),
+        [word] if word == "masks" => {
+            masks::measure(&Bench::new());
+            return Ok(0);
+        }
         _ => return Err(Fault::Usage),
     }
     let bench = Bench::new();
@@ -64,9 +71,10 @@ fn program(arguments: &[String], _: &mut dyn std::io::Write) -> Result<u8, Fault
     let usual = folder(&bench, "usual");
     let worst = folder(&bench, "worst");
     let growing = growing(&bench);
+    let masks = masks::measure(&bench);
     let runs = PROGRAMS.iter().map(|program| bench.show(bench.run(program.name))).collect();
     let stack = stack::measure();
-    let measured = Measured { usual, worst, growing, runs, stack };
+    let measured = Measured { usual, worst, growing, masks, runs, stack };
     let write = |name: &str, text: String| std::fs::write(Path::new("docs").join(name), text).expect("docs");
     write("performance-ratios.svg", plot::ratios(&measured));
     write("performance-growth.svg", plot::growth(&measured));

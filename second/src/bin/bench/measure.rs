@@ -4,7 +4,10 @@ use std::io::Write;
 use std::process::{Command, Output, Stdio};
 
 pub const VERSIONS: [&str; 3] = ["proved", "fast", "second"];
-const CHECK: &str = "second/target/benchmark/bench_check";
+/// Those of the check with masks.
+const WITH_MASKS: [&str; 2] = ["proved", "fast"];
+pub const CHECK: &str = "second/target/benchmark/bench_check";
+pub const CALLS: &str = "second/target/benchmark/bench_calls";
 const RUN: &str = "second/target/benchmark/bench_run";
 
 /// What was measured on one file or one program; each array is by version.
@@ -23,6 +26,7 @@ pub struct Row {
 
 pub struct Bench {
     check_start: [u64; 3],
+    masks_start: [u64; 2],
     run_start: [u64; 3],
 }
 
@@ -34,10 +38,10 @@ pub fn output(command: &mut Command, input: &[u8]) -> Output {
     child.wait_with_output().expect("the program ends")
 }
 
-/// The instructions of a whole process, and its first line.
-fn count(program: &[&str], input: &[u8]) -> (u64, String) {
+/// The instructions of a process, all of them or those that the options ask for, and its first line.
+fn count(options: &[&str], program: &[&str], input: &[u8]) -> (u64, String) {
     let mut valgrind = Command::new("valgrind");
-    valgrind.args(["--tool=callgrind", "--callgrind-out-file=/dev/null"]).args(program);
+    valgrind.args(["--tool=callgrind", "--callgrind-out-file=/dev/null"]).args(options).args(program);
     let output = output(&mut valgrind, input);
     let log = String::from_utf8_lossy(&output.stderr).into_owned();
     let collected = log.lines().find_map(|line| line.split_once("Collected : "));
@@ -46,14 +50,21 @@ fn count(program: &[&str], input: &[u8]) -> (u64, String) {
     (count.unwrap_or_else(|| panic!("valgrind on {program:?}: {log}")), line)
 }
 
-/// The counts of all versions, at the same time; they must answer alike.
-fn counts(program: &str, argument: &[&str], input: &[u8]) -> ([u64; 3], String) {
+/// The instructions within a function and what it calls, and the process's first line.
+pub fn count_within(function: &str, program: &[&str], input: &[u8]) -> (u64, String) {
+    let (instructions, line) = count(&[&format!("--toggle-collect={function}")], program, input);
+    assert!(instructions > 0, "{program:?} has no function {function} of its own, or does not call it: {line}");
+    (instructions, line)
+}
+
+/// The counts of some versions, at the same time; they must answer alike.
+fn counts<const N: usize>(versions: [&'static str; N], program: &str, argument: &[&str], input: &[u8]) -> ([u64; N], String) {
     let of = |version: &'static str| {
         let words: Vec<&str> = [program, version].iter().chain(argument).copied().collect();
-        count(&words, input)
+        count(&[], &words, input)
     };
     let all = std::thread::scope(|scope| {
-        let threads = VERSIONS.map(|version| scope.spawn(move || of(version)));
+        let threads = versions.map(|version| scope.spawn(move || of(version)));
         threads.map(|thread| thread.join().expect("a count"))
     });
     let answer = all[0].1.clone();
@@ -68,18 +79,22 @@ fn times(program: &str, argument: &[&str], input: &[u8]) -> [u64; 3] {
     numbers.try_into().unwrap_or_else(|_| panic!("times of {program}: {text}"))
 }
 
-fn without(counts: [u64; 3], start: [u64; 3]) -> [u64; 3] {
+fn without<const N: usize>(counts: [u64; N], start: [u64; N]) -> [u64; N] {
     std::array::from_fn(|i| counts[i].saturating_sub(start[i]))
 }
 
 impl Bench {
     /// The start-up of each version: the count for an empty input.
     pub fn new() -> Bench {
-        Bench { check_start: counts(CHECK, &[], &[]).0, run_start: counts(RUN, &["empty"], &[]).0 }
+        Bench {
+            check_start: counts(VERSIONS, CHECK, &[], &[]).0,
+            masks_start: counts(WITH_MASKS, CALLS, &[], &[]).0,
+            run_start: counts(VERSIONS, RUN, &["empty"], &[]).0,
+        }
     }
 
     pub fn check(&self, name: &str, bytes: &[u8], expected: Option<&str>) -> Row {
-        let (all, answer) = counts(CHECK, &[], bytes);
+        let (all, answer) = counts(VERSIONS, CHECK, &[], bytes);
         assert!(expected.is_none_or(|line| line == answer), "{name}: {answer}");
         assert!(answer.starts_with("accepted"), "{name}: {answer}");
         Row {
@@ -92,8 +107,14 @@ impl Bench {
         }
     }
 
+    /// The proved check with masks, for one instruction of the fast one.
+    pub fn masks_to_fast(&self, bytes: &[u8]) -> f64 {
+        let [proved, fast] = without(counts(WITH_MASKS, CALLS, &[], bytes).0, self.masks_start);
+        proved as f64 / fast as f64
+    }
+
     pub fn run(&self, name: &str) -> Row {
-        let (all, answer) = counts(RUN, &[name], &[]);
+        let (all, answer) = counts(VERSIONS, RUN, &[name], &[]);
         Row {
             name: name.to_string(),
             bytes: 0,

@@ -1,7 +1,7 @@
 //! docs/PERFORMANCE.md.
 
 use super::measure::Row;
-use super::{machine, stack, Measured};
+use super::{machine, masks, stack, Measured};
 use second::benchmark::programs::PROGRAMS;
 use second::benchmark::worst::KINDS;
 use std::fmt::Write;
@@ -61,11 +61,15 @@ fn run_table(rows: &[Row]) -> String {
     out
 }
 
+/// The head of a table by size.
+fn size_cells() -> String {
+    super::SIZES.iter().map(|words| format!(" {} KiB |", words * 4 / 1024)).collect()
+}
+
 /// Instructions a word of the file, by size, and the power of the size that the last doubling shows.
 fn growth_table(all: &[Vec<Row>]) -> String {
-    let mut out = String::from("| Kind | Version |");
-    let sizes: Vec<String> = super::SIZES.iter().map(|words| format!(" {} KiB |", words * 4 / 1024)).collect();
-    let _ = writeln!(out, "{} Power |\n|---|---|{}--:|", sizes.concat(), "--:|".repeat(sizes.len()));
+    let numbers = "--:|".repeat(super::SIZES.len());
+    let mut out = format!("| Kind | Version |{} Power |\n|---|---|{numbers}--:|\n", size_cells());
     for (rows, kind) in all.iter().zip(KINDS) {
         for (version, name) in ["proved", "fast"].iter().enumerate() {
             let each = |row: &Row| format!(" {} |", figures(row.instructions[version] as f64 * 4.0 / row.bytes as f64));
@@ -81,6 +85,29 @@ fn power(rows: &[Row], version: usize) -> f64 {
     let [.., a, b] = rows else { return 0.0 };
     let cost = (b.instructions[version] as f64 / a.instructions[version] as f64).ln();
     cost / (b.bytes as f64 / a.bytes as f64).ln()
+}
+
+fn masks_table(all: &[masks::Judged]) -> String {
+    let mut out = String::from(
+        "| File | Reading | Judging | Filling | Judging with masks | With masks ÷ fast | Put ÷ reading |\n|---|--:|--:|--:|--:|--:|--:|\n",
+    );
+    for one in all {
+        let counts = [one.cost.reading, one.judging, one.cost.filling, one.with_masks].map(thousands);
+        let (fast, put) = (figures(one.to_fast), figures(one.cost.put_to_reading()));
+        let _ = writeln!(out, "| {} | {} | {fast} | {put} |", one.name, counts.join(" | "));
+    }
+    out
+}
+
+/// By size: instructions of filling a word, and those of a put for one of reading.
+fn filling_table(all: &[masks::Cost]) -> String {
+    let line = |name: &str, cell: fn(&masks::Cost) -> f64| {
+        let cells: Vec<String> = all.iter().map(|cost| format!(" {} |", figures(cell(cost)))).collect();
+        format!("| {name} |{}\n", cells.concat())
+    };
+    let filling = line("Filling, instructions a word", |cost| cost.filling as f64 / cost.words as f64);
+    let put = line("Put ÷ reading", masks::Cost::put_to_reading);
+    format!("| |{}\n|---|{}\n{filling}{put}", size_cells(), "--:|".repeat(all.len()))
 }
 
 /// From the least to the most of some numbers.
@@ -118,11 +145,13 @@ fn stack_lines(all: &[stack::Used]) -> String {
 pub fn text(m: &Measured) -> String {
     let machine: String = machine::lines().iter().map(|line| format!("- {line}\n")).collect();
     format!(
-        "{HEAD}\n{machine}\n{}\n{FILES}\n### Usual\n\n{}\n### Worst\n\n{}\n{GROWTH}\n{}\n{RUNNER}\n{}\n{STACK}\n{}",
+        "{HEAD}\n{machine}\n{}\n{FILES}\n### Usual\n\n{}\n### Worst\n\n{}\n{GROWTH}\n{}\n{MASKS}\n{}\n{}\n{RUNNER}\n{}\n{STACK}\n{}",
         summary(m),
         check_table(&m.usual),
         check_table(&m.worst),
         growth_table(&m.growing),
+        masks_table(&m.masks.judged),
+        filling_table(&m.masks.growing),
         run_table(&m.runs),
         stack_lines(&m.stack),
     )
@@ -159,6 +188,15 @@ Files of `second/src/benchmark/worst.rs`, made in several sizes: instructions fo
 which the whole cost grows at the last doubling: 1 is in proportion, 2 with the square.
 
 ![Instructions by file size, a panel for each kind of file](performance-growth.svg)
+";
+
+const MASKS: &str = "## With masks
+
+Instructions within the calls: reading (refusals 1 to 7 and 16) is a `flow_put` that is then refused with 18, and judging is what
+`flow_check` takes after it. With masks (request [5], `flow_check_masks`) each of three worst files is judged at the cost of the same file
+with `assert true` for its assignments, where nothing is modified; the benchmark stops if filling and judging together differ by more than
+1 %. Filling grows in proportion to the file (second table, the files `modified` of the table above); a put, here of a command in the place
+of itself, reads the file twice and fills the masks.
 ";
 
 const RUNNER: &str = "## The runner
