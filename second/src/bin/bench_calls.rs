@@ -41,7 +41,7 @@ fn main() {
 fn program(arguments: &[String], out: &mut dyn Write) -> Result<u8, Fault> {
     let mut bytes = tool::read_input()?;
     let mut masks = MASKS.lock().expect("one thread");
-    let masks = &mut masks[..bytes.len() / 4];
+    let masks = &mut masks[..bytes.len().min(MOST_BYTES) / 4];
     let line = match arguments {
         [version] => check_with_masks(version, &bytes, masks)?,
         [word, place, count] if word == "put" => {
