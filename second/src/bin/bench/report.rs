@@ -196,7 +196,7 @@ Instructions within the calls: reading (refusals 1 to 7 and 16) is a `flow_put` 
 `flow_check` takes after it. With masks (request [5], `flow_check_masks`) each of three worst files is judged at the cost of the same file
 with `assert true` for its assignments, where nothing is modified; the benchmark stops if filling and judging together differ by more than
 1 %. Filling grows in proportion to the file (second table, the files `modified` of the table above); a put, here of a command in the place
-of itself, reads the file twice and fills the masks.
+of itself, reads the file, fills the table of the changed file and stores its masks.
 ";
 
 const RUNNER: &str = "## The runner
