@@ -120,7 +120,8 @@ fn replace(
     place: usize,
     new: &[u8],
 ) -> Replaced
-    requires { ⌜ CanReplace (limitsOf context) (now file) (length (now masks)) (now words) (now table) × CallsRight (wordsOf (now file)) context places (now table) ⌝ }
+    requires { ⌜ CanReplace (limitsOf context) (now file) (length (now masks)) (now words) (now table)
+        × CallsRight (wordsOf (now file)) context places (now table) ⌝ }
     ensures { λ r. ⌜ PutDone (limitsOf context) (now (file .entry)) (now (masks .entry)) place (now (new .entry)) r (now (file .exit)) (now (masks .exit)) ⌝ }
 {
     let n = file.len() / 4;
