@@ -8,14 +8,13 @@ use mathlib.Core.Path.{_≡_, sym, ap, subst, _∙_}
 use mathlib.Core.List.{List, [], _∷_, _++_, append-assoc}
 use Prim.Native.Nat.{ℕ, zero, suc, _+_, _-_, _<_, _≤_}
 use native.Mathlib.Omega.{arith}
-use native.Mathlib.Numerals.{add-one}
 use lib.ListN.{length, getD, take, drop, set, length-append, length-take, length-drop}
 use lib.ListN.{drop-of-length-le, take-append-drop, List·getD-append}
 use lib.Seq.{take-suc, drop-cons, set-at, getD-append-add, getD-drop, length-take-le}
 use Rattle.layout.specs.Bytes.{kindAt, payloadAt}
 use Rattle.layout.specs.Nodes.{countOf}
-use Rattle.ends.specs.Sizes.{past, sizes, endPlaces, follow, Filled}
-use Rattle.ends.proofs.Sizes.{sizes-length, sizes-at, sizes-inside, placed-length, placed-at, Ended, follow-past}
+use Rattle.ends.specs.Sizes.{sizes, endPlaces, follow, Filled}
+use Rattle.ends.proofs.Sizes.{sizes-length, placed-length, placed-at, Ended, follow-end}
 
 module _ (file before : List ℕ) where
   pub record Partly (ends : List ℕ) (i : ℕ) : Type 0 where
@@ -87,15 +86,7 @@ module _ (file before : List ℕ) where
         n ≡ countOf (kindAt file (i - 1)) (payloadAt file (i - 1)) →
         (follow ends (length file) n (i - 1 + 1) ≡ getD (endPlaces file) (i - 1) 0)
         × (follow ends (length file) n (i - 1 + 1) ≤ length file)
-    end-at ends zero n l h e = absurd (omega arith)
-    end-at ends (suc k) n l h e =
-        let less : suc k - 1 ≡ k = omega arith in
-        let i : k < length file = omega (arith, h .inside) in
-        let f : follow ends (length file) n (k + 1) ≡ k + getD (sizes file) k 0 =
-        follow-past file ends (suc k) (partly-ended ends (suc k) h) n (k + 1) (omega arith)
-        ∙ rw add-one (turns k n (e ∙ ap (λ j. countOf (kindAt file j) (payloadAt file j)) less) i) in
-        rw less (f ∙ sym (places-at k i), omega (arith, f, sizes-inside file k i))
-      where
-        turns : (k n : ℕ) → n ≡ countOf (kindAt file k) (payloadAt file k) → k < length file →
-            suc k + past n (drop (suc k) (sizes file)) ≡ k + getD (sizes file) k 0
-        turns k n e h = rw e (omega (arith, sizes-at file k h))
+    end-at ends i n l h e =
+        let k : i - 1 < length file = omega (arith, h .inside) in
+        let f = follow-end file ends i (partly-ended ends i h) (i - 1) n (omega arith) k e in
+        (f .0 ∙ sym (places-at (i - 1) k), f .1)

@@ -2,6 +2,8 @@
 --     Sizes         the sizes of what starts at each word
 --     Ends          the places that the sizes make are the ends
 --     Fill          ends written from the last word to the first
+--     Mending       ends of some words written anew
+--     Swap          the sizes when one part is put in the place of another
 --     Places        what stands at a place: its first word, and its parts at their places
 --     Bits          bits of numbers
 --     Marks         masks of what words assign
@@ -11,6 +13,8 @@
 pub mod Sizes
 pub mod Ends
 pub mod Fill
+pub mod Mending
+pub mod Swap
 pub mod Places
 pub mod Bits
 pub mod Marks

@@ -5,12 +5,14 @@
 --     sizes-inside               no size goes past the last word
 --     placed-length, placed-at   sizes as places
 --     follow-past                following ends is going past parts by their sizes
+--     follow-end                 past the parts of a word is its end, and no further than the last word
 use mathlib.Core.Path.{_≡_, refl, sym, ap, _∙_}
 use mathlib.Core.Logic.{_⊎_, inl, inr}
 use mathlib.Core.List.{List, [], _∷_}
 use Prim.Native.Nat.{ℕ, zero, suc, _+_, _-_, _/_, _%_, _<_, _≤_}
 use native.Mathlib.Omega.{arith}
 use native.Mathlib.Decide.{decLt}
+use native.Mathlib.Numerals.{add-one}
 use borrow.Author.Tests.{ne-eqb, lt-ltb, le-ltb}
 use lib.ListN.{length, getD, drop, length-drop, drop-of-length-le}
 use lib.Seq.{drop-cons, drop-drop}
@@ -153,3 +155,13 @@ module _ (file ends : List ℕ) (from : ℕ) (h : Ended file ends from) where
         let e = past-none (sizes file) at (suc k) (omega (arith, sizes-length file)) in
         let r = follow-stop ends (length file) (suc k) at o in omega arith
   ]
+
+  pub follow-end : (k n : ℕ) → from ≤ k + 1 → k < length file → n ≡ countOf (kindAt file k) (payloadAt file k) →
+      (follow ends (length file) n (k + 1) ≡ k + getD (sizes file) k 0) × (follow ends (length file) n (k + 1) ≤ length file)
+  follow-end k n l i e =
+      let f : follow ends (length file) n (k + 1) ≡ k + getD (sizes file) k 0 =
+      follow-past n (k + 1) l ∙ rw add-one turns in
+      (f, omega (arith, f, sizes-inside file k i))
+    where
+      turns : suc k + past n (drop (suc k) (sizes file)) ≡ k + getD (sizes file) k 0
+      turns = rw e (omega (arith, sizes-at file k i))

@@ -1,15 +1,20 @@
 -- A list of the ends that the sizes make, with the masks of blocks behind them, is `EndsOf` the file.
 -- Assumes nothing.
---     filled-kept    what stands behind the ends
---     table-ends     the law
-use mathlib.Core.Path.{_≡_, sym, ap, _∙_}
+--     filled-kept              what stands behind the ends
+--     table-ends               the law
+--     ends-listed              without the masks, it lists the ends
+--     node-listed, listed-at   where what stands at a place ends, by such a list; it stands up to its end in the list
+--     listed-blocks            with the masks of blocks it is `EndsOf` the file
+use mathlib.Core.Path.{_≡_, sym, ap, subst, _∙_}
 use mathlib.Core.List.{List, _++_}
 use Prim.Native.Nat.{ℕ, _+_, _-_, _<_, _≤_}
 use native.Mathlib.Omega.{arith}
 use lib.ListN.{length, getD, drop}
 use lib.Seq.{getD-append-add, getD-drop}
-use Rattle.layout.specs.Nodes.{expressionNode, commandNode, setNode}
-use Rattle.ends.specs.Ends.{EndsOf}
+use Rattle.layout.specs.Nodes.{Node, expressionNode, commandNode, setNode, nodePart}
+use Rattle.layout.specs.Standing.{PartStands}
+use Rattle.ends.specs.Ends.{EndsOf, EndsListed}
+use Rattle.ends.specs.Places.{NodeAt}
 use Rattle.ends.specs.Sizes.{sizes, endPlaces, Filled}
 use Rattle.ends.specs.Blocks.{Blocked}
 use Rattle.ends.proofs.Sizes.{sizes-length, placed-length}
@@ -43,3 +48,20 @@ module _
       set-end = λ Γ q d at p s. by-size (node-sized file d (setNode Γ q) at p s);
       blocks = m .blocks;
     }
+
+pub ends-listed : {file ends : List ℕ} → EndsOf file ends → EndsListed file ends
+ends-listed o = record { room = o .blocks .room; sized = o .sized }
+
+module _ {file ends : List ℕ} (o : EndsListed file ends) where
+  pub node-listed : (x : Node) (d at p : ℕ) → PartStands file (nodePart x) d at p → getD ends at 0 ≡ p
+  node-listed x d at p s = let e = node-sized file d x at p s in o .sized at (e .inside) ∙ e .size
+
+  pub listed-at : (x : Node) (d at p : ℕ) → d ≤ 256 → PartStands file (nodePart x) d at p → NodeAt file ends x at
+  listed-at x d at p l s = record {
+    levels = d;
+    low = l;
+    stands = subst (λ q. PartStands file (nodePart x) d at q) (sym (node-listed x d at p s)) s;
+  }
+
+pub listed-blocks : {file ends after : List ℕ} → EndsListed file ends → Blocked file ends after → EndsOf file after
+listed-blocks o m = table-ends (o .sized) m

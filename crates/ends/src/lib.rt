@@ -2,6 +2,7 @@
 // words assign.
 pub mod mask; // mask.rt: identifiers as the bits of a number
 pub mod blocks; // blocks.rt: what words assign, by blocks
+pub mod mend; // mend.rt: the ends of some words, written anew
 
 use words::kinds::AND;
 use words::kinds::ASSERT;
@@ -73,7 +74,7 @@ pub fn parts(x: u32) -> usize
 }
 
 // From a place on, past so many parts, or to the end of the words.
-fn past(ends: &[u32], words: usize, from: usize, count: usize) -> usize
+pub fn past(ends: &[u32], words: usize, from: usize, count: usize) -> usize
     requires { ⌜ words ≤ length (now ends) ⌝ }
     ensures { λ r. ⌜ r ≡ follow (now (ends .entry)) words count from ⌝ }
 {

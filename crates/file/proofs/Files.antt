@@ -1,8 +1,10 @@
 -- Refusals 2 to 7 and 16 on words, and with 1 on bytes, by what the code finds.
 -- Assumes nothing.
---     table-made                                      the table is filled by its three steps
---     found-words, refused-tabled                     2 to 6 let the words pass; 2 to 6
---     calls-right, wrong-tabled                       16 lets the words pass; 16
+--     table-made, starts-moved                        the table is filled by its three steps; the starts in it
+--     steady-none, unsteady-some                      the answers of the scan for refusal 7
+--     found-words, refused-found                      2 to 6 let the words pass; 2 to 6
+--     calls-right, wrong-called                       16 lets the words pass; 16
+--     refused-tabled                                  2 to 6 and 16
 --     steady-tabled, unsteady-tabled                  7 lets the words pass; 7
 --     bad-read, loaded-room, loaded-file              1; the words that were loaded
 --     Words, file-words                               the words of a file that was read
@@ -26,7 +28,7 @@ use Rattle.ends.specs.Ends.{EndsOf}
 use Rattle.ends.specs.Sizes.{Filled}
 use Rattle.ends.specs.Blocks.{tableAt, Blocked}
 use Rattle.ends.specs.Procedures.{startAt}
-use Rattle.ends.proofs.Table.{filled-kept, table-ends}
+use Rattle.ends.proofs.Table.{filled-kept, table-ends, ends-listed}
 use Rattle.context.specs.Contexts.{limitsOf, refusal}
 use Rattle.reader.specs.File.{placesOf, Located, readOf}
 use Rattle.context.specs.declared.Context.{Context}
@@ -44,7 +46,7 @@ use Rattle.scan.specs.declared.steady.Steadiness.the-variants.{Steady, At}
 use Rattle.scan.proofs.ProcedureMasks.{made-moved}
 use Rattle.scan.proofs.WrongCalls.{wrong-calls}
 use Rattle.scan.proofs.Procedures.{procedures-known, masks-known}
-use Rattle.file.specs.Found.{TableRoom, Found, CallsRight, TableMade, KnownAt, Tabled, CanLoad, FileRead}
+use Rattle.file.specs.Found.{TableRoom, Found, CallsRight, Called, TableMade, KnownAt, Tabled, CanLoad, FileRead}
 use Rattle.file.proofs.Found.{ReadAt, found-read, read-file, words-back, lent-starts}
 use Rattle.file.proofs.Found.{words-steady, words-unsteady, words-wrong, words-refused}
 
@@ -74,6 +76,12 @@ starts-from w before after h [] f i n s = h i (omega arith) ∙ s
 starts-from w before after h (g ∷ l) f i n s =
     (h i (omega arith) ∙ s .0, starts-from w before after h l f (suc i) (omega arith) (s .1))
 
+pub starts-moved : (w before after : List ℕ) → ((i : ℕ) → i ≤ 16 → startAt w after i ≡ startAt w before i) → (f : File) →
+    length (f .procedures) ≤ 16 → StartsListed w before f → StartsListed w after f
+starts-moved w before after h f few s = record {
+  starts = starts-from w before after h (f .procedures) (f .main) 0 (omega arith) (s .starts);
+}
+
 -- ---- refusals 2 to 7 and 16
 -- a refusal has no places
 not-found : {A : Type 0} {x : Refusal} {s : Places} → Layout.Refused x ≡ Layout.Found s → A
@@ -90,11 +98,11 @@ wrong-some : (o : Option ℕ) (at : ℕ) → Wrong at ≡ rightnessOf o → o �
 wrong-some none at e = absurd (let z : _≡_ {A = ℕ} 0 1 = cc in omega arith)
 wrong-some (some p) at e = cc
 
-steady-none : (o : Option ℕ) → Steady ≡ steadinessOf o → o ≡ none
+pub steady-none : (o : Option ℕ) → Steady ≡ steadinessOf o → o ≡ none
 steady-none none e = refl
 steady-none (some at) e = absurd (let z : _≡_ {A = ℕ} 0 1 = cc in omega arith)
 
-unsteady-some : (o : Option ℕ) (at : ℕ) → At at ≡ steadinessOf o → o ≡ some at
+pub unsteady-some : (o : Option ℕ) (at : ℕ) → At at ≡ steadinessOf o → o ≡ some at
 unsteady-some none at e = absurd (let z : _≡_ {A = ℕ} 0 1 = cc in omega arith)
 unsteady-some (some p) at e = cc
 
@@ -106,11 +114,23 @@ found-words {Γ} {w} {left} lent rest h x e = record {
   starts = λ f p z. lent-starts w lent left rest f h (x .starts f p z);
 }
 
+-- 16 lets the words pass
 pub calls-right : {Γ : Context} {w before : List ℕ} {s : Places} (r : Rightness) → Found w Γ s before →
-    r ≡ rightnessOf (firstPlace (wrongAt w before) (wordCount w) 0) → r ≡ Right → CallsRight w Γ s before
-calls-right r f e h = record { found = f; right = right-none _ (sym h ∙ e) }
+    r ≡ rightnessOf (firstPlace (wrongAt w before) (wordCount w) 0) → r ≡ Right → Called w Γ (Layout.Found s) before
+calls-right {Γ} {w} {before} r f e h = record {
+  refused = λ x z. not-found (sym z);
+  right = λ t z. subst (λ (s : Places). CallsRight w Γ s before) (let y = z in cc) (record { found = f; right = right-none _ (sym h ∙ e) });
+}
 
 module _ {Γ : Context} {w : List ℕ} where
+  -- a refusal among 2 to 6 and 16
+  refused-called : {n at : ℕ} {table : List ℕ} → wordsRead (limitsOf Γ) w ≡ fault n at →
+      Called w Γ (Layout.Refused (refusal n at)) table
+  refused-called {n} {at} e = record {
+    refused = λ x z. (let y : refusal n at ≡ x = cc in e ∙ ap (λ (q : Refusal). fault (q .number) (q .place)) y);
+    right = λ s z. not-found z;
+  }
+
   -- a refusal by what the code finds
   refused-by : {n at : ℕ} {table : List ℕ} → wordsRead (limitsOf Γ) w ≡ fault n at →
       Tabled w Γ (Layout.Refused (refusal n at)) table
@@ -120,9 +140,12 @@ module _ {Γ : Context} {w : List ℕ} where
     known = λ f p h. not-read e h;
   }
 
-  pub refused-tabled : {table : List ℕ} (r : Layout) (x : Refusal) → r ≡ placesOf (readOf (limitsOf Γ) w) →
-      r ≡ Layout.Refused x → Tabled w Γ (Layout.Refused x) table
-  refused-tabled r x e h = refused-by (words-refused (limitsOf Γ) w x (sym h ∙ e))
+  pub refused-found : {table : List ℕ} (r : Layout) (x : Refusal) → r ≡ placesOf (readOf (limitsOf Γ) w) →
+      r ≡ Layout.Refused x → Called w Γ (Layout.Refused x) table
+  refused-found r x e h = refused-called (words-refused (limitsOf Γ) w x (sym h ∙ e))
+
+  pub refused-tabled : {before table : List ℕ} {r : Layout} {x : Refusal} → Called w Γ r before → r ≡ Layout.Refused x → Tabled w Γ r table
+  refused-tabled {table = table} {x = x} c h = subst (λ (l : Layout). Tabled w Γ l table) (sym h) (refused-by (c .refused x h))
 
   module _ {before : List ℕ} {s : Places} (h : Found w Γ s before) where
     abbrev it : ReadAt (readOf (limitsOf Γ) w) s
@@ -135,11 +158,11 @@ module _ {Γ : Context} {w : List ℕ} where
     same-calls : wrongAt w before ≡ wrongCall w (it .file .procedures)
     same-calls = wrong-calls w before (limitsOf Γ) (it .file) stood (h .starts (it .file) (it .end) (it .was-read))
 
-    pub wrong-tabled : {table : List ℕ} (r : Rightness) (at : ℕ) →
+    pub wrong-called : {table : List ℕ} (r : Rightness) (at : ℕ) →
         r ≡ rightnessOf (firstPlace (wrongAt w before) (wordCount w) 0) → r ≡ Wrong at →
-        Tabled w Γ (Layout.Refused (refusal 16 at)) table
-    wrong-tabled r at e k =
-        refused-by (words-wrong (limitsOf Γ) w (it .file) (it .end) at (it .was-read)
+        Called w Γ (Layout.Refused (refusal 16 at)) table
+    wrong-called r at e k =
+        refused-called (words-wrong (limitsOf Γ) w (it .file) (it .end) at (it .was-read)
         (ap (λ t. firstPlace t (wordCount w) 0) (sym same-calls) ∙ wrong-some _ at (sym k ∙ e)))
 
     module _
@@ -149,16 +172,13 @@ module _ {Γ : Context} {w : List ℕ} where
         called = ap (λ t. firstPlace t (wordCount w) 0) (sym same-calls) ∙ c
 
         starts-kept : StartsListed w table (it .file)
-        starts-kept = record {
-          starts = starts-from w before table (m .starts) (it .file .procedures) (it .file .main) 0 (omega (arith, stood .few))
-              (h .starts (it .file) (it .end) (it .was-read) .starts);
-        }
+        starts-kept = starts-moved w before table (m .starts) (it .file) (stood .few) (h .starts (it .file) (it .end) (it .was-read))
 
         called-file : MaskedFile w table (limitsOf Γ) (it .file)
         called-file = record {
           stands = stood;
           called = called;
-          masks = masks-known w table (m .ends-of) (limitsOf Γ) (it .file) stood called starts-kept (m .made);
+          masks = masks-known w table (ends-listed (m .ends-of)) (limitsOf Γ) (it .file) stood called starts-kept (m .made);
         }
 
         pub steady-tabled : (r : Steadiness) → FirstFound w table r → r ≡ Steady → Tabled w Γ (Layout.Found s) table
@@ -173,7 +193,7 @@ module _ {Γ : Context} {w : List ℕ} where
                     starts = starts-kept;
                     masked = called-file;
                     procedures = λ low n l.
-                        procedures-known w table (m .ends-of) (limitsOf Γ) (it .file) stood called starts-kept (m .made) low n l;
+                        procedures-known w table (ends-listed (m .ends-of)) (limitsOf Γ) (it .file) stood called starts-kept (m .made) low n l;
                   });
             }
 

@@ -3,7 +3,7 @@
 -- Working: `steady-tabled`, `refused-tabled` and `loaded-file` of proofs/Files tie it to the layout's `wordsRead` and `fileOf`.
 -- Assumes nothing.
 --     TableRoom, Found     room for the table of some words; what refusals 2 to 6 leave of words that they let pass
---     CallsRight           the same with refusal 16
+--     CallsRight, Called   the same with refusal 16; refusals 2 to 6 and 16
 --     TableMade            the table is filled: ends, masks of procedures, masks of blocks
 --     KnownAt              what the table has of each program
 --     Tabled               refusals 2 to 7 and 16: the places, and the table
@@ -16,7 +16,7 @@ use Prim.Native.Nat.{ℕ, _+_, _*_, _/_, _<_, _≤_}
 use lib.ListN.{length, take}
 use Rattle.rules.specs.Context.{Limits, alone}
 use Rattle.layout.specs.Bytes.{wordsOf, wordCount}
-use Rattle.layout.specs.Reading.{read, firstPlace}
+use Rattle.layout.specs.Reading.{read, fault, firstPlace}
 use Rattle.layout.specs.File.{File, badLength, wordsRead, fileOf}
 use Rattle.layout.specs.Before.{contextBefore}
 use Rattle.ends.specs.Ends.{EndsOf}
@@ -28,6 +28,7 @@ use Rattle.scan.specs.Steady.{MaskedFile}
 use Rattle.context.specs.Contexts.{limitsOf}
 use Rattle.reader.specs.File.{placesOf, readOf}
 use Rattle.context.specs.declared.Context.{Context}
+use Rattle.context.specs.declared.Refusal.{Refusal}
 use Rattle.reader.specs.declared.Places.{Places}
 use Rattle.reader.specs.declared.Layout.{Layout}
 use Rattle.reader.specs.declared.Layout.the-variants as Layout
@@ -45,6 +46,10 @@ pub record Found (file : List ℕ) (Γ : Context) (s : Places) (table : List ℕ
 pub record CallsRight (file : List ℕ) (Γ : Context) (s : Places) (table : List ℕ) : Type 0 where
   pub found : Found file Γ s table
   pub right : firstPlace (wrongAt file table) (wordCount file) 0 ≡ none
+
+pub record Called (file : List ℕ) (Γ : Context) (r : Layout) (table : List ℕ) : Type 0 where
+  pub refused : (x : Refusal) → r ≡ Layout.Refused x → wordsRead (limitsOf Γ) file ≡ fault (x .number) (x .place)
+  pub right : (s : Places) → r ≡ Layout.Found s → CallsRight file Γ s table
 
 -- the starts are as they were
 pub record TableMade (file before after : List ℕ) : Type 0 where

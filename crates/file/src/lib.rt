@@ -17,7 +17,7 @@ use words::load::load;
 ghost use mathlib.Core.Path.{_≡_};
 ghost use Rattle.rules.specs.Context.{standard};
 ghost use Rattle.context.specs.Contexts.{limitsOf};
-ghost use Rattle.file.specs.Found.{Found, CallsRight, TableRoom, TableMade, Tabled, CanLoad, FileRead};
+ghost use Rattle.file.specs.Found.{Found, CallsRight, Called, TableRoom, TableMade, Tabled, CanLoad, FileRead};
 
 // Document 01's limits.
 pub fn standard_context() -> Context
@@ -48,29 +48,29 @@ pub fn read_steady(w: &[u32], table: &mut [u32], context: Context, places: Place
     ensures { λ r. ⌜ Tabled (now (w .entry)) context r (now (table .exit)) ⌝ }
 {
     fill_table(w, table);
-    let first = first_unsteady(w, table);
+    let first = first_unsteady(w, table, 0, w.len(), true);
     match first {
         Steadiness::Steady => Layout::Found(places),
         Steadiness::At(place) => Layout::Refused(Refusal { number: 7, place }),
     }
 }
 
-// Refusals 16 and 7, of words that refusals 2 to 6 let pass.
-fn read_called(w: &[u32], table: &mut [u32], context: Context, places: Places) -> Layout
+// Refusal 16, of words that refusals 2 to 6 let pass.
+fn read_called(w: &[u32], table: &[u32], context: Context, places: Places) -> Layout
     requires { ⌜ Found (now w) context places (now table) × TableRoom (now w) (now table) ⌝ }
-    ensures { λ r. ⌜ Tabled (now (w .entry)) context r (now (table .exit)) ⌝ }
+    ensures { λ r. ⌜ Called (now (w .entry)) context r (now (table .entry)) ⌝ }
 {
     let calls = first_wrong_call(w, table);
     match calls {
-        Rightness::Right => read_steady(w, table, context, places),
+        Rightness::Right => Layout::Found(places),
         Rightness::Wrong(place) => Layout::Refused(Refusal { number: 16, place }),
     }
 }
 
-// Refusals 2 to 7 and 16. The starts of the programs stand behind the room for ends and masks of blocks.
-pub fn read_table(w: &[u32], table: &mut [u32], context: Context) -> Layout
+// Refusals 2 to 6 and 16. The starts of the programs stand behind the room for ends and masks of blocks.
+pub fn read_calls(w: &[u32], table: &mut [u32], context: Context) -> Layout
     requires { ⌜ TableRoom (now w) (now table) ⌝ }
-    ensures { λ r. ⌜ Tabled (now (w .entry)) context r (now (table .exit)) ⌝ }
+    ensures { λ r. ⌜ Called (now (w .entry)) context r (now (table .exit)) ⌝ }
 {
     let n = w.len();
     let starts = n + 2 * (n / 32);
@@ -78,6 +78,18 @@ pub fn read_table(w: &[u32], table: &mut [u32], context: Context) -> Layout
     match found {
         Layout::Found(places) => read_called(w, table, context, places),
         Layout::Refused(refusal) => Layout::Refused(refusal),
+    }
+}
+
+// Refusals 2 to 7 and 16.
+pub fn read_table(w: &[u32], table: &mut [u32], context: Context) -> Layout
+    requires { ⌜ TableRoom (now w) (now table) ⌝ }
+    ensures { λ r. ⌜ Tabled (now (w .entry)) context r (now (table .exit)) ⌝ }
+{
+    let found = read_calls(w, table, context);
+    match found {
+        Layout::Found(places) => read_steady(w, table, context, places),
+        Layout::Refused(_) => found,
     }
 }
 

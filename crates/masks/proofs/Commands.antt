@@ -1,11 +1,11 @@
 -- The command that is read at a place of a file that was read.
 -- Assumes nothing.
---     OtherKind, NoneRead, no-command, none-past
---                     the kinds of no command: none is read at such a word, and none past the file
+--     NoneRead, no-command, none-past
+--                     at a word of a kind of no command none is read, and none past the file
 --     command-read    a command that stands there
 use mathlib.Core.Path.{_≡_, refl, ap}
 use mathlib.Core.List.{List}
-use mathlib.Core.Logic.{_⊎_, inl, inr}
+use mathlib.Core.Logic.{inl, inr}
 use mathlib.Core.Option.{none}
 use Prim.Native.Nat.{ℕ, zero, suc, _<_, _≤_}
 use native.Mathlib.Omega.{arith}
@@ -24,12 +24,9 @@ use Rattle.layout.proofs.Nodes.{node-deeper}
 use Rattle.layout.proofs.Resolved.{grows-all}
 use Rattle.scan.specs.Steady.{fileContext}
 use Rattle.masks.specs.Masks.{commandAt}
+use Rattle.masks.specs.Filled.{OtherKind}
 
 -- ---- where no command starts
--- the kinds of no command
-abbrev pub OtherKind : ℕ → Type 0
-OtherKind k = (k < 24) ⊎ ((31 < k) × (k ≡ 38 → ⊥))
-
 other-than : {k : ℕ} (n : ℕ) → (24 ≤ n) → (n ≤ 31) → OtherKind k → k ≡ n → ⊥
 other-than n l h (inl i) e = omega arith
 other-than n l h (inr i) e = omega (arith, i .0)

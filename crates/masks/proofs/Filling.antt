@@ -42,7 +42,7 @@ module _ (file ends before : List ℕ) where
   module _ (can : CanStore file ends before) {masks : List ℕ} {i : ℕ} (more : 0 < i) (f : Filling masks i) where
     pub can-mask : CanMask file ends masks (i - 1)
     can-mask = record {
-      ends-of = can .ends-of;
+      listed = can .listed;
       inside = omega (arith, f .inside);
       room = omega (arith, can .room, f .same-length);
       later = λ j l h. f .marks j (omega arith) h;

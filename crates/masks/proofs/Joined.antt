@@ -17,7 +17,7 @@ use Rattle.layout.specs.Bytes.{kindAt, payloadAt}
 use Rattle.layout.specs.Nodes.{countOf}
 use Rattle.ends.specs.Mask.{bit, slot}
 use Rattle.ends.specs.Blocks.{calledMask, written, anyIn, assigns, withMark, Marks}
-use Rattle.ends.specs.Ends.{EndsOf}
+use Rattle.ends.specs.Ends.{EndsListed}
 use Rattle.ends.specs.Places.{endAt}
 use Rattle.ends.specs.Sizes.{follow}
 use Rattle.ends.proofs.Sizes.{sizes-at, sizes-inside, follow-none, follow-stop, follow-on, follow-past}
@@ -32,7 +32,7 @@ module _ (file ends : List ℕ) where
     pub rest : follow ends (length file) left next ≡ endAt ends at
 
   -- the part that starts at a place has a word, and ends inside the file
-  pub part-end : {at : ℕ} → EndsOf file ends → at < length file → (at < endAt ends at) × (endAt ends at ≤ length file)
+  pub part-end : {at : ℕ} → EndsListed file ends → at < length file → (at < endAt ends at) × (endAt ends at ≤ length file)
   part-end {at} e h =
       let s = e .sized at h in
       let t = sizes-at file at h in
@@ -48,8 +48,8 @@ module _ (file ends : List ℕ) where
           let z : 0 ≡ at + 1 - (at + 1) = omega arith in
           subst (λ k. Marks (calledMask file ends) file k (at + 1) 0) z (marks-empty file (at + 1));
       rest =
-          follow-past file ends 0 (λ i l h. can .ends-of .sized i h) n (at + 1) (omega arith)
-          ∙ rw (add-one at, e) (go (can .ends-of .sized at (can .inside)) (sizes-at file at (can .inside)));
+          follow-past file ends 0 (λ i l h. can .listed .sized i h) n (at + 1) (omega arith)
+          ∙ rw (add-one at, e) (go (can .listed .sized at (can .inside)) (sizes-at file at (can .inside)));
     }
       where
         go : {k p : ℕ} → endAt ends at ≡ at + k → k ≡ suc p → suc at + p ≡ endAt ends at
@@ -58,7 +58,7 @@ module _ (file ends : List ℕ) where
     pub joining-more : {left next mask v : ℕ} → 0 < left → next < length file → Joining at left next mask → v ≡ endAt ends next →
         Joining at (left - 1) v (bitOr mask (getD masks next 0))
     joining-more {left} {next} {mask} {v} l i j e =
-        let p = part-end (can .ends-of) i in
+        let p = part-end (can .listed) i in
         let o = j .onward in
         let q : next ≡ at + 1 + (next - (at + 1)) = omega arith in
         let r : next - (at + 1) + (endAt ends next - next) ≡ v - (at + 1) = omega arith in
@@ -83,7 +83,7 @@ module _ (file ends : List ℕ) where
       let e = sym (follow-none ends (length file) left next h) ∙ j .rest in
       subst (λ p. Marks (calledMask file ends) file (p - (at + 1)) (at + 1) mask) e (j .marks)
 
-  pub with-first : {at mask r : ℕ} → EndsOf file ends → at < length file → RangeMarks file ends (at + 1) at mask →
+  pub with-first : {at mask r : ℕ} → EndsListed file ends → at < length file → RangeMarks file ends (at + 1) at mask →
       r ≡ withMark mask (written (calledMask file ends) (kindAt file at) (payloadAt file at)) → RangeMarks file ends at at r
   unfolding anyIn
   with-first {at} {mask} {r} e h m f =

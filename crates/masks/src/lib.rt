@@ -5,10 +5,17 @@ use ends::end_at;
 use ends::mask::mark;
 use ends::parts;
 use scan::range::modified;
+use words::kinds::CALL;
+use words::kinds::FOR;
+use words::kinds::KIND;
+use words::kinds::SKIP;
+ghost use mathlib.Core.Path.{_≡_};
+ghost use mathlib.Core.Bool.{false};
 ghost use Rattle.ends.specs.Places.{endAt};
 ghost use Rattle.scan.specs.Scan.{Modified};
-ghost use Prim.Native.Nat.{_+_};
-ghost use Rattle.masks.specs.Filled.{RangeMarks, CanMask, CanStore, Filled, CanAsk};
+ghost use Prim.Native.Nat.{_+_, _/_};
+ghost use Rattle.layout.specs.Bytes.{payloads};
+ghost use Rattle.masks.specs.Filled.{OtherKind, RangeMarks, CanMask, CanStore, Filled, CanAsk};
 
 // What the parts of the word at a place modify, by the masks of the words after it: those of expressions are 0.
 fn parts_mask(w: &[u32], ends: &[u32], masks: &[u64], at: usize) -> u64
@@ -30,6 +37,20 @@ fn parts_mask(w: &[u32], ends: &[u32], masks: &[u64], at: usize) -> u64
     mask
 }
 
+// Whether a command can start with a word: kinds 24 to 31 and 38.
+fn starts_command(x: u32) -> bool
+    ensures { λ r. ⌜ (r ≡ false → OtherKind (x / payloads)) ⌝ }
+{
+    let kind = x / KIND;
+    if kind < SKIP {
+        return false;
+    }
+    if kind <= FOR {
+        return true;
+    }
+    kind == CALL
+}
+
 // The masks of all words, from the last to the first. What stands behind them is kept.
 pub fn fill(w: &[u32], ends: &[u32], masks: &mut [u64])
     requires { ⌜ CanStore (now w) (now ends) (now masks) ⌝ }
@@ -40,6 +61,10 @@ pub fn fill(w: &[u32], ends: &[u32], masks: &mut [u64])
     let mut i = n;
     while 0 < i {
         i -= 1;
+        if !starts_command(w[i]) {
+            masks[i] = 0;
+            continue;
+        }
         let mask = parts_mask(w, ends, masks, i);
         masks[i] = mark(ends, procedures, mask, w[i]);
     }

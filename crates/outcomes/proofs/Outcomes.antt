@@ -36,7 +36,9 @@ use Rattle.file.proofs.Found.{found-read}
 use Rattle.file.proofs.Files.{file-words}
 use Rattle.masks.specs.WithMasks.{storedIf}
 use Rattle.masks.specs.Filled.{CanStore, Filled, MasksOf}
+use Rattle.ends.proofs.Table.{ends-listed}
 use Rattle.masks.proofs.Stored.{filled-masks, filled-stored}
+use Rattle.masks.proofs.Stored as stored
 use Rattle.goals.specs.Goals.{judgedOf}
 use Rattle.goals.specs.declared.Judged.{Judged}
 use Rattle.goals.specs.declared.Judged.the-variants as Judged
@@ -84,7 +86,7 @@ module _ {w table : List ℕ} {context : Context} {s : Places} (c : CanJudgeFile
 
   module _ (room : length w ≤ length lent) where
     pub can-store : CanStore w table lent
-    can-store = record { ends-of = c .programs .ends-of; room = room }
+    can-store = stored.can-store w table (limitsOf context) (c .programs .contents) (ends-listed (c .programs .ends-of)) (c .programs .known .masked) room
 
     module _ {left : List ℕ} (f : Filled w table lent left) where
       pub stored-of : MasksOf w table (take (length w) left)
@@ -98,7 +100,7 @@ module _ {w table : List ℕ} {context : Context} {s : Places} (c : CanJudgeFile
       stored-done e = record {
         outcome = e;
         masks =
-            filled-stored w table (limitsOf context) (c .programs .contents) (c .programs .ends-of) (c .programs .known .masked) room f
+            filled-stored w table (limitsOf context) (c .programs .contents) (ends-listed (c .programs .ends-of)) (c .programs .known .masked) room f
             ∙ sym (rw (le-ltb (length lent) (length w) room) (ap (λ x. storedIf (limitsOf context) w x lent) was));
       }
 

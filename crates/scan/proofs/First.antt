@@ -4,7 +4,8 @@
 --     first-here, first-next, first-end
 --                              it is at hand; it is not at hand; there is none
 --     first-past               past places that do not pass
-use mathlib.Core.Path.{_≡_, refl, ap, _∙_}
+--     first-none, none-there   no place passes; a scan that finds none
+use mathlib.Core.Path.{_≡_, refl, sym, ap, _∙_}
 use mathlib.Core.Bool.{Bool, true, false}
 use mathlib.Core.Option.{none, some}
 use Prim.Native.Nat.{ℕ, zero, suc, _+_, _-_, _<_, _≤_}
@@ -46,3 +47,23 @@ module _ (t : ℕ → Bool) (n : ℕ) where
   first-past at p h k f =
       let e : at + (p - at) ≡ p = omega arith in
       past (p - at) at (omega arith) (λ i l m. f i l (omega arith)) ∙ ap (λ j. firstPlace t (n - j) j) e
+
+  pub first-none : ((i : ℕ) → i < n → t i ≡ false) → firstPlace t n 0 ≡ none
+  first-none f =
+      sym first-start ∙ first-past 0 n (omega arith) (omega arith) (λ i l m. f i m) ∙ first-end n (omega arith)
+
+  none-here : (i : ℕ) → i < n → firstPlace t (n - i) i ≡ none → t i ≡ false
+  none-here i l e = go (t i) refl
+    where
+      go : (b : Bool) → t i ≡ b → b ≡ false
+      go false h = refl
+      go true h = absurd (let f = first-here i l h in let z : _≡_ {A = ℕ} 0 1 = cc in omega (arith, z))
+
+  none-from : firstPlace t n 0 ≡ none → (i : ℕ) → i ≤ n → firstPlace t (n - i) i ≡ none
+  none-from e zero l = first-start ∙ e
+  none-from e (suc i) l =
+      let f = none-from e i (omega arith) in
+      rw (← add-one i) (sym (first-next i (omega arith) (none-here i (omega arith) f)) ∙ f)
+
+  pub none-there : firstPlace t n 0 ≡ none → (i : ℕ) → i < n → t i ≡ false
+  none-there e i l = none-here i l (none-from e i (omega arith))

@@ -26,10 +26,11 @@ use Rattle.layout.proofs.Before.{context-before}
 use Rattle.layout.proofs.Resolved.{Grows, grows-after, command-moved, set-moved, resolved-more}
 use Rattle.layout.proofs.Resolved.{ProgramResolved, ProgramsResolved, right-calls, file-resolved}
 use Rattle.ends.specs.Mask.{ModifiedBy}
-use Rattle.ends.specs.Ends.{EndsOf}
+use Rattle.ends.specs.Ends.{EndsListed}
 use Rattle.ends.specs.Places.{endAt}
 use Rattle.ends.specs.Procedures.{startAt, maskAt, ProcedureAt, Procedures}
-use Rattle.ends.proofs.Places.{node-at, at-place}
+use Rattle.ends.proofs.Table.{node-listed, listed-at}
+use Rattle.ends.proofs.Places.{at-place}
 use Rattle.scan.specs.Programs.{procedureCount, StartsFrom, StartsListed, MaskMade, Masks}
 use Rattle.scan.specs.Steady.{fileContext}
 use Rattle.scan.proofs.Trees.{CallsKnown, marked-command, item-inside}
@@ -62,7 +63,7 @@ procedure-moved {k = k} g x = record {
   mask = x .mask;
 }
 
-module _ (file ends : List ℕ) (o : EndsOf file ends) where
+module _ (file ends : List ℕ) (o : EndsListed file ends) where
   pub record MasksKnown (Γ : Context) : Type 0 where
     pub mask : (n : ℕ) (k : Procedure) → itemAt (Γ .procedures) n ≡ some k → ModifiedBy (k .body) (maskAt file ends n)
     pub at : Γ .limits .depth ≤ 256 → (n : ℕ) (k : Procedure) → itemAt (Γ .procedures) n ≡ some k → ProcedureAt file ends Γ n k
@@ -73,7 +74,7 @@ module _ (file ends : List ℕ) (o : EndsOf file ends) where
       (r : ProgramResolved Γ g) (start : startAt file ends i ≡ g .start)
     where
       past-command : endAt ends (g .start) ≡ g .preAt
-      past-command = o .command-end Γ (g .command) (Γ .limits .depth) (g .start) (g .preAt) (h .command)
+      past-command = node-listed o (commandNode Γ (g .command)) (Γ .limits .depth) (g .start) (g .preAt) (h .command)
 
       own-mask : MasksKnown Γ → MaskMade file ends i → ModifiedBy (g .command) (maskAt file ends i)
       own-mask known x =
@@ -94,12 +95,12 @@ module _ (file ends : List ℕ) (o : EndsOf file ends) where
           let grown = grows-after Γ g in
           let pre : endAt ends (startAt file ends i) ≡ g .preAt = ap (endAt ends) start ∙ past-command in
           let post : endAt ends (endAt ends (startAt file ends i)) ≡ g .postAt =
-          ap (endAt ends) pre ∙ o .set-end Γ (g .pre) d (g .preAt) (g .postAt) (h .pre) in
+          ap (endAt ends) pre ∙ node-listed o (setNode Γ (g .pre)) d (g .preAt) (g .postAt) (h .pre) in
           record {
-            body = at-place start (node-at o (commandNode Δ (g .command)) d (g .start) (g .preAt) low
+            body = at-place start (listed-at o (commandNode Δ (g .command)) d (g .start) (g .preAt) low
                 (command-moved grown d (g .command) (h .command) (r .command)));
-            pre = at-place pre (node-at o (setNode Δ (g .pre)) d (g .preAt) (g .postAt) low (set-moved grown d (g .pre) (h .pre)));
-            post = at-place post (node-at o (setNode Δ (g .post)) d (g .postAt) (g .evidenceAt) low
+            pre = at-place pre (listed-at o (setNode Δ (g .pre)) d (g .preAt) (g .postAt) low (set-moved grown d (g .pre) (h .pre)));
+            post = at-place post (listed-at o (setNode Δ (g .post)) d (g .postAt) (g .evidenceAt) low
                 (set-moved grown d (g .post) (h .post)));
             resolved = resolved-more (grown .extends) (g .command) (r .command);
             mask = m;
@@ -188,7 +189,7 @@ module _ (file ends : List ℕ) (o : EndsOf file ends) where
           let same = all-limits (alone limits) (take n (f .procedures)) in
           subst (Procedures file ends) (sym (before-first n e)) (record {
             few = few-first n e;
-            room = o .blocks .room;
+            room = o .room;
             known = λ i k h. known-first n e .at (omega (arith, ap (λ l. l .depth) same)) i k h;
           })
 

@@ -3,23 +3,19 @@
 --     callable-start, callable-stop, callable-here, callable-next
 --                                                    how many procedures end before a place, as the loop counts them
 --     wrong-other, wrong-call                        a word of another kind; a call
---     passed-none, passed-more, passed-four, passed-eight
---                                                    no call among no words; those of one scan and the next; four; eight
---     first-passed                                   a scan for the first wrong call goes past them
 --     wrong-calls                                    in a file that stands, the calls that are wrong on words are the wrong calls
-use mathlib.Core.Path.{_≡_, refl, sym, ap, subst, fun-ext, _∙_}
-use mathlib.Core.Bool.{Bool, true, false, not, _&&_, _||_, cond}
+use mathlib.Core.Path.{_≡_, refl, sym, ap, fun-ext, _∙_}
+use mathlib.Core.Bool.{Bool, true, false, not, _&&_, cond}
 use mathlib.Core.List.{List, [], _∷_}
 use mathlib.Core.Logic.{inl, inr}
 use Prim.Native.Nat.{ℕ, suc, _+_, _-_, _<_, _≤_}
 use native.Mathlib.Omega.{arith}
 use native.Mathlib.Numerals.{add-one}
-use borrow.Author.Tests.{eq-eqb, ne-eqb, eqb-false, le-leb, lt-leb, lt-ltb, le-ltb}
+use borrow.Author.Tests.{eq-eqb, ne-eqb, le-leb, lt-leb, lt-ltb, le-ltb}
 use lib.Dec.{eqb, ltb, leb}
 use lib.ListN.{length}
 use Rattle.rules.specs.Context.{Limits, Context, alone}
 use Rattle.layout.specs.Bytes.{wordCount, kindAt, payloadAt}
-use Rattle.layout.specs.Reading.{firstPlace}
 use Rattle.layout.specs.Program.{Program, after}
 use Rattle.layout.specs.Call.{callable, wrongCall}
 use Rattle.layout.specs.File.{File}
@@ -27,8 +23,7 @@ use Rattle.layout.specs.FileWords.{ProgramsStand, FileStands}
 use Rattle.ends.specs.Procedures.{startAt}
 use Rattle.ends.proofs.Sizes.{lt-or-le}
 use Rattle.scan.specs.Programs.{procedureCount, StartsFrom, StartsListed}
-use Rattle.scan.specs.Calls.{callableFrom, wrongAt, Passed}
-use Rattle.scan.proofs.First.{first-past}
+use Rattle.scan.specs.Calls.{callableFrom, wrongAt}
 use Rattle.scan.proofs.FilePrograms.{next-start, count-procedures}
 
 one-less : (i n : ℕ) → i < n → n - i ≡ suc (n - (i + 1))
@@ -71,59 +66,6 @@ module _ (file ends : List ℕ) (at : ℕ) where
   wrong-call {n} e h =
       not-below (payloadAt file at) n ∙ ap (λ m. not (ltb (payloadAt file at) m)) h
       ∙ rw (eq-eqb (kindAt file at) 38 e, wrongAt) refl
-
-neither : (a b : Bool) → (a || b) ≡ false → (a ≡ false) × (b ≡ false)
-neither true b e = absurd (let z : _≡_ {A = ℕ} 0 1 = cc in omega (arith, z))
-neither false b e = (refl, e)
-
-module _ {file : List ℕ} where
-  pub passed-none : (at : ℕ) → Passed file at at
-  passed-none at = record { onward = omega arith; inside = λ h. h; none = λ i l m e. omega arith }
-
-  pub passed-more : {at p q : ℕ} → Passed file at p → Passed file p q → Passed file at q
-  passed-more {p = p} x y = record {
-    onward = omega (arith, x .onward, y .onward);
-    inside = λ h. y .inside (x .inside h);
-    none = λ i l m e. elim (lt-or-le i p) [ inl k ↦ x .none i l k e | inr k ↦ y .none i k m e ];
-  }
-
-  -- one word that is no call
-  passed-one : {at : ℕ} → at < length file → eqb (kindAt file at) 38 ≡ false → Passed file at (at + 1)
-  passed-one {at} h e = record {
-    onward = omega arith;
-    inside = λ k. omega arith;
-    none = λ i l m k. let same : i ≡ at = omega arith in eqb-false (kindAt file at) 38 e (ap (kindAt file) (sym same) ∙ k);
-  }
-
-  pub passed-four : (at : ℕ) → at + 4 ≤ length file →
-      (((eqb (kindAt file at) 38 || eqb (kindAt file (at + 1)) 38) || eqb (kindAt file (at + 2)) 38)
-      || eqb (kindAt file (at + 3)) 38) ≡ false →
-      Passed file at (at + 4)
-  passed-four at h e =
-      let a = neither _ _ e in
-      let b = neither _ _ (a .0) in
-      let c = neither _ _ (b .0) in
-      let one : (i j : ℕ) → i + 1 ≡ j → i < length file → eqb (kindAt file i) 38 ≡ false → Passed file i j =
-      λ i j s l k. subst (Passed file i) s (passed-one l k) in
-      passed-more (one at (at + 1) refl (omega arith) (c .0))
-      (passed-more (one (at + 1) (at + 2) (omega arith) (omega arith) (c .1))
-      (passed-more (one (at + 2) (at + 3) (omega arith) (omega arith) (b .1))
-      (one (at + 3) (at + 4) (omega arith) (omega arith) (a .1))))
-
-  pub passed-eight : (at : ℕ) {a b : Bool} → (a ≡ false → Passed file at (at + 4)) →
-      (b ≡ false → Passed file (at + 4) (at + 4 + 4)) → (a || b) ≡ false → Passed file at (at + 8)
-  passed-eight at f g e =
-      let h = neither _ _ e in
-      let s : at + 4 + 4 ≡ at + 8 = omega arith in
-      subst (Passed file at) s (passed-more (f (h .0)) (g (h .1)))
-
--- the scan for the first wrong call
-module _ (file ends : List ℕ) where
-  pub first-passed : {at p : ℕ} → at ≤ length file → Passed file at p →
-      firstPlace (wrongAt file ends) (wordCount file - at) at ≡ firstPlace (wrongAt file ends) (wordCount file - p) p
-  first-passed {at} {p} h x =
-      first-past (wrongAt file ends) (wordCount file) at p (x .onward) (x .inside h) λ i l m.
-      sym (wrong-other file ends i (x .none i l m))
 
 -- ---- in a file that stands
 module _ (file ends : List ℕ) where

@@ -3,14 +3,11 @@
 --     callableFrom      how many procedures end before a place, by the starts of the programs that follow them
 --     wrongAt           at the place stands a call to another number
 --     rightnessOf       the answer of the scan for the first such call
---     Passed            a scan went on to a place, and no word before it is a call
-use mathlib.Core.Path.{_≡_}
 use mathlib.Core.Bool.{Bool, not, _&&_, cond}
 use mathlib.Core.List.{List}
 use mathlib.Core.Option.{Option, none, some}
-use Prim.Native.Nat.{ℕ, zero, suc, _<_, _≤_}
+use Prim.Native.Nat.{ℕ, zero, suc}
 use lib.Dec.{eqb, ltb, leb}
-use lib.ListN.{length}
 use Rattle.layout.specs.Bytes.{kindAt, payloadAt}
 use Rattle.ends.specs.Procedures.{startAt}
 use Rattle.scan.specs.Programs.{procedureCount}
@@ -30,8 +27,3 @@ wrongAt file ends at =
 abbrev pub rightnessOf : Option ℕ → Rightness
 rightnessOf none = Right
 rightnessOf (some at) = Wrong at
-
-pub record Passed (file : List ℕ) (from to : ℕ) : Type 0 where
-  pub onward : from ≤ to
-  pub inside : from ≤ length file → to ≤ length file
-  pub none : (i : ℕ) → from ≤ i → i < to → kindAt file i ≡ 38 → ⊥

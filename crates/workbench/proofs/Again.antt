@@ -1,52 +1,33 @@
 -- A file with a skip, an assert or an assignment in the place of another that takes as many levels or more: it is read as before, and what
 -- the list of starts has of it stays.
 -- Assumes nothing.
---     read-simple-to    such a command is read up to a place, by the kind of its first word and a walk
---     read-past, read-other, read-next, read-refused
---                       the same as the code has it: past the file; at a word of another kind; by a walk that goes on; by one that is refused
---     walk-deeper       a command that is read with some levels is read with more
---     kind-bounds       the kinds of these commands
 --     fits-wherever     the new command is read wherever the old one is
---     read-is-simple, read-walk
---                       the same of a command that is read up to a place
---     no-calls          no word of such a command is a call
 --     calls-kept, spliced-right
 --                       the law; of words in the place of as many
 use mathlib.Core.Path.{_≡_, refl, sym, ap, ap₂, subst, _∙_}
-use mathlib.Core.Bool.{Bool, true, false, not, _&&_, _||_}
-use mathlib.Core.List.{List, [], _∷_, _++_}
+use mathlib.Core.Bool.{true, false, not, _&&_}
+use mathlib.Core.List.{List, [], _∷_}
 use mathlib.Core.Logic.{_⊎_, inl, inr}
 use Prim.Native.Nat.{ℕ, suc, _+_, _*_, _/_, _%_, _<_, _≤_}
 use native.Mathlib.Omega.{arith}
-use borrow.Author.Tests.{eqb-true}
 use lib.Dec.{eqb, ltb}
-use lib.ListN.{length, getD, List·getD-eq-default}
-use Rattle.laws.proofs.Bools.{and-left, and-right, or-cases, clash}
-use Rattle.language.specs.Syntax.{Sort, Expr, constant, scalar, operation, select, compare, truth, and, or, neg}
-use Rattle.language.specs.Syntax.{array, zeros, update, toScalar, toArray}
-use Rattle.language.specs.Syntax.{Command, skip, sequence, assert, assign, ifElse, while, for, call}
-use Rattle.rules.specs.Words.{Word, words, commandWords}
+use lib.ListN.{length, getD}
+use Rattle.language.specs.Syntax.{call}
 use Rattle.rules.specs.Context.{Limits, Context, alone, standard}
 use Rattle.layout.specs.Bytes.{wordCount, numberAt, kindAt, payloadAt, payloads}
 use Rattle.layout.specs.Reading.{Reading, read, fault, firstPlace}
-use Rattle.layout.specs.Read.{command}
 use Rattle.layout.specs.Program.{Program}
 use Rattle.layout.specs.File.{File}
-use Rattle.layout.specs.Nodes.{commandNode, kindOf, AllInRange}
-use Rattle.layout.specs.Standing.{StandsTo}
-use Rattle.layout.proofs.Nodes.{node-deeper, node-range, with-levels, kind-at, node-inside}
-use Rattle.layout.proofs.Back.{command-stands}
+use Rattle.layout.specs.Nodes.{commandNode}
 use Rattle.layout.proofs.Resolved.{right-calls}
-use Rattle.reader.specs.Walk.{walkOf, commandWalk}
+use Rattle.reader.specs.Walk.{commandWalk}
 use Rattle.reader.specs.Program.{places}
 use Rattle.reader.specs.File.{placesOf, startsFrom, startsOf, readOf}
-use Rattle.reader.specs.declared.Walk.{Walk}
-use Rattle.reader.specs.declared.Walk.the-variants.{Next, Refused}
+use Rattle.reader.specs.declared.Walk.the-variants.{Next}
 use Rattle.reader.specs.declared.Places.{Places}
 use Rattle.reader.specs.declared.Layout.the-variants as Layout
-use Rattle.reader.proofs.Contexts.{command-walk}
 use Rattle.reader.proofs.Programs.{ends, traceOf}
-use Rattle.reader.proofs.Kept.{Swapped, walk-read, read-kept}
+use Rattle.reader.proofs.Kept.{Swapped, read-kept}
 use Rattle.ends.specs.Procedures.{startAt}
 use Rattle.ends.proofs.Sizes.{lt-or-le}
 use Rattle.scan.specs.Programs.{procedureCount, StartsFrom, StartsListed}
@@ -56,93 +37,15 @@ use Rattle.scan.proofs.FilePrograms.{count-procedures}
 use Rattle.scan.proofs.WrongCalls.{wrong-other, wrong-calls}
 use Rattle.context.specs.Contexts.{limitsOf}
 use Rattle.context.specs.declared.Context as code
-use Rattle.context.specs.declared.Refusal.{Refusal}
 use Rattle.file.specs.Found.{Found, CallsRight}
 use Rattle.file.proofs.Found.{found-read, read-file}
-use Rattle.workbench.specs.Put.{isSimple, simpleTo, spliced}
-use Rattle.workbench.specs.Simple.{isSimpleKind, endsAt, readTo}
+use Rattle.workbench.specs.Put.{spliced}
+use Rattle.workbench.specs.Simple.{readTo}
 use Rattle.workbench.specs.Extent.{ExtentOf}
 use Rattle.workbench.specs.declared.extent.Extent.{Extent}
 use Rattle.workbench.proofs.Splice.{spliced-length, spliced-before, spliced-after}
-use Rattle.workbench.proofs.SimpleWords.{kind-simple}
-use Rattle.workbench.proofs.Shift.{simple-read, read-stands}
-
--- ---- such a command, by a walk
-module _ (file : List ℕ) (Γ : Context) (d at : ℕ) where
-  read-kind : {c : Command} {p : ℕ} → command Γ file d at ≡ read c p → isSimpleKind (kindAt file at) ≡ isSimple c
-  read-kind {c} e =
-      with-levels (commandNode Γ c) d (read-stands file Γ d at e .0) λ n m o. ap isSimpleKind (o .kind) ∙ kind-simple Γ c
-
-  pub read-simple-to : (to : ℕ) → readTo file d at to ≡ simpleTo (command Γ file d at) to
-  unfolding readTo
-  read-simple-to to = ap (λ (x : Walk). isSimpleKind (kindAt file at) && endsAt x to) (command-walk Γ file d at) ∙ go (command Γ file d at) refl
-    where
-      none-left : (b : Bool) → (b && false) ≡ false
-      none-left true = refl
-      none-left false = refl
-
-      go : (x : Reading Command) → command Γ file d at ≡ x → (isSimpleKind (kindAt file at) && endsAt (walkOf x) to) ≡ simpleTo x to
-      go (read c p) e = ap (λ b. b && eqb p to) (read-kind e)
-      go (fault n p) e = none-left (isSimpleKind (kindAt file at))
-
-walk-to : (x : Walk) (to : ℕ) → endsAt x to ≡ true → x ≡ Next to
-walk-to (Next p) to e = ap Next (eqb-true p to e)
-walk-to (Refused x) to e = clash refl (sym e)
-
-module _ (file : List ℕ) (d at to : ℕ) (h : readTo file d at to ≡ true) where
-  pub read-is-simple : isSimpleKind (kindAt file at) ≡ true
-  unfolding readTo
-  read-is-simple = and-left (isSimpleKind (kindAt file at)) (endsAt (commandWalk file d at) to) h
-
-  pub read-walk : commandWalk file d at ≡ Next to
-  unfolding readTo
-  read-walk = walk-to (commandWalk file d at) to (and-right (isSimpleKind (kindAt file at)) (endsAt (commandWalk file d at) to) h)
-
--- as the code has them: r is what was returned for the walk
-module _ (file : List ℕ) (d at to : ℕ) where
-  pub read-other : isSimpleKind (kindAt file at) ≡ false → false ≡ readTo file d at to
-  unfolding readTo
-  read-other h = sym (ap (λ b. b && endsAt (commandWalk file d at) to) h)
-
-  pub read-past : length file ≤ at → false ≡ readTo file d at to
-  unfolding isSimpleKind
-  read-past h = read-other (rw (List·getD-eq-default file 0 h) refl)
-
-  module _ (h : isSimpleKind (kindAt file at) ≡ true) {r : Walk} (e : r ≡ commandWalk file d at) where
-    pub read-next : {p : ℕ} → r ≡ Next p → eqb p to ≡ readTo file d at to
-    unfolding readTo
-    read-next f = ap₂ (λ a (x : Walk). a && endsAt x to) (sym h) (sym f ∙ e)
-
-    pub read-refused : {x : Refusal} → r ≡ Refused x → false ≡ readTo file d at to
-    unfolding readTo
-    read-refused f = ap₂ (λ a (x : Walk). a && endsAt x to) (sym h) (sym f ∙ e)
-
--- what is read with some levels is read with more, and stands there
-walk-stands : (file : List ℕ) (d at p : ℕ) → commandWalk file d at ≡ Next p →
-    (c : Command) × (command (alone standard) file d at ≡ read c p)
-walk-stands file d at p e = walk-read (command (alone standard) file d at) p e
-
-pub walk-deeper : (file : List ℕ) (d n at p : ℕ) → d ≤ n → commandWalk file d at ≡ Next p → commandWalk file n at ≡ Next p
-walk-deeper file d n at p l e =
-    let x = walk-stands file d at p e in
-    let s = read-stands file (alone standard) d at (x .1) .0 in
-    ap walkOf (command-stands file (alone standard) n (x .0) at p (record {
-      stand = s .stand;
-      fit = node-deeper d n l (commandNode (alone standard) (x .0)) (s .fit);
-    }) .back)
-
-pub kind-bounds : (k : ℕ) → isSimpleKind k ≡ true → (24 ≤ k) × (k ≤ 28)
-unfolding isSimpleKind
-kind-bounds k h = elim (or-cases (eqb k 24) (eqb k 26 || (eqb k 27 || eqb k 28)) h) [
-  | inl a ↦ let e = eqb-true k 24 a in (omega arith, omega arith)
-  | inr b ↦ elim (or-cases (eqb k 26) (eqb k 27 || eqb k 28) b) [
-    | inl a ↦ let e = eqb-true k 26 a in (omega arith, omega arith)
-    | inr c ↦ elim (or-cases (eqb k 27) (eqb k 28) c) [
-      | inl a ↦ let e = eqb-true k 27 a in (omega arith, omega arith)
-      | inr a ↦ let e = eqb-true k 28 a in (omega arith, omega arith)
-    ]
-  ]
-]
+use Rattle.workbench.proofs.Shift.{read-stands}
+use Rattle.workbench.proofs.ReadTo.{read-is-simple, read-walk, walk-stands, walk-deeper, kind-bounds, no-calls, read-ends}
 
 -- r is the extent of the old command, which is read with `most` levels up to `to`; so is the new one, with as many as the old one takes
 pub fits-wherever : (w v : List ℕ) (place to most : ℕ) (r : Extent) → ExtentOf w place most r → commandWalk w most place ≡ Next to →
@@ -166,71 +69,6 @@ fits-wherever w v place to most r x old new d p e = go (lt-or-le most d)
         let b = stands-at most to (omega arith) old in
         let same : to ≡ p = sym (b .0) ∙ a .0 in
         (walk-deeper v (r .levels) d place to (a .1) new ∙ ap Next same, omega arith)
-
-read-some : (file : List ℕ) (d at to : ℕ) → readTo file d at to ≡ true → at < to
-read-some file d at to h =
-    let x = walk-stands file d at to (read-walk file d at to h) in
-    node-inside (commandNode (alone standard) (x .0)) (read-stands file (alone standard) d at (x .1) .0) .start
-
--- ---- no word of such a command is a call
--- words of kinds below that of a call
-abbrev Low : List Word → Type 0
-Low [] = Unit {0}
-Low (x ∷ l) = (kindOf x < 38) × Low l
-
-low-append : (l m : List Word) → Low l → Low m → Low (l ++ m)
-low-append [] m h k = k
-low-append (x ∷ l) m h k = (h .0, low-append l m (h .1) k)
-
-expression-low : {j : Sort} (e : Expr j) → Low (words e)
-unfolding words
-expression-low (constant z) = (omega arith, tt)
-expression-low (scalar x) = (omega arith, tt)
-expression-low (operation o a b) = (omega arith, low-append (words a) (words b) (expression-low a) (expression-low b))
-expression-low (select a i) = (omega arith, low-append (words a) (words i) (expression-low a) (expression-low i))
-expression-low (compare r a b) = (omega arith, low-append (words a) (words b) (expression-low a) (expression-low b))
-expression-low (truth t) = (omega arith, tt)
-expression-low (and a b) = (omega arith, low-append (words a) (words b) (expression-low a) (expression-low b))
-expression-low (or a b) = (omega arith, low-append (words a) (words b) (expression-low a) (expression-low b))
-expression-low (neg b) = (omega arith, expression-low b)
-expression-low (array a) = (omega arith, tt)
-expression-low zeros = (omega arith, tt)
-expression-low (update a i b) = (
-  omega arith,
-  low-append (words a) (words i ++ words b) (expression-low a)
-      (low-append (words i) (words b) (expression-low i) (expression-low b)),
-)
-
-simple-low : (c : Command) → isSimple c ≡ true → Low (commandWords c)
-unfolding commandWords
-simple-low skip h = (omega arith, tt)
-simple-low (sequence c d) h = clash refl (sym h)
-simple-low (assert b) h = (omega arith, expression-low b)
-simple-low (assign (toScalar x e)) h = (omega arith, expression-low e)
-simple-low (assign (toArray x e)) h = (omega arith, expression-low e)
-simple-low (ifElse b c d) h = clash refl (sym h)
-simple-low (while b c) h = clash refl (sym h)
-simple-low (for q m c) h = clash refl (sym h)
-simple-low (call n c) h = clash refl (sym h)
-
-low-at : (file : List ℕ) (l : List Word) (at p : ℕ) → StandsTo file at l p → Low l → AllInRange l → (i : ℕ) → at ≤ i → i < p →
-    kindAt file i < 38
-low-at file [] at p s h r i k m = absurd (omega arith)
-low-at file (x ∷ l) at p s h r i k m = elim (lt-or-le at i) [
-  | inl n ↦ low-at file l (at + 1) p (s .2) (h .1) (r .1) i (omega arith) m
-  | inr n ↦
-      let e : at ≡ i = omega arith in
-      subst (λ j. kindAt file j < 38) e (let z = kind-at file at x (s .1) (r .0) in omega (arith, z, h .0))
-]
-
-pub no-calls : (file : List ℕ) (d at to : ℕ) → readTo file d at to ≡ true → (i : ℕ) → at ≤ i → i < to → kindAt file i ≡ 38 → ⊥
-no-calls file d at to h i l m k =
-    let Γ = alone standard in
-    let s = simple-read (command Γ file d at) to (sym (read-simple-to file Γ d at to) ∙ h) in
-    let c = s .command in
-    let t = read-stands file Γ d at (s .is) .0 in
-    let low = low-at file (commandWords c) at to (t .stand) (simple-low c (s .simple)) (node-range d (commandNode Γ c) (t .fit)) i l m in
-    omega (arith, low, k)
 
 -- ---- the file is read as before
 -- what was read, by its trace
@@ -359,4 +197,4 @@ module _ {w table : List ℕ} {Γ : code.Context} {s : Places} (c : CallsRight w
   pub spliced-right : readTo new (r .levels) place (place + length m) ≡ true → CallsRight new Γ s table
   spliced-right h =
       let to = place + length m in
-      calls-kept c (swapped h) (read-some new (r .levels) place to h) (no-calls new (r .levels) place to h)
+      calls-kept c (swapped h) (read-ends new (r .levels) place to h .0) (no-calls new (r .levels) place to h)

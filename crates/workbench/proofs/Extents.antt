@@ -1,9 +1,10 @@
 -- How many levels what stands at a place takes, and where it ends, as the walk over its parts finds it.
 -- Assumes nothing.
---     extent-zero, extent-past     with no level left nothing stands anywhere, and nothing stands past the file
+--     extent-zero, extent-past, extent-one
+--                                  with no level left nothing stands anywhere, nothing stands past the file, and with one a word alone
 --     Ahead                        so many parts are still ahead
---     ahead-start, ahead-next, ahead-done
---                                  before the first part; after one more; after the last
+--     ahead-start, ahead-next, ahead-stop, ahead-done
+--                                  before the first part; after one more; past the file; after the last
 use mathlib.Core.Path.{_≡_, refl, sym, ap₂, subst, _∙_}
 use mathlib.Core.List.{List, [], _∷_, map}
 use Prim.Native.Nat.{ℕ, zero, suc, _+_, _-_, _<_, _≤_}
@@ -34,6 +35,27 @@ module _ {file : List ℕ} {at most : ℕ} where
 
   pub extent-past : length file ≤ at → ExtentOf file at most (record { end = at; levels = 0 })
   extent-past h = none-stands λ x d p l s. let i = node-inside x s in omega (arith, i .start, i .within)
+
+  -- with one level left only a word without parts stands
+  pub extent-one : most ≡ 1 → ExtentOf file at most (record { end = at + 1; levels = 1 })
+  extent-one e = record {
+    few = omega arith;
+    end = λ x d p l s. ends-at x d p (omega arith) s;
+    least = λ x d p l s. takes x d p s;
+  }
+    where
+      alone : (l : List Node) {p : ℕ} → Chain file (map nodePart l) 0 (at + 1) p → at + 1 ≡ p
+      alone [] c = c
+      alone (y ∷ l) c = absurd (no-level y (c .1 .fit))
+
+      ends-at : (x : Node) (d p : ℕ) → d ≤ 1 → PartStands file (nodePart x) d at p → at + 1 ≡ p
+      ends-at x zero p l s = absurd (no-level x (s .fit))
+      ends-at x (suc zero) p l s = alone (partsOf x) (opened x 0 s .parts-at)
+      ends-at x (suc (suc d)) p l s = absurd (omega arith)
+
+      takes : (x : Node) (d p : ℕ) → PartStands file (nodePart x) d at p → 1 ≤ d
+      takes x zero p s = absurd (no-level x (s .fit))
+      takes x (suc d) p s = omega arith
 
 module _ (file : List ℕ) (at most : ℕ) where
   -- of what stands at the place with one level more than d, `left` parts stand from `end` on, and those before take at most d levels
@@ -75,6 +97,23 @@ module _ (file : List ℕ) (at most : ℕ) where
         omega arith,
         m d i (e .least y d (c .0) k (c .1)),
       )
+
+  -- nothing stands past the file
+  pub ahead-stop : {left end levels : ℕ} → Ahead left end levels → 0 < left → length file ≤ end →
+      ExtentOf file at most (record { end = end; levels = levels + 1 })
+  ahead-stop {left} {end} {levels} a h e = record {
+    few = omega (arith, a .few);
+    end = λ x d p l s. absurd (none x d p l s);
+    least = λ x d p l s. absurd (none x d p l s);
+  }
+    where
+      past : (d p : ℕ) (l : List Node) → Chain file (map nodePart l) d end p → length l ≡ left → ⊥
+      past d p [] c n = omega arith
+      past d p (y ∷ l) c n = let i = node-inside y (c .1) in omega (arith, i .start, i .within)
+
+      none : (x : Node) (d p : ℕ) → d ≤ most → PartStands file (nodePart x) d at p → ⊥
+      none x zero p l s = no-level x (s .fit)
+      none x (suc d) p l s = let b = a .ahead x d p l s in past d p (b .0) (b .1) (b .2)
 
   pub ahead-done : {left end levels : ℕ} → Ahead left end levels → left ≤ 0 → ExtentOf file at most (record { end = end; levels = levels + 1 })
   ahead-done {left} {end} {levels} a h = record {

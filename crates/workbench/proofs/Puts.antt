@@ -1,87 +1,75 @@
 -- The workbench call by its steps.
 -- Assumes nothing.
 --     refused-put, few-put, unread-put       a refusal changes nothing; 17; the file's own
+--     refused-read                           what was not read
 --     part-put, old-put, changed-unread      18: the new bytes are no words; the old command; the changed file is not read
 --     done                                   the new command stands in the file
+--     changed-words, changed-length, changed-file, new-simple
+--                                            the changed file; the new command in it
 --     finish-done                            the new command is one
---     change-not, change-unread              the new command is none; the changed file is not read
+--     settled, change-not, change-unread     with another table; the new command is none; the changed file is not read
 --     replace-past, replace-part, replace-not
 --                                            the old command is none, or of another length
---     can-store, can-table, can-finish, can-change, can-replace, was-right
+--     word-count, ends-here, was-simple, changed-count, can-store, can-table, can-finish, can-change
 --                                            what the next step asks for
+--     changed-known                             what is known of the changed words
 use mathlib.Core.Path.{_≡_, refl, sym, ap, subst, _∙_}
 use mathlib.Core.Bool.{Bool, true, false, _&&_}
 use mathlib.Core.List.{List}
-use mathlib.Core.Option.{Option, none, some}
 use Prim.Native.Nat.{ℕ, _+_, _*_, _-_, _/_, _%_, _≤_}
 use native.Mathlib.Omega.{arith}
 use borrow.Author.Tests.{eq-eqb, ne-eqb}
 use lib.Dec.{eqb}
 use borrow.Rule.Slice.PartMut.{midOf, putMid}
-use lib.ListN.{length, take}
+use lib.ListN.{length, getD, take}
 use Rattle.rules.specs.Context.{Limits, alone}
-use Rattle.layout.specs.Bytes.{wordsOf, wordCount}
-use Rattle.layout.specs.Reading.{Reading, read, fault, onRead, firstPlace}
+use Rattle.layout.specs.Bytes.{wordsOf}
+use Rattle.layout.specs.Reading.{Reading, read, fault}
 use Rattle.layout.specs.Read.{command}
-use Rattle.layout.specs.Program.{afterAll}
-use Rattle.layout.specs.Call.{wrongCall}
-use Rattle.layout.specs.For.{unsteadyAt}
-use Rattle.layout.specs.File.{File, badLength, steadyFile, callsTested, fileOf, wordsRead}
+use Rattle.layout.specs.File.{File, badLength, fileOf, wordsRead}
 use Rattle.words.proofs.Loading.{words-length}
 use Rattle.words.specs.Load.{Loaded}
 use Rattle.words.proofs.Lengths.{good-length, good-file}
-use Rattle.ends.specs.Ends.{EndsOf}
-use Rattle.scan.specs.Programs.{StartsListed}
+use Rattle.ends.specs.Ends.{EndsListed}
+use Rattle.scan.specs.declared.for_mask.Fors.{Fors}
 use Rattle.scan.specs.Steady.{fileContext}
-use Rattle.scan.proofs.WrongCalls.{wrong-calls}
 use Rattle.masks.specs.Masks.{commandAt, stored}
 use Rattle.masks.specs.WithMasks.{fewNumbers, readLent, storedIf}
 use Rattle.masks.specs.Filled.{CanStore, Filled}
 use Rattle.masks.proofs.FewNumbers.{good-whole, read-good, read-enough}
 use Rattle.masks.proofs.Stored.{filled-stored}
+use Rattle.masks.proofs.Stored as stored-masks
 use Rattle.context.specs.Contexts.{limitsOf, refusal}
 use Rattle.context.specs.declared.Context.{Context}
 use Rattle.context.specs.declared.Refusal.{Refusal}
-use Rattle.reader.specs.File.{placesOf, readOf}
-use Rattle.reader.proofs.Whole.{words-read}
+use Rattle.reader.specs.File.{placesOf}
 use Rattle.reader.specs.declared.Places.{Places}
 use Rattle.reader.specs.declared.Layout.{Layout}
 use Rattle.reader.specs.declared.Layout.the-variants as Layout
-use Rattle.file.specs.Found.{CallsRight, TableRoom, Tabled, FileRead}
+use Rattle.file.specs.Found.{CallsRight, TableRoom}
 use Rattle.file.proofs.Found.{found-read}
 use Rattle.workbench.specs.Put.{simpleTo, spliced, changed, replaceable, orUnread, readPut, answerOf, fileAfter, PutDone}
 use Rattle.workbench.specs.Simple.{SimpleAt, readTo}
-use Rattle.workbench.specs.Steps.{OldRead, CanReplace, Simple, CanChange, ReadAgain, CanFinish}
+use Rattle.workbench.specs.declared.changed.Old.{Old}
+use Rattle.scan.specs.ForsMask.{ForsFound}
+use Rattle.workbench.specs.Steps.{LevelsFor, OldAt, OldRead, CanReplace, Simple, CanChange, ChangedKnown, CanSettle, CanFinish}
 use Rattle.workbench.specs.Extent.{ExtentOf}
 use Rattle.workbench.specs.declared.extent.Extent.{Extent}
 use Rattle.workbench.specs.declared.Replaced.{Replaced}
 use Rattle.workbench.specs.declared.Replaced.the-variants.{Done, Refused}
-use Rattle.workbench.proofs.Splice.{spliced-length, spliced-in, spliced-words, loaded-at, front-spliced}
+use Rattle.workbench.proofs.Splice.{spliced-length, spliced-before, spliced-in, spliced-after, spliced-words, loaded-at, front-spliced}
 use Rattle.workbench.proofs.SimpleWords.{simple-past}
 use Rattle.workbench.proofs.Shift.{shifted-simple, simple-inside}
-use Rattle.workbench.proofs.Again.{read-simple-to, spliced-right}
+use Rattle.workbench.proofs.ReadTo.{read-simple-to}
+use Rattle.workbench.proofs.Again.{spliced-right}
+use Rattle.workbench.proofs.Tables.{marked-right}
 
 and-none : (a : Bool) {b : Bool} → b ≡ false → (a && b) ≡ false
 and-none true h = h
 and-none false h = refl
 
--- what refusals 16 and 7 let pass
-called-read : (limits : Limits) (w : List ℕ) (x : Reading File) {f : File} {p : ℕ} → onRead x (callsTested limits w) ≡ read f p → x ≡ read f p
-unfolding callsTested steadyFile
-called-read limits w (read g q) {f} {p} e =
-    go (firstPlace (wrongCall w (g .procedures)) (wordCount w) 0)
-    (firstPlace (unsteadyAt (afterAll (alone limits) (g .procedures)) w) (wordCount w) 0) e
-  where
-    go : (a b : Option ℕ) →
-        _≡_ {A = Reading File} (elim a [ none ↦ elim b [ none ↦ read g q | some at ↦ fault 7 at ] | some at ↦ fault 16 at ]) (read f p) →
-        read g q ≡ read f p
-    go none none e = e
-    go none (some at) e = absurd (let z : _≡_ {A = ℕ} 0 1 = cc in omega arith)
-    go (some at) b e = absurd (let z : _≡_ {A = ℕ} 0 1 = cc in omega arith)
-called-read limits w (fault n q) e = absurd (let z : _≡_ {A = ℕ} 0 1 = cc in omega arith)
-
 -- what was not read
-refused-read : (x : Reading File) (y : Refusal) → Layout.Refused y ≡ placesOf x → x ≡ fault (y .number) (y .place)
+pub refused-read : (x : Reading File) (y : Refusal) → Layout.Refused y ≡ placesOf x → x ≡ fault (y .number) (y .place)
 refused-read (read f p) y e = absurd (let z : _≡_ {A = ℕ} 0 1 = cc in omega arith)
 refused-read (fault n p) y e = cc
 
@@ -97,9 +85,10 @@ module _ (limits : Limits) (bytes lent : List ℕ) (place : ℕ) (new : List ℕ
     masks = sym (ap (λ x. storedIf limits (wordsOf (changed bytes place new)) x lent) e);
   }
 
-  pub few-put : fewNumbers bytes (length lent) ≡ true → PutDone limits bytes lent place new (Refused (refusal 17 0)) bytes lent
+  pub few-put : {r : Replaced} → fewNumbers bytes (length lent) ≡ true → r ≡ Refused (refusal 17 0) →
+      PutDone limits bytes lent place new r bytes lent
   unfolding readPut readLent
-  few-put h = refused-put (rw (h, readLent) refl) refl
+  few-put h e = refused-put (rw (h, readLent) refl) e
 
   pub unread-put : {n p : ℕ} → fewNumbers bytes (length lent) ≡ false → fileOf limits bytes ≡ fault n p →
       PutDone limits bytes lent place new (Refused (refusal n p)) bytes lent
@@ -200,20 +189,18 @@ module _ {limits : Limits} {bytes : List ℕ} {n place : ℕ} {new : List ℕ} (
 module _ {limits : Limits} {bytes : List ℕ} (lent : List ℕ) {place : ℕ} {new w table : List ℕ}
     (c : CanFinish limits bytes (length lent) place new w table) where
   pub can-store : CanStore w table lent
-  can-store = record {
-    ends-of = c .ends-of;
-    room =
-        let s = c .simple in
-        let k = read-enough limits bytes (s .old .was-read) (length lent) (s .old .enough) in
-        omega (arith, k, ap length (c .loaded), words-length (changed bytes place new), words-length bytes, changed-length s);
-  }
+  can-store =
+      let s = c .simple in
+      let k = read-enough limits bytes (s .old .was-read) (length lent) (s .old .enough) in
+      stored-masks.can-store w table limits (c .contents) (c .listed) (c .masked)
+      (omega (arith, k, ap length (c .loaded), words-length (changed bytes place new), words-length bytes, changed-length s))
 
   pub finish-done : {left numbers : List ℕ} → Filled w table lent numbers → left ≡ changed bytes place new →
       PutDone limits bytes lent place new Done left numbers
   finish-done {numbers = numbers} f a =
       let s = c .simple in
       let o = s .old in
-      let m = filled-stored w table limits (c .contents) (c .ends-of) (c .masked) (can-store .room) f in
+      let m = filled-stored w table limits (c .contents) (c .listed) (c .masked) (can-store .room) f in
       done limits bytes lent place new o (replaceable-both limits bytes lent place new o (s .words) (s .simple) (c .new-simple))
       (changed-file s ∙ ap (wordsRead limits) (sym (c .loaded)) ∙ c .was-read) a
       (subst (λ k. numbers ≡ stored limits k (c .contents) lent) (c .loaded) m)
@@ -235,49 +222,60 @@ module _ (Γ : Context) {bytes : List ℕ} (lent : List ℕ) {place : ℕ} {new 
       new-simple (c .simple) f (c .loaded)
       ∙ sym (h ∙ read-simple-to w (fileContext (limitsOf Γ) f) (Γ .depth) place (place + length new / 4))
 
+  -- the table is another
+  pub settled : {after : List ℕ} → length after ≡ length table → CanChange (limitsOf Γ) bytes (length lent) place new w after
+  settled n = record { simple = c .simple; loaded = c .loaded; wide = omega (arith, c .wide, n) }
+
   pub change-not : {b : Bool} {r : Replaced} → b ≡ readTo w (Γ .depth) place (place + length new / 4) → b ≡ false →
       r ≡ Refused (refusal 18 0) → PutDone (limitsOf Γ) bytes lent place new r bytes lent
   change-not h e = new-not (limitsOf Γ) bytes lent place new (c .simple .old) (new-is h ∙ e)
 
-  pub can-finish : {b : Bool} {after : List ℕ} {r : Layout} {s : Places} → b ≡ readTo w (Γ .depth) place (place + length new / 4) →
-      b ≡ true → Tabled w Γ r after → r ≡ Layout.Found s → CanFinish (limitsOf Γ) bytes (length lent) place new w after
-  can-finish {r = r} {s} h k t e =
+-- ---- refusals 2 to 7 and 16 of them are known
+module _ {Γ : Context} {bytes : List ℕ} (lent : List ℕ) {place : ℕ} {new w table : List ℕ} {r : Layout}
+    (c : CanSettle Γ bytes (length lent) place new w table r) where
+  pub can-finish : {s : Places} → r ≡ Layout.Found s → CanFinish (limitsOf Γ) bytes (length lent) place new w table
+  can-finish {s} e =
+      let t = c .remarked in
       let x = found-read (wordsRead (limitsOf Γ) w) s (sym e ∙ t .layout) in
       record {
-        simple = c .simple;
-        loaded = c .loaded;
-        new-simple = new-is h ∙ k;
+        simple = c .change .simple;
+        loaded = c .change .loaded;
+        new-simple = new-is Γ lent (c .change) (sym (c .new-read));
         contents = x .file;
         end = x .end;
         was-read = x .was-read;
-        ends-of = t .ends-of s e;
-        masked = t .known (x .file) (x .end) (x .was-read) .masked;
+        listed = t .listed s e;
+        masked = t .masked (x .file) (x .end) (x .was-read);
       }
 
-  pub change-unread : {after : List ℕ} {q : Layout} {x : Refusal} {r : Replaced} → Tabled w Γ q after → q ≡ Layout.Refused x →
-      r ≡ Refused (refusal 18 0) → PutDone (limitsOf Γ) bytes lent place new r bytes lent
-  change-unread {x = x} t e h =
-      let f = refused-read (wordsRead (limitsOf Γ) w) x (sym e ∙ t .layout) in
-      changed-unread (limitsOf Γ) bytes lent place new (c .simple .old)
-      (changed-file (c .simple) ∙ ap (wordsRead (limitsOf Γ)) (sym (c .loaded)) ∙ f) h
+  pub change-unread : {x : Refusal} {q : Replaced} → r ≡ Layout.Refused x → q ≡ Refused (refusal 18 0) →
+      PutDone (limitsOf Γ) bytes lent place new q bytes lent
+  change-unread {x} e h =
+      let s = c .change .simple in
+      let f = refused-read (wordsRead (limitsOf Γ) w) x (sym e ∙ c .remarked .layout) in
+      changed-unread (limitsOf Γ) bytes lent place new (s .old)
+      (changed-file s ∙ ap (wordsRead (limitsOf Γ)) (sym (c .change .loaded)) ∙ f) h
 
 -- ---- the file was read
-module _ {limits : Limits} {bytes : List ℕ} (lent : List ℕ) {words table : List ℕ}
-    (c : CanReplace limits bytes (length lent) words table) (place : ℕ) (new : List ℕ) where
+module _ {Γ : Context} {bytes : List ℕ} (lent : List ℕ) {words table : List ℕ} {s : Places} {fors : Fors}
+    {both : Bool} {place : ℕ} {new : List ℕ} (c : CanReplace Γ bytes (length lent) place new words table s both fors) where
+  abbrev limits : Limits
+  limits = limitsOf Γ
+
   count : length (take (length bytes / 4) words) ≡ length bytes / 4
-  count = ap length (c .loaded) ∙ words-length bytes
+  count = ap length (c .rooms .loaded) ∙ words-length bytes
 
   pub word-count : length bytes / 4 ≡ length (take (length bytes / 4) words)
   word-count = sym count
 
-  pub ends-here : EndsOf (take (length bytes / 4) words) table
-  ends-here = subst (λ w. EndsOf w table) (sym (c .loaded)) (c .ends-of)
+  pub ends-here : EndsListed (take (length bytes / 4) words) table
+  ends-here = subst (λ w. EndsListed w table) (sym (c .rooms .loaded)) (c .marked .listed)
 
   -- whether the old command is one
   old-is : {to : ℕ} {b : Bool} → SimpleAt (take (length bytes / 4) words) table place to b →
       b ≡ simpleTo (commandAt limits (wordsOf bytes) (c .old .contents) place) to
   old-is {to} {b} h =
-      subst (λ w. SimpleAt w table place to b) (c .loaded) h .is limits (c .old .contents) (c .masked)
+      subst (λ w. SimpleAt w table place to b) (c .rooms .loaded) h .is limits (c .old .contents) (c .masked)
 
   pub replace-past : {r : Replaced} → length bytes / 4 ≤ place → r ≡ Refused (refusal 18 0) → PutDone limits bytes lent place new r bytes lent
   replace-past h =
@@ -314,9 +312,9 @@ module _ {limits : Limits} {bytes : List ℕ} (lent : List ℕ) {words table : L
       changed-there : words-after ≡ wordsOf (changed bytes place new)
       changed-there =
           let k = words-length new in
-          ap (take (length bytes / 4)) (loaded-at words place l (omega (arith, words-inside, words-length bytes, k, c .inside)))
-          ∙ front-spliced words place (wordsOf new) (length bytes / 4) (omega (arith, words-inside, words-length bytes, k)) (c .inside)
-          ∙ ap (λ z. spliced z place (wordsOf new)) (c .loaded) ∙ sym (changed-words was-simple)
+          ap (take (length bytes / 4)) (loaded-at words place l (omega (arith, words-inside, words-length bytes, k, c .rooms .inside)))
+          ∙ front-spliced words place (wordsOf new) (length bytes / 4) (omega (arith, words-inside, words-length bytes, k)) (c .rooms .inside)
+          ∙ ap (λ z. spliced z place (wordsOf new)) (c .rooms .loaded) ∙ sym (changed-words was-simple)
 
       pub changed-count : length bytes / 4 ≡ length words-after
       changed-count =
@@ -324,61 +322,60 @@ module _ {limits : Limits} {bytes : List ℕ} (lent : List ℕ) {words table : L
 
       pub can-change : CanChange limits bytes (length lent) place new words-after table
       can-change =
-          record { simple = was-simple; loaded = changed-there; wide = omega (arith, changed-count, c .inside, c .wide) }
+          record { simple = was-simple; loaded = changed-there; wide = omega (arith, changed-count, c .rooms .inside, c .rooms .wide) }
 
-      -- x is the extent of the old command
-      pub read-again : {Γ : Context} {s : Places} {x : Extent} → CallsRight (wordsOf bytes) Γ s table →
-          ExtentOf (take (length bytes / 4) words) place (limits .depth) x →
-          ReadAgain words-after Γ s table place (place + length new / 4) (x .levels)
-      read-again {Γ} {s} {x} k y =
-          let f = c .old .contents in
-          let old = read-simple-to (wordsOf bytes) (fileContext limits f) (limits .depth) place (place + length new / 4) ∙ simple in
-          let e : words-after ≡ spliced (wordsOf bytes) place (wordsOf new) = changed-there ∙ changed-words was-simple in
-          let t : ReadAgain (spliced (wordsOf bytes) place (wordsOf new)) Γ s table place (place + length (wordsOf new)) (x .levels) = record {
-            right = spliced-right k (wordsOf new) place (words-room was-simple) (limits .depth)
-                (subst (λ n. readTo (wordsOf bytes) (limits .depth) place (place + n) ≡ true) (sym (words-length new)) old)
-                (subst (λ w. ExtentOf w place (limits .depth) x) (c .loaded) y);
-          } in
-          subst (λ w. ReadAgain w Γ s table place (place + length new / 4) (x .levels)) (sym e)
-          (subst (λ n. ReadAgain (spliced (wordsOf bytes) place (wordsOf new)) Γ s table place (place + n) (x .levels)) (words-length new) t)
+      words-new : words-after ≡ spliced (wordsOf bytes) place (wordsOf new)
+      words-new = changed-there ∙ changed-words was-simple
 
--- ---- refusals 1 to 7 and 16
-module _ {Γ : Context} {bytes : List ℕ} (lent : List ℕ) {words table : List ℕ} {r : Layout} (f : FileRead bytes Γ r words table)
-    (enough : fewNumbers bytes (length lent) ≡ false) where
-  pub can-replace : {s : Places} → r ≡ Layout.Found s → length words + 2 * (length words / 32) + 49 ≤ length table →
-      CanReplace (limitsOf Γ) bytes (length lent) words table
-  can-replace {s} e w =
-      let x = found-read (fileOf (limitsOf Γ) bytes) s (sym e ∙ f .layout) in
-      record {
-        old = record { contents = x .file; end = x .end; was-read = x .was-read; enough = enough };
-        loaded = f .loaded s e;
-        inside = f .inside s e;
-        wide = w;
-        ends-of = f .ends-of s e;
-        masked = f .known (x .file) (x .end) (x .was-read) .masked;
+      -- the old command, by a walk
+      was-walked : readTo (wordsOf bytes) (limits .depth) place (place + length new / 4) ≡ true
+      was-walked =
+          read-simple-to (wordsOf bytes) (fileContext limits (c .old .contents)) (limits .depth) place (place + length new / 4) ∙ simple
+
+      -- with so many levels as the old command takes
+      old-right : {x : Extent} → ExtentOf (take (length bytes / 4) words) place (limits .depth) x →
+          readTo (spliced (wordsOf bytes) place (wordsOf new)) (x .levels) place (place + length new / 4) ≡ true →
+          CallsRight (spliced (wordsOf bytes) place (wordsOf new)) Γ s table
+      old-right {x} y =
+          subst (λ n. readTo (spliced (wordsOf bytes) place (wordsOf new)) (x .levels) place (place + n) ≡ true →
+          CallsRight (spliced (wordsOf bytes) place (wordsOf new)) Γ s table) (words-length new)
+          (spliced-right (marked-right (c .marked)) (wordsOf new) place (words-room was-simple) (limits .depth)
+          (subst (λ n. readTo (wordsOf bytes) (limits .depth) place (place + n) ≡ true) (sym (words-length new)) was-walked)
+          (subst (λ w. ExtentOf w place (limits .depth) x) (c .rooms .loaded) y))
+
+      new-right : {d : ℕ} → LevelsFor (take (length bytes / 4) words) place (limits .depth) both d →
+          readTo (spliced (wordsOf bytes) place (wordsOf new)) d place (place + length new / 4) ≡ true →
+          CallsRight (spliced (wordsOf bytes) place (wordsOf new)) Γ s table
+      new-right {d} l h = go both refl
+        where
+          go : (b : Bool) → both ≡ b → CallsRight (spliced (wordsOf bytes) place (wordsOf new)) Γ s table
+          go true e = c .new-right e .2
+          go false e =
+              let x = l .levels e in
+              old-right (x .1)
+              (subst (λ n. readTo (spliced (wordsOf bytes) place (wordsOf new)) n place (place + length new / 4) ≡ true) (x .2) h)
+
+      -- o is what is kept of the old command
+      pub changed-known : {o : Old} → OldAt (take (length bytes / 4) words) place (limits .depth) both fors o →
+          ChangedKnown Γ words-after s table place (place + length new / 4) o
+      changed-known {o} y = record {
+        words = wordsOf bytes;
+        marked = c .marked;
+        was-read = c .was-read;
+        fors-of = subst (ForsFound (wordsOf bytes)) (sym (y .same-fors)) (c .fors-of);
+        first = y .first ∙ ap (λ w. getD w place 0) (c .rooms .loaded);
+        simple = was-walked;
+        size = sym changed-count ∙ sym (words-length bytes);
+        before = λ i l. rw words-new (spliced-before (wordsOf bytes) place (wordsOf new) (words-room was-simple) i l);
+        behind = λ i l.
+            rw words-new (spliced-after (wordsOf bytes) place (wordsOf new) (words-room was-simple) i (omega (arith, l, words-length new)));
+        room = can-table Γ lent can-change;
+        few = y .levels-for .few;
+        known = λ b.
+            let k = sym (y .known) ∙ b in
+            subst (λ w. readTo w (o .levels) place (place + length new / 4) ≡ true) (sym words-new)
+            (subst (λ n. readTo (spliced (wordsOf bytes) place (wordsOf new)) n place (place + length new / 4) ≡ true)
+            (sym (y .levels-for .all k)) (c .new-right k .1));
+        right = subst (λ w. readTo w (o .levels) place (place + length new / 4) ≡ true → CallsRight w Γ s table) (sym words-new)
+            (new-right (y .levels-for));
       }
-
-  -- refusals 2 to 6 and 16 of its words
-  pub was-right : {s : Places} → r ≡ Layout.Found s → CallsRight (wordsOf bytes) Γ s table
-  was-right {s} e =
-      let x = found-read (fileOf (limitsOf Γ) bytes) s (sym e ∙ f .layout) in
-      let limits = limitsOf Γ in
-      let w = wordsOf bytes in
-      let k = f .known (x .file) (x .end) (x .was-read) in
-      let h : readOf limits w ≡ read (x .file) (x .end) =
-      called-read limits w (readOf limits w) (sym (words-read limits w) ∙ sym (f .from-words s e) ∙ x .was-read) in
-      record {
-        found = record {
-          found = ap Layout.Found (x .at) ∙ sym (ap placesOf h);
-          starts = λ g p y.
-              let z : read (x .file) (x .end) ≡ read g p = sym h ∙ y in
-              let i : x .file ≡ g = cc in
-              subst (StartsListed w table) i (k .starts);
-        };
-        right = ap (λ t. firstPlace t (wordCount w) 0) (wrong-calls w table limits (x .file) (k .masked .stands) (k .starts)) ∙ k .masked .called;
-      }
-
-  pub own-refusal : {x : Refusal} (place : ℕ) (new : List ℕ) → r ≡ Layout.Refused x →
-      PutDone (limitsOf Γ) bytes lent place new (Refused x) bytes lent
-  own-refusal {x} place new e =
-      unread-put (limitsOf Γ) bytes lent place new enough (refused-read (fileOf (limitsOf Γ) bytes) x (sym e ∙ f .layout))

@@ -20,12 +20,14 @@ use Rattle.layout.specs.Nodes.{expressionNode, commandNode, setNode, headOf, ki
 use Rattle.layout.specs.File.{File}
 use Rattle.layout.proofs.Nodes.{opened}
 use Rattle.layout.proofs.Forms.{sort-kind, low-kind}
-use Rattle.ends.specs.Ends.{EndsOf}
+use Rattle.ends.specs.Ends.{EndsListed}
+use Rattle.ends.proofs.Table.{node-listed}
 use Rattle.ends.specs.Places.{endAt}
 use Rattle.scan.specs.Steady.{fileContext}
 use Rattle.scan.proofs.FileNodes.{WordAt, of-expression, of-command, of-set, of-none, file-words}
 use Rattle.masks.specs.Masks.{commandAt}
-use Rattle.masks.proofs.Commands.{OtherKind, NoneRead, no-command, none-past, command-read}
+use Rattle.masks.proofs.Commands.{NoneRead, no-command, none-past, command-read}
+use Rattle.masks.specs.Filled.{OtherKind}
 use Rattle.workbench.specs.Put.{isSimple, simpleTo}
 use Rattle.workbench.specs.Simple.{isSimpleKind, SimpleAt}
 
@@ -62,7 +64,7 @@ simple-past {file} at to h = record {
   is = λ limits f k. none-simple to (none-past file (fileContext limits f) (limits .depth) at h);
 }
 
-module _ {file ends : List ℕ} (e : EndsOf file ends) {at : ℕ} (l : at < length file) (to : ℕ) where
+module _ {file ends : List ℕ} (e : EndsListed file ends) {at : ℕ} (l : at < length file) (to : ℕ) where
   -- what is read there, by the kind of the word
   abbrev Said : Bool → Reading Command → Type 0
   Said b x = (b && eqb (endAt ends at) to) ≡ simpleTo x to
@@ -80,7 +82,7 @@ module _ {file ends : List ℕ} (e : EndsOf file ends) {at : ℕ} (l : at < leng
   word-said limits f h (of-command {p = p} d c i s r) =
       let Δ = fileContext limits f in
       ap₂ (λ a q. a && eqb q to) (sym h ∙ ap isSimpleKind (opened (commandNode Δ c) d s .kind) ∙ kind-simple Δ c)
-      (e .command-end Δ c (suc d) at p s)
+      (node-listed e (commandNode Δ c) (suc d) at p s)
       ∙ sym (ap (λ y. simpleTo y to) (command-read file limits f d c i s))
   word-said limits f h (of-set d Γ q s) =
       no-word limits f h

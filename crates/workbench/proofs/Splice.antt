@@ -5,6 +5,7 @@
 --                        before the first turn; after a turn; the length; after the last
 --     spliced-length, spliced-before, spliced-in, spliced-after
 --                        its length, and its numbers by their place
+--     same-word          the word at a place, by the bytes there
 --     spliced-words      the words of spliced bytes are the words spliced
 --     loaded-at          words loaded from a place on
 --     front-spliced      the front of a spliced list
@@ -82,7 +83,8 @@ module _ (l : List ℕ) (at : ℕ) (m : List ℕ) (room : at + length m ≤ leng
 
 -- ---- the words of spliced bytes
 -- the word at a place, by the bytes there
-same-word : (l m : List ℕ) (i j : ℕ) → ((k : ℕ) → k < 4 → getD l (4 * i + k) 0 ≡ getD m (4 * j + k) 0) → wordAt l i ≡ wordAt m j
+pub same-word : (l m : List ℕ) (i j : ℕ) → ((k : ℕ) → k < 4 → getD l (4 * i + k) 0 ≡ getD m (4 * j + k) 0) →
+    wordAt l i ≡ wordAt m j
 same-word l m i j h =
     let a : getD l (4 * i) 0 ≡ getD m (4 * j) 0 = ap (λ k. getD l k 0) (start i) ∙ h 0 (omega arith) ∙ ap (λ k. getD m k 0) (sym (start j)) in
     ap₂ (λ x y. x + 16777216 * y)

@@ -1,6 +1,6 @@
 -- A skip, an assert or an assignment by its first word and the list of ends.
 -- Working: `simple-here`, `simple-other` and `simple-past` of proofs/SimpleWords tie it to `simpleTo`, and `read-simple-to` of
--- proofs/Again `readTo`. Assumes nothing.
+-- proofs/ReadTo `readTo`. Assumes nothing.
 --     isSimpleKind    the kinds of these commands
 --     SimpleAt        whether one stands at a place up to another, in a file that was read
 --     endsAt, readTo  a walk goes on from a place; whether such a command is read with so many levels, up to a place

@@ -7,7 +7,8 @@ pub struct Extent {
     pub levels: usize,
 }
 
-// Of an expression, a command or a set: one pass over its words. The levels left fall.
+// Of an expression, a command or a set: one pass over its words. The levels left fall. The words need not be read yet: each turn takes one, so
+// that the parts that a word claims cost nothing.
 pub fn extent_at(w: &[u32], at: usize, most: usize) -> Extent
     ensures { λ r. ⌜ ExtentOf (now (w .entry)) «at» most r ⌝ }
 {
@@ -17,10 +18,22 @@ pub fn extent_at(w: &[u32], at: usize, most: usize) -> Extent
     if w.len() <= at {
         return Extent { end: at, levels: 0 };
     }
+    if most == 1 {
+        return Extent {
+            end: at + 1,
+            levels: 1,
+        };
+    }
     let mut left = parts(w[at]);
     let mut end = at + 1;
     let mut levels = 0;
     while 0 < left {
+        if w.len() <= end {
+            return Extent {
+                end,
+                levels: levels + 1,
+            };
+        }
         let part = extent_at(w, end, most - 1);
         end = part.end;
         if levels < part.levels {

@@ -10,7 +10,7 @@ use words::kinds::TO_SCALAR;
 ghost use mathlib.Core.Path.{_≡_};
 ghost use Prim.Native.Nat.{_/_};
 ghost use Rattle.layout.specs.Bytes.{payloads};
-ghost use Rattle.ends.specs.Ends.{EndsOf};
+ghost use Rattle.ends.specs.Ends.{EndsListed};
 ghost use Rattle.workbench.specs.Simple.{isSimpleKind, SimpleAt, readTo};
 
 // Whether a word is the first of such a command.
@@ -29,7 +29,7 @@ fn is_simple(x: u32) -> bool
 
 // Whether such a command stands from a place of a file that was read up to another.
 pub fn is_simple_to(w: &[u32], ends: &[u32], at: usize, to: usize) -> bool
-    requires { ⌜ EndsOf (now w) (now ends) ⌝ }
+    requires { ⌜ EndsListed (now w) (now ends) ⌝ }
     ensures { λ r. ⌜ SimpleAt (now (w .entry)) (now (ends .entry)) «at» to r ⌝ }
 {
     if w.len() <= at {

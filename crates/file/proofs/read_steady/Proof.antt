@@ -1,6 +1,8 @@
 -- `file::read_steady` meets its contract: refusal 7 by the scan.
 -- Assumes nothing.
+use native.Mathlib.Omega.{arith}
 use borrow.Author.Needs.{needs}
+use Rattle.ends.proofs.Table.{ends-listed}
 use Rattle.file.proofs.Files.{steady-tabled, unsteady-tabled}
 use Rattle.file.proofs.read_steady.Statement.{statement}
 use Rattle.file.proofs.read_steady.Tie as tie
@@ -10,7 +12,12 @@ read-steady-spec =
     tie.close
     (tie.spec
     (λ c κs. search needs)
-    (λ c κs. search needs)
+    (λ c κs. let made = c .before .before .before .fill-table .ensures in record {
+      listed = ends-listed (made .ends-of);
+      blocks = λ _. made .ends-of .blocks;
+      before = λ i l k. omega arith;
+      behind = λ i k l e. omega arith;
+    })
     (λ c. search needs)
     (λ c. search needs)
     (λ c. search needs)

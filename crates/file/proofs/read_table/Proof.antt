@@ -1,40 +1,30 @@
--- `file::read_table` meets its contract: refusals 2 to 6, then 16 and 7. The reader has the table from the starts on.
+-- `file::read_table` meets its contract: refusals 2 to 6 and 16, then 7.
 -- Assumes nothing.
-use Prim.Native.Nat.{_-_}
 use native.Mathlib.Omega.{arith}
 use borrow.Author.Needs.{needs}
-use borrow.Rule.Slice.PartMut.{same-len-mid}
-use lib.ListN.{length}
-use Rattle.ends.specs.Blocks.{tableAt}
-use Rattle.file.proofs.Files.{found-words, refused-tabled}
+use Rattle.file.proofs.Files.{refused-tabled}
 use Rattle.file.proofs.read_table.Statement.{statement}
 use Rattle.file.proofs.read_table.Tie as tie
+
+read-steady-requires : tie.Need-read-steady-requires
+read-steady-requires c κs =
+    let found = c .before .before in
+    let table = found .before .before .before in
+    let called = table .before in
+    let pre = called .before .before .before .before .pre in (
+      called .read-calls .ensures .right _ (found .found .given .1),
+      record { size = pre .size; room = omega (arith, pre .room, table .table .given) },
+    )
 
 pub read-table-spec : {M : Type 1} → statement M
 read-table-spec =
     tie.close
     (tie.spec
-    (λ c. search needs)
-    (λ c. search needs)
-    (λ c. search needs)
-    (λ c. search needs)
-    (λ c. search needs)
-    (λ c. search needs)
     (λ c κs. search needs)
     (λ c. search needs)
-    (λ c κs.
-    let found = c .before .before in
-    let read = found .before .before .before .before in
-    let start = read .before .before .before .before in
-    let pre = start .pre in
-    let table = start .args .table .now in
-    let place = tableAt (start .args .w .now) in
-    let size = same-len-mid place (length table - place) table (read .read-words .last .1 .0) (read .read-words .ensures .size) in (
-      found-words table _ (omega (arith, pre .room)) (read .read-words .ensures) (found .found .given .1),
-      record { size = pre .size; room = omega (arith, pre .room, size) },
-    ))
+    read-steady-requires
     (λ c. search needs)
     (λ c. search needs)
     (λ c. search needs)
     (λ c. search needs)
-    (λ c. refused-tabled _ _ (c .before .before .before .before .before .read-words .ensures .places) (c .before .found2 .given .1)))
+    (λ c. refused-tabled (c .before .before .before .before .read-calls .ensures) (c .enum-told .given .1)))

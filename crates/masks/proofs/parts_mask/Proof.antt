@@ -23,7 +23,7 @@ shared-slice-read-mask c =
 end-at-requires : tie.Need-end-at-requires Inv-loop μ-loop
 end-at-requires c κs =
     let loop = c .before .before .before in
-    omega (arith, c .before .if1 .left, loop .before .before .before .before .before .before .pre .ends-of .long)
+    omega (arith, c .before .if1 .left, loop .before .before .before .before .before .before .pre .listed .room)
 
 loop-again : tie.Need-loop-again Inv-loop μ-loop
 loop-again c =

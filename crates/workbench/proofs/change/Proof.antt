@@ -1,56 +1,67 @@
--- `workbench::change` meets its contract: the new command is one and the changed file is read, or the call is refused as 18.
+-- `workbench::change` meets its contract: the new command is one, by as many levels as are known or by all, or the call is refused as 18.
 -- Assumes nothing.
+use mathlib.Core.Path.{sym, _∙_}
 use borrow.Author.Needs.{needs}
 use borrow.Author.Tests.{not-true, not-false}
-use Rattle.workbench.proofs.Puts.{can-table, change-not, can-finish, change-unread}
+use Rattle.workbench.proofs.ReadTo.{read-deeper}
+use Rattle.workbench.proofs.Tables.{tabled-again}
+use Rattle.workbench.proofs.Puts.{change-not, settled}
 use Rattle.workbench.proofs.change.Statement.{statement}
 use Rattle.workbench.proofs.change.Tie as tie
 
-returns : tie.Need-returns
-returns c =
-    let tested = c .before .before in
-    let start = tested .before .before .before .before .before .before in
-    change-not (start .args .context) (start .args .masks .now) (start .pre .0) (tested .is-read-to .ensures)
-    (not-true _ (c .before .if1 .taken)) (c .refused-18 .ensures)
-
-read-again-requires : tie.Need-read-again-requires
-read-again-requires c κs =
-    let start = c .before .before .before .before .before .before .before .before in
-    (start .pre .1, can-table (start .args .context) (start .args .masks .now) (start .pre .0))
-
-finish-requires : tie.Need-finish-requires
-finish-requires c κs =
-    let told = c .before .before .before in
-    let again = told .before .before .before .before in
-    let if1 = again .before .before in
+read-mended-requires : tie.Need-read-mended-requires
+read-mended-requires c κs =
+    let if1 = c .before in
     let start = if1 .before .before .before .before .before .before .before in
-    can-finish (start .args .context) (start .args .masks .now) (start .pre .0) (if1 .before .is-read-to .ensures)
-    (not-false _ (if1 .if1 .left)) (again .read-again .ensures) (told .enum-told .given .1)
+    (start .pre .1, sym (if1 .before .is-known .ensures) ∙ if1 .if1 .taken)
 
-returns-3 : tie.Need-returns-3
-returns-3 c =
-    let told = c .before in
-    let again = told .before .before .before .before in
-    let start = again .before .before .before .before .before .before .before .before .before in
-    change-unread (start .args .context) (start .args .masks .now) (start .pre .0) (again .read-again .ensures)
-    (told .enum-told2 .given .1) (c .refused-182 .ensures)
+settle-requires : tie.Need-settle-requires
+settle-requires c κs =
+    let mended = c .before .before .before .before .before in
+    let if1 = mended .before .before in
+    let start = if1 .before .before .before .before .before .before .before in
+    record {
+      change = settled (start .args .context) (start .args .masks .now) (start .pre .0) (c .before .before .before .before .table .given);
+      new-read = read-deeper _ _ _ _ _ (start .pre .1 .few) (sym (if1 .before .is-known .ensures) ∙ if1 .if1 .taken);
+      remarked = mended .read-mended .ensures;
+    }
+
+returns-2 : tie.Need-returns-2
+returns-2 c =
+    let if2 = c .before in
+    let start = if2 .before .before .before .before .before .before .before .before .before in
+    change-not (start .args .context) (start .args .masks .now) (start .pre .0) (if2 .before .is-read-to .ensures)
+    (not-true _ (if2 .if2 .taken)) (c .refused .ensures)
+
+settle-requires-2 : tie.Need-settle-requires-2
+settle-requires-2 c κs =
+    let read = c .before .before .before .before .before in
+    let if2 = read .before .before in
+    let start = if2 .before .before .before .before .before .before .before .before .before in
+    record {
+      change = settled (start .args .context) (start .args .masks .now) (start .pre .0) (c .before .before .before .before .table2 .given);
+      new-read = sym (if2 .before .is-read-to .ensures) ∙ not-false _ (if2 .if2 .left);
+      remarked = tabled-again (read .read-table .ensures);
+    }
 
 pub change-spec : {M : Type 1} → statement M
 change-spec =
     tie.close
     (tie.spec
     (λ c. search needs)
+    (λ c κs. c .before .before .before .before .before .pre .1 .known)
+    read-mended-requires
+    settle-requires
+    (λ c. search needs)
+    (λ c. search needs)
+    (λ c. search needs)
+    (λ c. search needs)
     (λ c κs. search needs)
     (λ c κs. search needs)
-    returns
-    read-again-requires
-    (λ c. search needs)
-    finish-requires
-    (λ c. search needs)
+    returns-2
     (λ c κs. search needs)
+    settle-requires-2
     (λ c. search needs)
     (λ c. search needs)
     (λ c. search needs)
-    (λ c. search needs)
-    (λ c. search needs)
-    returns-3)
+    (λ c. search needs))

@@ -1,8 +1,9 @@
 -- `workbench::replace` meets its contract: the old command is none or of another length, or the words of the changed file are loaded.
 -- Assumes nothing.
+use native.Mathlib.Omega.{arith}
 use borrow.Author.Needs.{needs}
 use borrow.Author.Tests.{not-true, not-false}
-use Rattle.workbench.proofs.Puts.{word-count, ends-here, replace-past, replace-part, replace-not, can-change, changed-count, read-again}
+use Rattle.workbench.proofs.Puts.{word-count, ends-here, replace-past, replace-part, replace-not, can-change, changed-count, changed-known}
 use Rattle.workbench.proofs.replace.Statement.{statement}
 use Rattle.workbench.proofs.replace.Tie as tie
 
@@ -10,36 +11,42 @@ returns : tie.Need-returns
 returns c =
     let if1 = c .before in
     let start = if1 .before .before .before .before .before .before in
-    replace-past (start .args .masks .now) (start .pre .0) _ _ (if1 .if1 .taken) (c .refused-18 .ensures)
+    replace-past (start .args .masks .now) (start .pre) (if1 .if1 .taken) (c .refused .ensures)
 
 returns-2 : tie.Need-returns-2
 returns-2 c =
     let if2 = c .before in
     let start = if2 .before .before .before .before .before .before .before in
-    replace-part (start .args .masks .now) (start .pre .0) _ _ (if2 .if2 .taken) (c .refused-182 .ensures)
+    replace-part (start .args .masks .now) (start .pre) (if2 .if2 .taken) (c .refused2 .ensures)
 
 slice-aggregate-is-simple-to : tie.Need-slice-aggregate-is-simple-to
 slice-aggregate-is-simple-to c =
     let start = c .before .before .before .before .before .before .before .before in
-    word-count (start .args .masks .now) (start .pre .0) (start .args .place) (start .args .new .now)
+    word-count (start .args .masks .now) (start .pre)
 
 is-simple-to-requires : tie.Need-is-simple-to-requires
 is-simple-to-requires c κs =
     let start = c .before .before .before .before .before .before .before .before .before in
-    ends-here (start .args .masks .now) (start .pre .0) (start .args .place) (start .args .new .now)
+    ends-here (start .args .masks .now) (start .pre)
 
 returns-3 : tie.Need-returns-3
 returns-3 c =
     let if3 = c .before in
     let tested = if3 .before in
     let start = tested .before .before .before .before .before .before .before .before .before .before in
-    replace-not (start .args .masks .now) (start .pre .0) _ _ (tested .is-simple-to .ensures) (not-true _ (if3 .if3 .taken))
-    (c .refused-183 .ensures)
+    replace-not (start .args .masks .now) (start .pre) (tested .is-simple-to .ensures) (not-true _ (if3 .if3 .taken))
+    (c .refused3 .ensures)
 
-slice-aggregate-extent-at : tie.Need-slice-aggregate-extent-at
-slice-aggregate-extent-at c =
+slice-aggregate-old-at : tie.Need-slice-aggregate-old-at
+slice-aggregate-old-at c =
     let start = c .before .before .before .before .before .before .before .before .before .before .before .before in
-    word-count (start .args .masks .now) (start .pre .0) (start .args .place) (start .args .new .now)
+    word-count (start .args .masks .now) (start .pre)
+
+old-at-requires : tie.Need-old-at-requires
+old-at-requires c κs =
+    let if1 = c .before .before .before .before .before .before in
+    let start = if1 .before .before .before .before .before .before in
+    omega (arith, if1 .if1 .left, word-count (start .args .masks .now) (start .pre))
 
 slice-aggregate-change : tie.Need-slice-aggregate-change
 slice-aggregate-change c =
@@ -48,7 +55,7 @@ slice-aggregate-change c =
     let tested = if3 .before in
     let if2 = tested .before .before .before in
     let start = if2 .before .before .before .before .before .before .before in
-    changed-count (start .args .masks .now) (start .pre .0) (start .args .place) (start .args .new .now) (tested .is-simple-to .ensures)
+    changed-count (start .args .masks .now) (start .pre) (tested .is-simple-to .ensures)
     (not-false _ (if3 .if3 .left)) (if2 .if2 .left) (loaded .load .ensures)
 
 change-requires : tie.Need-change-requires
@@ -59,10 +66,10 @@ change-requires c κs =
     let tested = if3 .before in
     let if2 = tested .before .before .before in
     let start = if2 .before .before .before .before .before .before .before in (
-      can-change (start .args .masks .now) (start .pre .0) (start .args .place) (start .args .new .now) (tested .is-simple-to .ensures)
+      can-change (start .args .masks .now) (start .pre) (tested .is-simple-to .ensures)
           (not-false _ (if3 .if3 .left)) (if2 .if2 .left) (loaded .load .ensures),
-      read-again (start .args .masks .now) (start .pre .0) (start .args .place) (start .args .new .now) (tested .is-simple-to .ensures)
-          (not-false _ (if3 .if3 .left)) (if2 .if2 .left) (loaded .load .ensures) (start .pre .1) (old .extent-at .ensures),
+      changed-known (start .args .masks .now) (start .pre) (tested .is-simple-to .ensures)
+          (not-false _ (if3 .if3 .left)) (if2 .if2 .left) (loaded .load .ensures) (old .old-at .ensures),
     )
 
 pub replace-spec : {M : Type 1} → statement M
@@ -74,16 +81,16 @@ replace-spec =
     (λ c κs. search needs)
     returns-2
     (λ c. search needs)
-    (λ c. search needs)
+    (λ c. c .before .before .before .before .before .before .before .pre .rooms .inside)
     slice-aggregate-is-simple-to
     is-simple-to-requires
     (λ c κs. search needs)
     (λ c. search needs)
     (λ c. search needs)
     returns-3
-    (λ c. search needs)
-    slice-aggregate-extent-at
-    (λ c κs. search needs)
+    (λ c. c .before .before .before .before .before .before .before .before .before .before .before .pre .rooms .inside)
+    slice-aggregate-old-at
+    old-at-requires
     (λ c. search needs)
     (λ c. search needs)
     (λ c. search needs)
@@ -93,7 +100,7 @@ replace-spec =
     slice-aggregate-change
     change-requires
     (λ c. search needs)
-    (λ c. search needs)
-    (λ c. search needs)
-    (λ c. search needs)
+    (λ c. c .before .before .before .before .before .table .given)
+    (λ c. c .before .before .before .file .given)
+    (λ c. c .before .masks .given)
     (λ c. search needs))

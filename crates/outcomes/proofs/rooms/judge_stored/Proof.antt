@@ -1,7 +1,7 @@
 -- `outcomes::rooms::judge_stored` meets its contract: no masks are lent, or those of the words are stored.
 -- Assumes nothing.
 use borrow.Author.Needs.{needs}
-use Rattle.outcomes.proofs.Outcomes.{none-of, none-stored, stored-of, stored-count, stored-done}
+use Rattle.outcomes.proofs.Outcomes.{none-of, none-stored, can-store, stored-of, stored-count, stored-done}
 use Rattle.outcomes.proofs.rooms.judge_stored.Statement.{statement}
 use Rattle.outcomes.proofs.rooms.judge_stored.Tie as tie
 
@@ -41,7 +41,10 @@ judge-stored-spec =
     (λ c κs. let start = c .before .before .before .before .before in (start .pre, none-of (start .args .masks .now)))
     (λ c. search needs)
     returns
-    (λ c κs. search needs)
+    (λ c κs.
+    let if1 = c .before in
+    let start = if1 .before .before .before .before in
+    can-store (start .pre) (start .args .masks .now) (if1 .if1 .left))
     (λ c. search needs)
     slice-aggregate-judge-file-2
     judge-file-requires-2

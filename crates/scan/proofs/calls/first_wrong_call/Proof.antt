@@ -8,7 +8,8 @@ use lib.ListN.{length}
 use Rattle.layout.specs.Reading.{firstPlace}
 use Rattle.scan.specs.Calls.{wrongAt, rightnessOf}
 use Rattle.scan.proofs.First.{first-start, first-here, first-next, first-end}
-use Rattle.scan.proofs.WrongCalls.{first-passed}
+use Rattle.scan.proofs.Passing.{first-passed}
+use Rattle.scan.proofs.WrongCalls.{wrong-other}
 use Rattle.scan.proofs.calls.first_wrong_call.Statement.{statement}
 use Rattle.scan.proofs.calls.first_wrong_call.Tie as tie
 
@@ -23,7 +24,7 @@ loop-holds : tie.Need-loop-holds Inv-loop μ-loop
 loop-holds c =
     let passed = c .pass .ensures in
     let table = c .before .before .before .args .table .now in
-    (passed .inside (omega arith), sym (first-passed _ table (omega arith) passed) ∙ first-start _ _)
+    (passed .inside (omega arith), sym (first-passed _ (wrongAt _ table) (λ i h. sym (wrong-other _ table i h)) (omega arith) passed) ∙ first-start _ _)
 
 loop-again : tie.Need-loop-again Inv-loop μ-loop
 loop-again c =
@@ -33,7 +34,7 @@ loop-again c =
     let table = test .before .before .before .before .before .args .table .now in
     let passed = c .pass2 .ensures in (
       passed .inside (omega arith),
-      sym (first-passed _ table (omega arith) passed)
+      sym (first-passed _ (wrongAt _ table) (λ i h. sym (wrong-other _ table i h)) (omega arith) passed)
           ∙ sym (first-next _ _ _ less (sym (wrong .wrong-at .ensures) ∙ c .before .if1 .left)) ∙ test .before .loop .inv .1,
     )
 

@@ -19,7 +19,7 @@ returns-2 c =
     let least = c .before .before .before in
     let if1 = least .before .before in
     let pre = if1 .before .before .before .before .pre in
-    tested-first _ _ _ (pre .places) _ _ (lesser-first _ _ _ (least .least .ensures .2)) (c .before .before .marks-between .ensures)
+    tested-first _ _ _ (pre .listed) _ _ (lesser-first _ _ _ (least .least .ensures .2)) (c .before .before .body-mask .ensures)
     (pre .inside) (pre .is-for) (if1 .if1 .left) (sym (c .before .has-bit .ensures) ∙ c .if2 .taken)
 
 returns-3 : tie.Need-returns-3
@@ -28,7 +28,7 @@ returns-3 c =
     let if1 = least .before .before in
     let pre = if1 .before .before .before .before .pre in
     subst (Tested _ _ _) (sym (c .has-bit2 .ensures))
-    (tested-second _ _ _ (pre .places) _ _ (lesser-first _ _ _ (least .least .ensures .2)) (c .before .before .before .marks-between .ensures)
+    (tested-second _ _ _ (pre .listed) _ _ (lesser-first _ _ _ (least .least .ensures .2)) (c .before .before .before .body-mask .ensures)
     (pre .inside) (pre .is-for) (if1 .if1 .left) (sym (c .before .before .has-bit .ensures) ∙ c .before .if2 .left))
 
 pub unsteady-at-spec : {M : Type 1} → statement M
@@ -41,11 +41,13 @@ unsteady-at-spec =
     (λ c. search needs)
     (λ c.
     let pre = c .before .before .before .before .before .pre in
-    omega (arith, pre .inside, pre .places .long))
+    omega (arith, pre .inside, pre .listed .room))
     (λ c. omega (arith, c .shared-slice-known4 .given (c .before .before .before .before .before .args .at)))
     (λ c κs. search needs)
     (λ c. omega (arith, c .before .before .before .before .before .before .pre .inside))
-    (λ c κs. (c .before .before .before .before .before .before .pre .places .blocks, c .least .ensures .1))
+    (λ c κs.
+    let pre = c .before .before .before .before .before .before .pre in
+    record { listed = pre .listed; blocks = pre .blocks; inside = c .least .ensures .1 })
     (λ c κs. search needs)
     returns-2
     (λ c κs. search needs)

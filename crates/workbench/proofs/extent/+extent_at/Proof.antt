@@ -7,7 +7,7 @@ use native.Mathlib.Omega.{arith}
 use borrow.Author.Needs.{needs}
 use borrow.Fn.Kinds.{In}
 use borrow.Fn.PlainCycle.{Measures, is, falls, and}
-use Rattle.workbench.proofs.Extents.{extent-zero, extent-past, Ahead, ahead-start, ahead-next, ahead-done}
+use Rattle.workbench.proofs.Extents.{extent-zero, extent-past, extent-one, Ahead, ahead-start, ahead-next, ahead-stop, ahead-done}
 use Rattle.workbench.proofs.extent.extent_at.Reads as extent-at
 use Rattle.workbench.proofs.extent.extent_at.Kinds as extent-at-kinds
 use Rattle.workbench.proofs.extent.+extent_at.Lts-extent_at as extent-at-lts
@@ -45,21 +45,25 @@ pub +extent-at-spec : {M : Type 1} → statement M
     (λ c. extent-zero (c .if1 .taken))
     (λ c. extent-past (c .if2 .taken))
     (λ c. search needs)
+    (λ c. extent-one (c .if3 .taken))
+    (λ c. search needs)
     (λ c. search needs)
     (λ c κs. search needs)
     (λ c. search needs)
-    (λ c. ahead-start _ _ _ (c .before .before .before .if1 .left) (c .parts .ensures))
+    (λ c. ahead-start _ _ _ (c .before .before .before .before .if1 .left) (c .parts .ensures))
+    (λ c. search needs)
+    (λ c. ahead-stop _ _ _ (c .before .before .loop .inv) (c .before .loop-test .taken) (c .if4 .taken))
     (λ c. search needs)
     (λ c κs. search needs)
     (λ c. search needs)
     (λ c. search needs)
     (λ c.
     let part = c .before .before in
-    let loop = part .before .before in
+    let loop = part .before .before .before in
     let a = loop .loop .inv in
     let e = part .extent-at .ensures in
     ahead-next _ _ _ a (search needs) e
-    (⊎-elim (λ w. omega (arith, a .few, e .few)) (λ w. omega (arith, a .few)) (c .if3 .came))
-    (λ d k l. ⊎-elim (λ w. omega (arith, k, l)) (λ w. omega (arith, k, l)) (c .if3 .came)))
+    (⊎-elim (λ w. omega (arith, a .few, e .few)) (λ w. omega (arith, a .few)) (c .if5 .came))
+    (λ d k l. ⊎-elim (λ w. omega (arith, k, l)) (λ w. omega (arith, k, l)) (c .if5 .came)))
     (λ c. search needs)
     (λ c. ahead-done _ _ _ (c .before .loop .inv) (search needs))

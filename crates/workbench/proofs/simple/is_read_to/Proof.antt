@@ -3,7 +3,7 @@
 use mathlib.Core.Path.{sym, _∙_}
 use borrow.Author.Needs.{needs}
 use borrow.Author.Tests.{not-true, not-false}
-use Rattle.workbench.proofs.Again.{read-past, read-other, read-next, read-refused}
+use Rattle.workbench.proofs.ReadTo.{read-past, read-other, read-next, read-refused}
 use Rattle.workbench.proofs.simple.is_read_to.Statement.{statement}
 use Rattle.workbench.proofs.simple.is_read_to.Tie as tie
 

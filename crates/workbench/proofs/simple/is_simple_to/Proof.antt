@@ -21,7 +21,7 @@ is-simple-to-spec =
     simple-other (if1 .before .before .before .pre) (if1 .if1 .left) _ (sym (c .before .is-simple .ensures) ∙ not-true _ (c .if2 .taken)))
     (λ c κs.
     let if1 = c .before .before .before in
-    omega (arith, if1 .if1 .left, if1 .before .before .before .pre .long))
+    omega (arith, if1 .if1 .left, if1 .before .before .before .pre .room))
     (λ c.
     let if2 = c .before in
     let if1 = if2 .before .before .before in
