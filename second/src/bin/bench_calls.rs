@@ -1,12 +1,12 @@
 //! `bench_calls VERSION`: one check with masks of the file on standard input, and its line. VERSION is `proved` (feature `first`, see
-//! build.rs) or `fast`. `bench_calls put PLACE COUNT`: one workbench call of the proved version, with the COUNT bytes that stand from PLACE
-//! on as the new command, and its line.
+//! build.rs) or `fast`. `bench_calls put PLACE WORD..`: one workbench call of the proved version, with these words, each a number, as the
+//! new command for PLACE, and its line.
 
 #[path = "first/calls.rs"]
 mod first;
 
 use second::fast::{self, Work};
-use second::layout::words::MOST_BYTES;
+use second::layout::words::{bytes_of, MOST_BYTES};
 use second::naive::judge::line_of;
 use second::tool::{self, Fault};
 use std::io::Write;
@@ -26,16 +26,20 @@ fn check_with_masks(version: &str, bytes: &[u8], masks: &mut [u64]) -> Result<St
     Ok(line_of(packed))
 }
 
-fn put(bytes: &mut [u8], masks: &mut [u64], place: usize, count: usize) -> String {
-    let new = bytes.get(4 * place..4 * place + count).unwrap_or_default().to_vec();
-    match first::put(bytes, masks, place, &new).expect(NOT_LINKED) {
+/// A word among the arguments.
+fn word(text: &String) -> Result<u32, Fault> {
+    u32::try_from(tool::number(text)?).map_err(|_| Fault::Said(format!("`{text}` is no word, a number up to {}", u32::MAX)))
+}
+
+fn put(bytes: &mut [u8], masks: &mut [u64], place: usize, new: &[u32]) -> String {
+    match first::put(bytes, masks, place, &bytes_of(new)).expect(NOT_LINKED) {
         0 => "put".to_string(),
         packed => line_of(packed),
     }
 }
 
 fn main() {
-    tool::run(env!("CARGO_BIN_NAME"), "proved|fast|put PLACE COUNT < FILE", program)
+    tool::run(env!("CARGO_BIN_NAME"), "proved|fast|put PLACE WORD.. < FILE", program)
 }
 
 fn program(arguments: &[String], out: &mut dyn Write) -> Result<u8, Fault> {
@@ -44,9 +48,10 @@ fn program(arguments: &[String], out: &mut dyn Write) -> Result<u8, Fault> {
     let masks = &mut masks[..bytes.len().min(MOST_BYTES) / 4];
     let line = match arguments {
         [version] => check_with_masks(version, &bytes, masks)?,
-        [word, place, count] if word == "put" => {
-            let [place, count] = [tool::number(place)?, tool::number(count)?].map(|number| number as usize);
-            put(&mut bytes, masks, place, count)
+        [call, place, new @ ..] if call == "put" => {
+            let place = tool::number(place)? as usize;
+            let new = new.iter().map(word).collect::<Result<Vec<u32>, Fault>>()?;
+            put(&mut bytes, masks, place, &new)
         }
         _ => return Err(Fault::Usage),
     };

@@ -1,11 +1,13 @@
 //! `bench`, from the repository's root (see `./benchmark`): the proved check and runner against the fast version and the second
 //! implementation. Prints what it measures, and writes docs/PERFORMANCE.md and its pictures. `bench stack`: only the stack. `bench masks`:
-//! only the calls with masks.
+//! only the calls with masks, and their tables; nothing is written.
 
 mod machine;
 mod masks;
 mod measure;
 mod plot;
+mod puts;
+mod refused;
 mod report;
 mod stack;
 
@@ -61,7 +63,9 @@ fn program(arguments: &[String], _: &mut dyn std::io::Write) -> Result<u8, Fault
         [] => {}
         [word] if word == "stack" => return Ok(u8::from(stack::measure().iter().any(|one| one.limit.is_none()))),
         [word] if word == "masks" => {
-            masks::measure(&Bench::new());
+            let measured = masks::measure(&Bench::new());
+            println!("\n{}", report::masks(&measured));
+            measured.puts_as_cheap_as_reading();
             return Ok(0);
         }
         _ => return Err(Fault::Usage),
@@ -72,6 +76,7 @@ fn program(arguments: &[String], _: &mut dyn std::io::Write) -> Result<u8, Fault
     let worst = folder(&bench, "worst");
     let growing = growing(&bench);
     let masks = masks::measure(&bench);
+    masks.puts_as_cheap_as_reading();
     let runs = PROGRAMS.iter().map(|program| bench.show(bench.run(program.name))).collect();
     let stack = stack::measure();
     let measured = Measured { usual, worst, growing, masks, runs, stack };

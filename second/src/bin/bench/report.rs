@@ -1,7 +1,7 @@
 //! docs/PERFORMANCE.md.
 
 use super::measure::Row;
-use super::{machine, masks, stack, Measured};
+use super::{machine, masks, puts, stack, Measured};
 use second::benchmark::programs::PROGRAMS;
 use second::benchmark::worst::KINDS;
 use std::fmt::Write;
@@ -87,27 +87,50 @@ fn power(rows: &[Row], version: usize) -> f64 {
     cost / (b.bytes as f64 / a.bytes as f64).ln()
 }
 
-fn masks_table(all: &[masks::Judged]) -> String {
-    let mut out = String::from(
-        "| File | Reading | Judging | Filling | Judging with masks | With masks ÷ fast | Put ÷ reading |\n|---|--:|--:|--:|--:|--:|--:|\n",
-    );
+fn judged_table(all: &[masks::Judged]) -> String {
+    let mut out =
+        String::from("| File | Reading | Judging | Filling | Judging with masks | With masks ÷ fast |\n|---|--:|--:|--:|--:|--:|\n");
     for one in all {
-        let counts = [one.cost.reading, one.judging, one.cost.filling, one.with_masks].map(thousands);
-        let (fast, put) = (figures(one.to_fast), figures(one.cost.put_to_reading()));
-        let _ = writeln!(out, "| {} | {} | {fast} | {put} |", one.name, counts.join(" | "));
+        let counts = [one.cost.reading, one.judging, one.cost.filling(), one.with_masks].map(thousands);
+        let _ = writeln!(out, "| {} | {} | {} |", one.name, counts.join(" | "), figures(one.to_fast));
     }
     out
 }
 
-/// By size: instructions of filling a word, and those of a put for one of reading.
+/// A put of a kind for one reading with masks, if there is one.
+fn put_cell(cost: &masks::Cost, kind: usize) -> String {
+    cost.put_to_reading(kind).map_or("–".to_string(), |ratio| format!("{ratio:.2}"))
+}
+
+fn puts_table(all: &[masks::Judged]) -> String {
+    let mut out = format!("| File | Words | Reading with masks | {} |\n|---|--:|--:|{}\n", puts::NAMES.join(" | "), "--:|".repeat(4));
+    for one in all {
+        let cost = &one.cost;
+        let counts = [cost.words as u64, cost.with_masks].map(thousands);
+        let ratios = [0, 1, 2, 3].map(|kind| put_cell(cost, kind));
+        let _ = writeln!(out, "| {} | {} | {} |", one.name, counts.join(" | "), ratios.join(" | "));
+    }
+    out
+}
+
+/// By size: instructions of filling a word, and those of a put for one of reading with masks.
 fn filling_table(all: &[masks::Cost]) -> String {
-    let line = |name: &str, cell: fn(&masks::Cost) -> f64| {
-        let cells: Vec<String> = all.iter().map(|cost| format!(" {} |", figures(cell(cost)))).collect();
+    let line = |name: &str, cell: &dyn Fn(&masks::Cost) -> String| {
+        let cells: Vec<String> = all.iter().map(|cost| format!(" {} |", cell(cost))).collect();
         format!("| {name} |{}\n", cells.concat())
     };
-    let filling = line("Filling, instructions a word", |cost| cost.filling as f64 / cost.words as f64);
-    let put = line("Put ÷ reading", masks::Cost::put_to_reading);
-    format!("| |{}\n|---|{}\n{filling}{put}", size_cells(), "--:|".repeat(all.len()))
+    let mut out = format!("| |{}\n|---|{}\n", size_cells(), "--:|".repeat(all.len()));
+    out += &line("Filling, instructions a word", &|cost| figures(cost.filling() as f64 / cost.words as f64));
+    out += &line("Put ÷ reading with masks, itself", &|cost| put_cell(cost, puts::ITSELF));
+    out += &line("Put ÷ reading with masks, another scalar", &|cost| put_cell(cost, puts::OTHER_SCALAR));
+    out
+}
+
+/// The section on the calls with masks.
+pub fn masks(m: &masks::Measured) -> String {
+    let judged = judged_table(&m.judged);
+    let (puts, filling) = (puts_table(&m.judged), filling_table(&m.growing));
+    format!("{MASKS}\n{judged}\n{PUTS}.\n\n{puts}\nBy size, for the growing files `{}`:\n\n{filling}", masks::GROWING)
 }
 
 /// From the least to the most of some numbers.
@@ -145,13 +168,12 @@ fn stack_lines(all: &[stack::Used]) -> String {
 pub fn text(m: &Measured) -> String {
     let machine: String = machine::lines().iter().map(|line| format!("- {line}\n")).collect();
     format!(
-        "{HEAD}\n{machine}\n{}\n{FILES}\n### Usual\n\n{}\n### Worst\n\n{}\n{GROWTH}\n{}\n{MASKS}\n{}\n{}\n{RUNNER}\n{}\n{STACK}\n{}",
+        "{HEAD}\n{machine}\n{}\n{FILES}\n### Usual\n\n{}\n### Worst\n\n{}\n{GROWTH}\n{}\n{}\n{RUNNER}\n{}\n{STACK}\n{}",
         summary(m),
         check_table(&m.usual),
         check_table(&m.worst),
         growth_table(&m.growing),
-        masks_table(&m.masks.judged),
-        filling_table(&m.masks.growing),
+        masks(&m.masks),
         run_table(&m.runs),
         stack_lines(&m.stack),
     )
@@ -192,12 +214,18 @@ which the whole cost grows at the last doubling: 1 is in proportion, 2 with the 
 
 const MASKS: &str = "## With masks
 
-Instructions within the calls: reading (refusals 1 to 7 and 16) is a `flow_put` that is then refused with 18, and judging is what
-`flow_check` takes after it. With masks (request [5], `flow_check_masks`) each of three worst files is judged at the cost of the same file
-with `assert true` for its assignments, where nothing is modified; the benchmark stops if filling and judging together differ by more than
-1 %. Filling grows in proportion to the file (second table, the files `modified` of the table above); a put, here of a command in the place
-of itself, reads the file, fills the table of the changed file and stores its masks.
+Instructions within the calls of request [5]. **Reading** is a `flow_check` that is refused with 8 at one of its first evidence words: of each
+file a variant is made in which one word is another, such that all of it is read and it is refused as early as can be. (At the very first
+evidence word if one word can do that, else at the next at which one can; what is judged until the refusal is taken off.) **Filling** is what
+`flow_check_masks` takes more on that variant, and **judging** what each of the two takes more on the file itself, which is accepted. With
+masks each of three worst files is judged at the cost of the same file with `assert true` for its assignments, where nothing is modified: the
+benchmark stops if filling and judging together differ by more than 1 %.
 ";
+
+const PUTS: &str = "The workbench call, `flow_put`, for one reading with masks, which is reading and filling. The new command is the old one
+itself, an assignment to another scalar, an assert that takes more levels, and an assignment to another scalar in the body of a procedure; each
+in the first such place of the file, of at most a sixteenth of its words, and – where there is none. The benchmark stops where a put costs more
+than a reading with masks";
 
 const RUNNER: &str = "## The runner
 
