@@ -386,6 +386,25 @@ static void most_words(void)
     give_back(lent);
 }
 
+/* Words that claim 134,217,726 parts each, in the file and as the new command: looking for its end takes no longer than the words. */
+static void claimed_parts(void)
+{
+    static char file[24 * FLOW_MOST_WORDS];
+    static char words[24 * FLOW_MOST_WORDS];
+    static uint8_t bytes[MOST];
+    static uint8_t command[MOST];
+    struct lent lent;
+    size_t k;
+    repeat(repeat(file, "63:8192 26:0 ", 1), "32:67108863 ", 8190);
+    repeat(repeat(words, "26:0 ", 1), "32:67108863 ", 8190);
+    expect("claimed parts", bytes_of(file, bytes), FLOW_MOST_BYTES);
+    k = bytes_of(words, command);
+    lent = lend(bytes, FLOW_MOST_BYTES, FLOW_MOST_WORDS);
+    expect("put among claimed parts", flow_put(lent.file, lent.count, lent.masks, lent.n, 1, command, k), REFUSED(5, 2));
+    expect("put at claimed parts", flow_put(lent.file, lent.count, lent.masks, lent.n, 2, command, k - 4), REFUSED(5, 2));
+    give_back(lent);
+}
+
 /* ---- masks that are not set, null, and what the header takes apart */
 
 /* The lent numbers are never read: here they have no value, which valgrind would tell. */
@@ -460,6 +479,7 @@ int main(void)
     put_deep("test to depth 128", 126, 0);
     put_deep("test to depth 129", 127, REFUSED(18, 0));
     most_words();
+    claimed_parts();
     not_set();
     with_null();
     taken_apart();
