@@ -26,9 +26,9 @@ use Rattle.masks.proofs.LentNumbers.{lent-numbers}
 use Rattle.context.specs.Contexts.{refusal}
 use Rattle.context.specs.declared.Refusal.{Refusal}
 use Rattle.file.proofs.Faults.{FaultBy, file-fault}
-use Rattle.workbench.specs.Put.{changed, replaceable, orUnread, readPut, answerOf as putAnswer, PutDone}
-use Rattle.workbench.specs.declared.Replaced.{Replaced}
-use Rattle.workbench.specs.declared.Replaced.the-variants as Replaced
+use Rattle.replacement.specs.Put.{changed, replaceable, orUnread, readPut, answerOf as putAnswer, PutDone}
+use Rattle.replacement.specs.declared.Replaced.{Replaced}
+use Rattle.replacement.specs.declared.Replaced.the-variants as Replaced
 use Rattle.outcomes.specs.Outcome.{storedWhere, OutcomeDone}
 use Rattle.outcomes.specs.declared.Outcome.{Outcome}
 use Rattle.flow.specs.Answer.{answerFrom, packedAnswer, SmallAnswer}

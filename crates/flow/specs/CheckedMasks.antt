@@ -17,7 +17,7 @@ use Rattle.layout.specs.Verdict.{verdictOf, packed}
 use Rattle.claims.specs.Check.{Demand2, Demand3}
 use Rattle.masks.specs.LentNumbers.{LentNumbers}
 use Rattle.masks.specs.WithMasks.{fewNumbers, verdictLent, storedIf, masksAfter}
-use Rattle.workbench.specs.Put.{changed, readPut, fileAfter}
+use Rattle.replacement.specs.Put.{changed, readPut, fileAfter}
 use Rattle.flow.specs.Checked.{answerOf}
 use Rattle.flow.specs.declared.Verdict.{Verdict}
 use Rattle.flow.specs.declared.Verdict.the-variants.{Accepted}

@@ -1,55 +1,34 @@
 // The workbench call (document 02, request [5]): another skip, assert or assignment of equal length in the place of one, and the masks of
 // the changed file.
-pub mod simple; // simple.rt: a skip, an assert or an assignment at a place
-pub mod copy; // copy.rt: bytes copied
-pub mod extent; // extent.rt: how many levels what stands at a place takes
-pub mod table; // table.rt: tables without masks of blocks
-pub mod changed; // changed.rt: refusal 7 of the changed file
-pub mod walk; // walk.rt: one walk for the file and for the changed one
-
-use changed::Old;
-use changed::read_mended;
+use changed_file::old::Old;
+use changed_file::old::is_known;
+use changed_file::old::old_at;
+use changed_file::read_mended;
+use changed_file::table::fill_marked;
+use changed_file::table::read_marked;
 use context::Context;
-use context::Refusal;
-use copy::copy as copy_bytes;
-use extent::extent_at;
 use file::read_table;
 use masks::fill;
 use masks::lent::few_numbers;
 use reader::Layout;
 use reader::Places;
+use replacement::Replaced;
+use replacement::refused;
 use scan::for_mask::Fors;
 use scan::for_mask::find_fors;
-use simple::is_read_to;
-use simple::is_simple_to;
-use table::fill_marked;
-use table::read_marked;
-use walk::walk_first;
+use splice::copy::copy;
+use splice::simple::is_read_to;
+use splice::simple::is_simple_to;
+use splice::walk::walk_first;
 use words::load::bad_length;
 use words::load::load;
-ghost use mathlib.Core.Path.{_≡_};
-ghost use mathlib.Core.Bool.{true};
 ghost use Prim.Native.Nat.{_+_, _*_, _/_, _<_, _≤_};
 ghost use lib.ListN.{length};
-ghost use Rattle.context.specs.Contexts.{limitsOf, refusal};
-ghost use Rattle.workbench.specs.declared.Replaced.the-variants.{Refused};
-ghost use Rattle.workbench.specs.Put.{PutDone};
-ghost use Rattle.workbench.specs.Simple.{readTo};
-ghost use Rattle.workbench.specs.Steps.{LevelsFor, OldAt, CanRead, CanReplace, CanChange, ChangedKnown, CanSettle, CanFinish};
+ghost use Rattle.context.specs.Contexts.{limitsOf};
+ghost use Rattle.changed_file.specs.Changed.{ChangedKnown};
+ghost use Rattle.replacement.specs.Put.{PutDone};
+ghost use Rattle.replacement.specs.Steps.{CanRead, CanReplace, CanChange, CanSettle, CanFinish};
 ghost use Rattle.file.specs.Found.{CanLoad};
-
-// The new command stands in the file; or the refusal.
-pub enum Replaced {
-    Done,
-    Refused(Refusal),
-}
-
-// A refusal at place 0.
-fn refused(number: u32) -> Replaced
-    ensures { λ r. ⌜ r ≡ Refused (refusal number 0) ⌝ }
-{
-    Replaced::Refused(Refusal { number, place: 0 })
-}
 
 // The changed file was read: masks and file are changed.
 fn finish(
@@ -65,7 +44,7 @@ fn finish(
     ensures { λ r. ⌜ PutDone (limitsOf context) (now (file .entry)) (now (masks .entry)) place (now (new .entry)) r (now (file .exit)) (now (masks .exit)) ⌝ }
 {
     fill(w, table, masks);
-    copy_bytes(new, file, 4 * place);
+    copy(new, file, 4 * place);
     Replaced::Done
 }
 
@@ -87,17 +66,6 @@ fn settle(
         Layout::Found(_) => finish(w, table, context, file, masks, place, new),
         Layout::Refused(_) => refused(18),
     }
-}
-
-// Whether the new command is read with the levels that are asked.
-fn is_known(w: &[u32], place: usize, to: usize, old: Old) -> bool
-    requires { ⌜ (old .known ≡ true → readTo (now w) (old .levels) place to ≡ true) ⌝ }
-    ensures { λ r. ⌜ r ≡ readTo (now (w .entry)) (old .levels) place to ⌝ }
-{
-    if old.known {
-        return true;
-    }
-    is_read_to(w, place, to, old.levels)
 }
 
 // The words are those of the changed file: the new command has to be one, whole. Where it takes no more levels than the old one, it is read
@@ -127,31 +95,6 @@ fn change(
     }
     let layout = read_table(w, table, context);
     settle(w, table, context, layout, file, masks, place, new)
-}
-
-// With how many levels the new command is read wherever the old one was: as many as that takes, or any where the changed file was walked.
-fn levels_for(w: &[u32], place: usize, depth: usize, both: bool) -> usize
-    ensures { λ r. ⌜ LevelsFor (now (w .entry)) place depth both r ⌝ }
-{
-    if both {
-        return depth;
-    }
-    let extent = extent_at(w, place, depth);
-    extent.levels
-}
-
-// What is kept of the old command.
-fn old_at(w: &[u32], place: usize, depth: usize, both: bool, fors: Fors) -> Old
-    requires { ⌜ place < length (now w) ⌝ }
-    ensures { λ r. ⌜ OldAt (now (w .entry)) place depth both fors r ⌝ }
-{
-    let levels = levels_for(w, place, depth, both);
-    Old {
-        first: w[place],
-        levels,
-        known: both,
-        fors,
-    }
 }
 
 // The file was read: the old command has to be one, as long as the new bytes.

@@ -3,9 +3,9 @@
 use mathlib.Core.Path.{sym, _∙_}
 use borrow.Author.Needs.{needs}
 use borrow.Author.Tests.{not-true, not-false}
-use Rattle.workbench.proofs.ReadTo.{read-deeper}
-use Rattle.workbench.proofs.Tables.{tabled-again}
-use Rattle.workbench.proofs.Puts.{change-not, settled}
+use Rattle.splice.proofs.ReadTo.{read-deeper}
+use Rattle.changed_file.proofs.Tables.{tabled-again}
+use Rattle.replacement.proofs.Puts.{change-not, settled}
 use Rattle.workbench.proofs.change.Statement.{statement}
 use Rattle.workbench.proofs.change.Tie as tie
 

@@ -1,7 +1,7 @@
 -- `workbench::finish` meets its contract: the masks of the changed file are stored, and the new command stands in the file.
 -- Assumes nothing.
 use borrow.Author.Needs.{needs}
-use Rattle.workbench.proofs.Puts.{can-store, finish-done}
+use Rattle.replacement.proofs.Puts.{can-store, finish-done}
 use Rattle.workbench.proofs.finish.Statement.{statement}
 use Rattle.workbench.proofs.finish.Tie as tie
 

@@ -3,7 +3,7 @@
 use mathlib.Core.Path.{_∙_}
 use native.Mathlib.Omega.{arith}
 use borrow.Author.Needs.{needs}
-use Rattle.workbench.proofs.PutReads.{read-count, read-room, read-right, can-replace, unsteady-put}
+use Rattle.replacement.proofs.PutReads.{read-count, read-room, read-right, can-replace, unsteady-put}
 use Rattle.workbench.proofs.put_called.Statement.{statement}
 use Rattle.workbench.proofs.put_called.Tie as tie
 

@@ -3,8 +3,8 @@
 use mathlib.Core.Path.{sym, _∙_}
 use native.Mathlib.Omega.{arith}
 use borrow.Author.Needs.{needs}
-use Rattle.workbench.proofs.Puts.{few-put}
-use Rattle.workbench.proofs.PutReads.{bad-put, called-put, loaded-rooms}
+use Rattle.replacement.proofs.Puts.{few-put}
+use Rattle.replacement.proofs.PutReads.{bad-put, called-put, loaded-rooms}
 use Rattle.workbench.proofs.put_in.Statement.{statement}
 use Rattle.workbench.proofs.put_in.Tie as tie
 

@@ -3,7 +3,7 @@
 use native.Mathlib.Omega.{arith}
 use borrow.Author.Needs.{needs}
 use borrow.Author.Tests.{not-true, not-false}
-use Rattle.workbench.proofs.Puts.{word-count, ends-here, replace-past, replace-part, replace-not, can-change, changed-count, changed-known}
+use Rattle.replacement.proofs.Puts.{word-count, ends-here, replace-past, replace-part, replace-not, can-change, changed-count, changed-known}
 use Rattle.workbench.proofs.replace.Statement.{statement}
 use Rattle.workbench.proofs.replace.Tie as tie
 

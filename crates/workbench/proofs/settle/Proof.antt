@@ -1,7 +1,7 @@
 -- `workbench::settle` meets its contract: the changed file is read, or the call is refused as 18.
 -- Assumes nothing.
 use borrow.Author.Needs.{needs}
-use Rattle.workbench.proofs.Puts.{can-finish, change-unread}
+use Rattle.replacement.proofs.Puts.{can-finish, change-unread}
 use Rattle.workbench.proofs.settle.Statement.{statement}
 use Rattle.workbench.proofs.settle.Tie as tie
 
