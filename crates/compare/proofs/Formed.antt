@@ -21,10 +21,10 @@ use Rattle.rules.specs.Tests.{sameAntecedent}
 use Rattle.layout.specs.Bytes.{wordOf, kindAt}
 use Rattle.ends.specs.Ends.{EndsOf}
 use Rattle.ends.specs.Places.{endAt}
-use Rattle.compare.specs.Places.{ExpressionAt}
+use Rattle.matching.specs.Places.{ExpressionAt}
 use Rattle.compare.specs.Trees.{booleanAt, HasPut, changed, ChangeAt}
 use Rattle.compare.specs.Forms.{antecedentTree, AntecedentAt, CanCompareTwo, CanAntecedent}
-use Rattle.compare.specs.declared.cursor.Put.{Put}
+use Rattle.matching.specs.declared.cursor.Put.{Put}
 use Rattle.compare.specs.declared.plain.Change.the-variants.{Unchanged, Replaced as With}
 use Rattle.compare.specs.declared.antecedent.Antecedent.{Antecedent}
 use Rattle.compare.specs.declared.antecedent.Antecedent.the-variants.{Written, And, AndNot, Split, Replaced, True}

@@ -1,28 +1,21 @@
--- What the tests of parts and of consequents answer, and what a form names.
+-- What the tests of consequents answer, and what a form names.
 -- Assumes nothing.
---     part-matched                                       a cursor after a part, by its end in the list
---     of-verbatim, of-exchanged                             what a form of a consequent names stands there
---     came-to, consequent-written, consequent-replaced   what the tests answer
-use mathlib.Core.Path.{_≡_, _∙_}
+--     of-verbatim, of-exchanged                 what a form of a consequent names stands there
+--     consequent-written, consequent-replaced   what the tests answer
+use mathlib.Core.Path.{_≡_}
 use mathlib.Core.Bool.{Bool, true}
 use mathlib.Core.List.{List}
 use Prim.Native.Nat.{ℕ}
-use native.Mathlib.Omega.{arith}
-use Rattle.compare.specs.Matching.{between, matched, came, sameNumbers, exchanged}
+use Rattle.matching.specs.Matching.{came, sameNumbers, exchanged}
 use Rattle.ends.specs.Places.{endAt, PartKnown}
-use Rattle.compare.specs.Places.{CanMatchAny, Matched}
-use Rattle.compare.specs.Forms.{part, consequentNumbers, ConsequentAt}
-use Rattle.compare.specs.declared.cursor.Match.{Match}
-use Rattle.compare.specs.declared.cursor.Put.{Put}
+use Rattle.matching.specs.Places.{part, CanMatchAny, Matched}
+use Rattle.compare.specs.Forms.{consequentNumbers, ConsequentAt}
+use Rattle.matching.specs.declared.cursor.Match.{Match}
+use Rattle.matching.specs.declared.cursor.Put.{Put}
 use Rattle.compare.specs.declared.consequent.Consequent.{Consequent}
 use Rattle.compare.specs.declared.consequent.Consequent.the-variants.{Written as Verbatim, Replaced as Exchanged}
-use Rattle.compare.proofs.Whole.{cursor}
-use Rattle.compare.proofs.SameNumbers.{came-same}
-
-module _ (file ends : List ℕ) (m : Match) where
-  pub part-matched : (r : Match) (a : ℕ) {to : ℕ} → to ≡ endAt ends a → r ≡ matched file m (between file a to) →
-      r ≡ matched file m (part file ends a)
-  part-matched r a e h = rw (← e) h
+use Rattle.matching.proofs.Whole.{cursor}
+use Rattle.matching.proofs.SameNumbers.{came-to}
 
 -- what a form names stands there
 module _ {file ends : List ℕ} where
@@ -37,12 +30,6 @@ module _ {file ends : List ℕ} where
 
 -- what the tests answer
 module _ (file ends : List ℕ) (at : ℕ) (p : PartKnown file ends at) {r : Bool} where
-  pub came-to : (m : Match) (l : List ℕ) → m ≡ matched file (cursor true at) l → r ≡ came m (endAt ends at) →
-      r ≡ sameNumbers (part file ends at) l
-  came-to m l e h =
-      let s = p .start in
-      h ∙ came-same file m l at (endAt ends at) (omega arith) (p .inside) e
-
   pub consequent-written : (form : Consequent) (a : ℕ) → form ≡ Verbatim a →
       r ≡ sameNumbers (part file ends at) (part file ends a) →
       r ≡ sameNumbers (part file ends at) (consequentNumbers file ends form)
@@ -53,4 +40,4 @@ module _ (file ends : List ℕ) (at : ℕ) (p : PartKnown file ends at) {r : Boo
       Matched file ends (cursor true at) a put m → r ≡ came m (endAt ends at) →
       r ≡ sameNumbers (part file ends at) (consequentNumbers file ends form)
   unfolding consequentNumbers
-  consequent-replaced form a put m e h g = rw e (came-to m (exchanged file put (part file ends a)) (h .is) g)
+  consequent-replaced form a put m e h g = rw e (came-to file ends at p m (exchanged file put (part file ends a)) (h .is) g)

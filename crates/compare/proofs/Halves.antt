@@ -15,17 +15,18 @@ use Rattle.rules.specs.Replace.{Replacement, replacement, replace}
 use Rattle.rules.specs.Tests.{sameAntecedent, sameConsequent}
 use Rattle.layout.specs.Nodes.{AllInRange}
 use Rattle.ends.specs.Places.{WrittenAt}
-use Rattle.compare.specs.Matching.{numbers, exchanged, sameNumbers}
+use Rattle.matching.specs.Matching.{numbers, exchanged, sameNumbers}
 use Rattle.compare.specs.Trees.{booleanAt, PutStands, changed}
-use Rattle.compare.specs.Forms.{part, antecedentTree, consequentNumbers}
-use Rattle.compare.specs.declared.cursor.Put.{Put}
+use Rattle.matching.specs.Places.{part}
+use Rattle.compare.specs.Forms.{antecedentTree, consequentNumbers}
+use Rattle.matching.specs.declared.cursor.Put.{Put}
 use Rattle.compare.specs.declared.antecedent.Antecedent.{Antecedent}
 use Rattle.compare.specs.declared.antecedent.Antecedent.the-variants.{Written, And, AndNot, Split, Replaced, True}
 use Rattle.compare.specs.declared.consequent.Consequent.{Consequent}
 use Rattle.compare.specs.declared.consequent.Consequent.the-variants.{Written as Verbatim, Replaced as Exchanged}
-use Rattle.compare.proofs.Numbers.{numbers-tell}
-use Rattle.compare.proofs.Replaced.{Replaces, replaces}
-use Rattle.compare.proofs.SameNumbers.{numbers-same}
+use Rattle.matching.proofs.Numbers.{numbers-tell}
+use Rattle.matching.proofs.Replaced.{Replaces, replaces}
+use Rattle.matching.proofs.SameNumbers.{numbers-same}
 use Rattle.compare.proofs.Trees.{tree-is, part-is, in-range, put-is}
 
 -- an antecedent, a consequent that a rule forms

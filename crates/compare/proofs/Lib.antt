@@ -1,29 +1,11 @@
--- Laws about cursors and the trees they pass.
---     Ranges      the numbers of a file between two places
---     Matching    cursors after lists of numbers
---     EqualWords  words that are equal from two places on
---     Operands    the operands of an expression by the kind of its first word
---     Exchange    an expression's numbers are its first word's, then its operands'
---     Numbers     numbers spell words, and words spell one tree
---     Replaced    the numbers of an expression with another in the place of an identifier
---     Whole       a cursor that passes all of a part finds the same numbers there
---     SameNumbers equality of numbers as a test, of what a cursor passes and of two parts
---     Forms       what the tests of parts and of consequents answer
+-- Laws about antecedents and consequents that are compared.
+--     Forms       what the tests of consequents answer
 --     Trees       the trees that are read at places are those that are written there
 --     Halves      antecedents and consequents compared, by the trees that stand there
 --     PlainTests  the comparison of booleans by their plain forms, on trees
 --     PlainForms  booleans compared by their plain forms, at their places
 --     Starts      where plain forms start
 --     Formed      booleans compared with those that the rules form
-pub mod Ranges
-pub mod Matching
-pub mod EqualWords
-pub mod Operands
-pub mod Exchange
-pub mod Numbers
-pub mod Replaced
-pub mod Whole
-pub mod SameNumbers
 pub mod Forms
 pub mod Trees
 pub mod Halves

@@ -31,16 +31,16 @@ use Rattle.layout.specs.Bytes.{kindAt, payloads}
 use Rattle.ends.specs.Ends.{EndsOf}
 use Rattle.ends.specs.Places.{endAt, PartKnown, WrittenAt}
 use Rattle.ends.proofs.Places.{parts-at, node-head, node-known, node-inside}
-use Rattle.compare.specs.Matching.{exchanged, sameNumbers}
-use Rattle.compare.specs.Places.{ExpressionAt}
+use Rattle.matching.specs.Matching.{exchanged, sameNumbers}
+use Rattle.matching.specs.Places.{part, ExpressionAt}
 use Rattle.compare.specs.Plain.{Settled, PlainFrom}
-use Rattle.compare.specs.Forms.{part, consequentNumbers, CanCompareTwo}
+use Rattle.compare.specs.Forms.{consequentNumbers, CanCompareTwo}
 use Rattle.compare.specs.Trees.{booleanAt, HasPut, changed, ChangeAt}
-use Rattle.compare.specs.declared.cursor.Put.{Put}
+use Rattle.matching.specs.declared.cursor.Put.{Put}
 use Rattle.compare.specs.declared.plain.Change.{Change}
 use Rattle.compare.specs.declared.plain.Change.the-variants.{Unchanged, Replaced}
-use Rattle.compare.proofs.Numbers.{numbers-tell}
-use Rattle.compare.proofs.SameNumbers.{sameNumbers-decides}
+use Rattle.matching.proofs.Numbers.{numbers-tell}
+use Rattle.matching.proofs.SameNumbers.{sameNumbers-decides}
 use Rattle.compare.proofs.Trees.{tree-is, tree-at, part-is, in-range, put-is, put-replaces}
 use Rattle.compare.proofs.Halves.{is-verbatim, is-exchanged, consequent-same}
 use Rattle.compare.proofs.PlainTests.{plain-answer, plain-told, words-told, top, top-settled, changed-plain}

@@ -32,7 +32,7 @@ use Rattle.ends.specs.Ends.{EndsOf}
 use Rattle.ends.specs.Places.{endAt, WrittenAt}
 use Rattle.ends.proofs.Sizes.{lt-or-le}
 use Rattle.ends.proofs.Places.{parts-at, node-head, node-inside}
-use Rattle.compare.specs.Places.{ExpressionAt}
+use Rattle.matching.specs.Places.{ExpressionAt}
 use Rattle.compare.specs.Trees.{booleanAt}
 use Rattle.compare.specs.Plain.{AndOrTrue, FirstOther, Settled, PlainFrom, StartOf}
 use Rattle.compare.proofs.Trees.{tree-is, tree-at}

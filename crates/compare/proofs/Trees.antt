@@ -19,13 +19,12 @@ use Rattle.layout.proofs.Nodes.{node-deeper, node-range}
 use Rattle.layout.proofs.Back.{expression-stands}
 use Rattle.ends.specs.Places.{endAt, WrittenAt}
 use Rattle.ends.proofs.Places.{node-inside}
-use Rattle.compare.specs.Matching.{between, numbers}
-use Rattle.compare.specs.Places.{ExpressionAt}
-use Rattle.compare.specs.Forms.{part}
+use Rattle.matching.specs.Matching.{between, numbers}
+use Rattle.matching.specs.Places.{part, ExpressionAt}
 use Rattle.compare.specs.Trees.{readTree, treeAt, RightSide, PutStands, put-scalar, put-array, putAssignment}
-use Rattle.compare.specs.declared.cursor.Put.{Put}
-use Rattle.compare.proofs.Numbers.{stands-between}
-use Rattle.compare.proofs.Replaced.{Replaces, scalar-replaces, array-replaces}
+use Rattle.matching.specs.declared.cursor.Put.{Put}
+use Rattle.matching.proofs.Numbers.{stands-between}
+use Rattle.matching.proofs.Replaced.{Replaces, scalar-replaces, array-replaces}
 
 module _ {file ends : List ℕ} where
   pub tree-is : {j : Sort} {e : Expr j} {at : ℕ} → WrittenAt file ends e at → treeAt file j at ≡ e

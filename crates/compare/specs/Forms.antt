@@ -2,7 +2,6 @@
 -- numbers of their words.
 -- Working: `antecedent-same` and `consequent-same` of proofs/Halves say that comparing these is the rules' `sameAntecedent` and
 -- `sameConsequent` of the trees that stand there. Assumes nothing.
---     part                                 the numbers of what starts at a place, up to its end in the list of ends
 --     antecedentTree, consequentNumbers    by form
 --     AntecedentAt, ConsequentAt           what a form names stands in the file
 --     CanCompareTwo, CanComparePlain, CanLeft, CanAntecedent, CanConsequent
@@ -14,10 +13,10 @@ use Prim.Native.Nat.{ℕ, _+_, _<_}
 use lib.ListN.{length, getD}
 use Rattle.language.specs.Syntax.{Boolean, Expr, truth, and, or, neg}
 use Rattle.layout.specs.Bytes.{wordOf}
-use Rattle.compare.specs.Matching.{between, exchanged}
+use Rattle.matching.specs.Matching.{exchanged}
 use Rattle.ends.specs.Ends.{EndsOf}
 use Rattle.ends.specs.Places.{endAt, PartKnown}
-use Rattle.compare.specs.Places.{ExpressionAt, CanMatchAny}
+use Rattle.matching.specs.Places.{part, ExpressionAt, CanMatchAny}
 use Rattle.compare.specs.Trees.{booleanAt, HasPut, changed, ChangeAt}
 use Rattle.compare.specs.Plain.{FirstOther}
 use Rattle.compare.specs.declared.plain.Change.{Change}
@@ -38,12 +37,9 @@ module _ (file : List ℕ) where
   antecedentTree True = truth true
 
 module _ (file ends : List ℕ) where
-  abbrev pub part : ℕ → List ℕ
-  part at = between file at (endAt ends at)
-
   unfoldable pub consequentNumbers : Consequent → List ℕ
-  consequentNumbers (Verbatim a) = part a
-  consequentNumbers (Exchanged a put) = exchanged file put (part a)
+  consequentNumbers (Verbatim a) = part file ends a
+  consequentNumbers (Exchanged a put) = exchanged file put (part file ends a)
 
   abbrev BooleanAt : ℕ → Type 0
   BooleanAt at = ExpressionAt file ends Boolean at

@@ -17,7 +17,7 @@ use Rattle.rules.specs.Plain.{isTrue, plain}
 use Rattle.layout.specs.Bytes.{wordOf}
 use Rattle.ends.specs.Ends.{EndsOf}
 use Rattle.ends.specs.Places.{endAt, WrittenAt}
-use Rattle.compare.specs.Places.{ExpressionAt}
+use Rattle.matching.specs.Places.{ExpressionAt}
 use Rattle.compare.specs.Trees.{booleanAt}
 
 abbrev pub AndOrTrue : List ℕ → ℕ → Type 0

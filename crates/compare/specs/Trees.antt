@@ -16,7 +16,7 @@ use Rattle.layout.specs.Bytes.{payloads}
 use Rattle.layout.specs.Reading.{Reading, read, fault}
 use Rattle.layout.specs.Read.{expression}
 use Rattle.ends.specs.Places.{endAt, WrittenAt}
-use Rattle.compare.specs.declared.cursor.Put.{Put}
+use Rattle.matching.specs.declared.cursor.Put.{Put}
 use Rattle.compare.specs.declared.plain.Change.{Change}
 use Rattle.compare.specs.declared.plain.Change.the-variants.{Unchanged, Replaced}
 

@@ -1,10 +1,10 @@
-use crate::cursor::Put;
 use crate::plain::Change;
 use crate::plain::same_booleans;
 use crate::plain::same_booleans_changed;
 use crate::start::is_true;
 use crate::start::plain_start;
 use ends::end_at;
+use matching::cursor::Put;
 use words::kinds::AND_WORD;
 use words::kinds::NOT_WORD;
 use words::kinds::OR_WORD;

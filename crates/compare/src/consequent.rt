@@ -1,12 +1,13 @@
-use crate::cursor::Match;
-use crate::cursor::Put;
-use crate::expression::match_expression;
-use crate::part::came_to_end;
-use crate::part::same_parts;
+use matching::cursor::Match;
+use matching::cursor::Put;
+use matching::expression::match_expression;
+use matching::part::came_to_end;
+use matching::part::same_parts;
 ghost use mathlib.Core.Path.{_≡_};
-ghost use Rattle.compare.specs.Matching.{sameNumbers};
+ghost use Rattle.matching.specs.Matching.{sameNumbers};
 ghost use Rattle.ends.specs.Places.{PartKnown};
-ghost use Rattle.compare.specs.Forms.{part, consequentNumbers, CanConsequent};
+ghost use Rattle.matching.specs.Places.{part};
+ghost use Rattle.compare.specs.Forms.{consequentNumbers, CanConsequent};
 
 // A consequent as the rules form it, by places: the expression at a place; the same with words put for a word.
 pub enum Consequent {

@@ -1,14 +1,14 @@
 // Booleans compared by their plain forms (document 02, request [2]). Nothing is built: a side whose plain form is true is passed over.
-use crate::cursor::Match;
-use crate::cursor::Put;
-use crate::expression::match_boolean;
-use crate::part::came_to_end;
-use crate::part::same_parts;
 use crate::start::left_other;
 use crate::start::other_of;
 use crate::start::plain_start;
 use crate::start::start_from;
 use ends::end_at;
+use matching::cursor::Match;
+use matching::cursor::Put;
+use matching::expression::match_boolean;
+use matching::part::came_to_end;
+use matching::part::same_parts;
 use words::kinds::COMPARISON;
 use words::kinds::KIND;
 use words::kinds::NOT;

@@ -14,7 +14,7 @@ use Rattle.rules.specs.Condition.{byForm}
 use Rattle.rules.specs.Evidence.{flow1, flow3, flow4, flow5}
 use Rattle.rules.specs.Judge.{misfit, flowRule}
 use Rattle.layout.specs.Bytes.{kindAt}
-use Rattle.compare.specs.declared.cursor.Put.{Put}
+use Rattle.matching.specs.declared.cursor.Put.{Put}
 use Rattle.implication.specs.declared.Condition.the-variants.{Fails}
 use Rattle.goals.specs.declared.Goal.the-variants.{Flow}
 use Rattle.goals.specs.Conditions.{conditionOf}

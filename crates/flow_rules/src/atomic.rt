@@ -1,9 +1,9 @@
 // Commands of one step: skip, the assignments, assert.
-use compare::cursor::Put;
 use context::Context;
 use ends::end_or_zero;
 use goals::condition;
 use implication::Condition;
+use matching::cursor::Put;
 use sets::rule::same_replaced;
 use sets::rule::same_under;
 use sets::rule::same_written;

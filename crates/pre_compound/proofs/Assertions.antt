@@ -16,7 +16,7 @@ use Rattle.ends.specs.Places.{endAt}
 use Rattle.ends.proofs.Places.{node-known}
 use Rattle.compare.specs.Trees.{booleanAt, HasPut, PutStands, put-scalar, put-array}
 use Rattle.compare.specs.Forms.{antecedentTree, AntecedentAt, CanAntecedent}
-use Rattle.compare.specs.declared.cursor.Put.{Put}
+use Rattle.matching.specs.declared.cursor.Put.{Put}
 use Rattle.compare.specs.declared.antecedent.Antecedent.{Antecedent}
 use Rattle.compare.specs.declared.antecedent.Antecedent.the-variants.{And, Split, Replaced, True}
 use Rattle.compare.proofs.Halves.{is-and, is-split, is-replaced, is-true, antecedent-same}

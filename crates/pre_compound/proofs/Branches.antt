@@ -13,7 +13,7 @@ use Rattle.rules.specs.Judge.{misfit, preRule, judge}
 use Rattle.layout.specs.Bytes.{kindAt}
 use Rattle.language.specs.Syntax.{Boolean}
 use Rattle.ends.specs.Places.{endAt}
-use Rattle.compare.specs.Places.{ExpressionAt}
+use Rattle.matching.specs.Places.{ExpressionAt}
 use Rattle.implication.specs.declared.Condition.{Condition}
 use Rattle.implication.specs.declared.Condition.the-variants.{Fails}
 use Rattle.goals.specs.Conditions.{conditionOf}

@@ -29,7 +29,7 @@ use Rattle.goals.specs.Resolved.{ResolvedAt}
 use Rattle.ends.proofs.Places.{node-inside, node-known}
 use Rattle.goals.proofs.Evidence.{Placed}
 use Rattle.goals.proofs.Comes.{no-children, comes, misfit-comes, PreComes, pre-rule}
-use Rattle.compare.specs.Places.{ExpressionAt}
+use Rattle.matching.specs.Places.{ExpressionAt}
 use Rattle.rule_laws.proofs.Trying.{first-word, parts-of, only-rule}
 use Rattle.pre_compound.specs.Children.{CanPreChild}
 

@@ -18,9 +18,9 @@ use Rattle.rules.specs.Condition.{implication, _then_}
 use Rattle.rules.specs.Replace.{replacement, replace}
 use Rattle.rules.specs.Tests.{sameAntecedent}
 use Rattle.ends.specs.Ends.{EndsOf}
-use Rattle.compare.specs.Places.{ExpressionAt}
+use Rattle.matching.specs.Places.{ExpressionAt}
 use Rattle.compare.specs.Trees.{PutStands, HasPut}
-use Rattle.compare.specs.declared.cursor.Put.{Put}
+use Rattle.matching.specs.declared.cursor.Put.{Put}
 use Rattle.implication.specs.Sides.{resultOf}
 use Rattle.implication.specs.declared.Condition.{Condition}
 use Rattle.ends.specs.Places.{endAt, WrittenAt}

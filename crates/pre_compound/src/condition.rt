@@ -1,7 +1,7 @@
 use compare::antecedent::Antecedent;
 use compare::antecedent::same_antecedent;
-use compare::cursor::Put;
 use ends::end_at;
+use matching::cursor::Put;
 ghost use Rattle.pre_compound.specs.Conditions.{CanSplit, SplitAt, CanJoin, JoinAt, CanReplace, ReplacedAt, CanTrue, TrueAt};
 
 // Rule 20: whether φ at f is (φ1 ∧ B) ∨ (φ2 ∧ ¬B), with B at b, φ1 at p and φ2 at q.

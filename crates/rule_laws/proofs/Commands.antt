@@ -28,7 +28,7 @@ use Rattle.ends.specs.Places.{endAt, WrittenAt, CommandAt, NodesAt}
 use Rattle.ends.specs.Procedures.{startAt, ProcedureAt, Procedures}
 use Rattle.ends.proofs.Places.{NodeHead, node-head, parts-at}
 use Rattle.compare.specs.Trees.{RightSide}
-use Rattle.compare.specs.declared.cursor.Put.{Put}
+use Rattle.matching.specs.declared.cursor.Put.{Put}
 use Rattle.goals.specs.Resolved.{ResolvedAt}
 
 abbrev pub commandKind : Context → Command → ℕ

@@ -16,7 +16,7 @@ use Rattle.layout.specs.Standing.{PartStands}
 use Rattle.layout.proofs.Nodes.{node-deeper}
 use Rattle.ends.specs.Ends.{EndsOf}
 use Rattle.ends.specs.Places.{endAt, WrittenAt, PartKnown}
-use Rattle.compare.specs.Places.{ExpressionAt}
+use Rattle.matching.specs.Places.{ExpressionAt}
 use Rattle.implication.specs.Sides.{CanImply, Implied}
 use Rattle.implication.specs.declared.Condition.{Condition}
 use Rattle.implication.specs.declared.Side.the-variants.{One}

@@ -17,11 +17,11 @@ use Rattle.layout.specs.Nodes.{commandNode, InRange, AllInRange}
 use Rattle.layout.proofs.Words.{for-first, for-second}
 use Rattle.layout.proofs.Nodes.{in-range-append, node-range}
 use Rattle.ends.specs.Ends.{EndsOf}
-use Rattle.compare.specs.Matching.{numbers, matchedWord, matched, came}
+use Rattle.matching.specs.Matching.{numbers, matchedWord, matched, came}
 use Rattle.ends.specs.Places.{endAt}
-use Rattle.compare.specs.Forms.{part}
-use Rattle.compare.specs.declared.cursor.Match.{Match}
-use Rattle.compare.proofs.Whole.{cursor}
+use Rattle.matching.specs.Places.{part}
+use Rattle.matching.specs.declared.cursor.Match.{Match}
+use Rattle.matching.proofs.Whole.{cursor}
 use Rattle.rule_laws.specs.Sameness.{startNumbers, nextNumbers, MeaningAt}
 use Rattle.rule_laws.proofs.Commands.{ForParts, parts-of-for}
 use Rattle.rule_laws.proofs.Passing.{WordsMatched, then, passes-command, same-command}

@@ -16,18 +16,19 @@ use Rattle.layout.specs.Nodes.{commandNode, AllInRange}
 use Rattle.layout.proofs.Nodes.{node-range}
 use Rattle.ends.specs.Places.{endAt, CommandAt}
 use Rattle.ends.proofs.Places.{node-inside}
-use Rattle.compare.specs.Matching.{numbers, matched, came, sameNumbers}
+use Rattle.matching.specs.Matching.{numbers, matched, came, sameNumbers}
 use Rattle.rules.specs.Tests.{sameAntecedent}
 use Rattle.compare.specs.Trees.{booleanAt}
-use Rattle.compare.specs.Forms.{part, antecedentTree, consequentNumbers, AntecedentAt, ConsequentAt, CanAntecedent}
+use Rattle.matching.specs.Places.{part}
+use Rattle.compare.specs.Forms.{antecedentTree, consequentNumbers, AntecedentAt, ConsequentAt, CanAntecedent}
 use Rattle.compare.specs.Forms.{CanConsequent}
 use Rattle.compare.specs.declared.antecedent.Antecedent.the-variants.{Written}
 use Rattle.compare.specs.declared.consequent.Consequent.the-variants.{Written as Verbatim}
-use Rattle.compare.specs.declared.cursor.Match.{Match}
-use Rattle.compare.proofs.Matching.{matched-append}
-use Rattle.compare.proofs.Numbers.{stands-between, numbers-append, numbers-tell}
-use Rattle.compare.proofs.Whole.{cursor}
-use Rattle.compare.proofs.SameNumbers.{came-same, numbers-same}
+use Rattle.matching.specs.declared.cursor.Match.{Match}
+use Rattle.matching.proofs.Matching.{matched-append}
+use Rattle.matching.proofs.Numbers.{stands-between, numbers-append, numbers-tell}
+use Rattle.matching.proofs.Whole.{cursor}
+use Rattle.matching.proofs.SameNumbers.{came-same, numbers-same}
 use Rattle.compare.proofs.Halves.{is-written, antecedent-same, is-verbatim, consequent-same}
 use Rattle.rule_laws.specs.Sameness.{CanSame, CanSameAssertion, SameAssertionAt, SameAt}
 

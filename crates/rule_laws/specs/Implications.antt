@@ -9,7 +9,7 @@ use Rattle.language.specs.Syntax.{Boolean, Expr}
 use Rattle.rules.specs.Context.{Context}
 use Rattle.rules.specs.Condition.{implication}
 use Rattle.ends.specs.Ends.{EndsOf}
-use Rattle.compare.specs.Places.{ExpressionAt}
+use Rattle.matching.specs.Places.{ExpressionAt}
 use Rattle.implication.specs.Sides.{resultOf}
 use Rattle.implication.specs.declared.Condition.{Condition}
 use Rattle.ends.specs.Places.{WrittenAt}

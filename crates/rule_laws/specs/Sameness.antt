@@ -26,7 +26,7 @@ use Rattle.ends.specs.Ends.{EndsOf}
 use Rattle.ends.specs.Places.{WrittenAt, CommandAt, SetAt, PartKnown}
 use Rattle.ends.specs.Procedures.{Procedures}
 use Rattle.masks.specs.Filled.{MasksOf}
-use Rattle.compare.specs.Places.{ExpressionAt}
+use Rattle.matching.specs.Places.{ExpressionAt}
 use Rattle.goals.specs.Resolved.{ResolvedAt}
 
 -- 25:0 27:q 1:1 30:0 8:2 2:q 2:m 25:0

@@ -10,8 +10,8 @@ use Rattle.laws.proofs.Decides.{decides-same, decides-map}
 use Rattle.language.specs.Syntax.{Boolean, Expr}
 use Rattle.rules.specs.Tests.{sameAntecedent}
 use Rattle.rules.proofs.Decides.{sameAntecedent-decides}
-use Rattle.compare.specs.Matching.{sameNumbers}
-use Rattle.compare.proofs.SameNumbers.{sameNumbers-decides}
+use Rattle.matching.specs.Matching.{sameNumbers}
+use Rattle.matching.proofs.SameNumbers.{sameNumbers-decides}
 use Rattle.sets.specs.Items.{Halves, sameHalves}
 
 abbrev pub halves : Expr Boolean → List ℕ → Halves

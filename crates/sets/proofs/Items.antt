@@ -11,16 +11,16 @@ use mathlib.Core.Bool.{Bool, true, false, _&&_, and-true, and-false}
 use mathlib.Core.List.{List}
 use Prim.Native.Nat.{ℕ}
 use Rattle.ends.specs.Ends.{EndsOf}
-use Rattle.compare.specs.Matching.{sameNumbers}
+use Rattle.matching.specs.Matching.{sameNumbers}
 use Rattle.ends.specs.Places.{endAt}
 use Rattle.language.specs.Syntax.{Boolean}
 use Rattle.rules.specs.Tests.{sameAntecedent}
-use Rattle.compare.specs.Places.{ExpressionAt, AnyAt}
+use Rattle.matching.specs.Places.{part, ExpressionAt, AnyAt}
 use Rattle.compare.specs.Trees.{booleanAt}
 use Rattle.compare.proofs.Trees.{tree-at, put-inside}
 use Rattle.compare.proofs.Halves.{is-verbatim, consequent-same}
-use Rattle.compare.specs.Forms.{part, antecedentTree, consequentNumbers, AntecedentAt, ConsequentAt}
-use Rattle.compare.specs.declared.cursor.Put.{Put}
+use Rattle.compare.specs.Forms.{antecedentTree, consequentNumbers, AntecedentAt, ConsequentAt}
+use Rattle.matching.specs.declared.cursor.Put.{Put}
 use Rattle.compare.specs.declared.antecedent.Antecedent.the-variants.{And, AndNot, Replaced as Changed}
 use Rattle.compare.specs.declared.consequent.Consequent.the-variants.{Written, Replaced as Exchanged}
 use Rattle.sets.specs.Items.{seenItem, pairItem, certainItem, itemHalves, writtenHalves, sameHalves, sameWrittenHalves}

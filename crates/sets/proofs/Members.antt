@@ -10,8 +10,8 @@ use Rattle.language.specs.Syntax.{Boolean}
 use Rattle.ends.specs.Ends.{EndsOf}
 use Rattle.ends.specs.Places.{endAt, PartKnown}
 use Rattle.ends.proofs.Places.{node-known}
-use Rattle.compare.specs.Places.{AnyAt}
-use Rattle.compare.proofs.Exchange.{any-listed}
+use Rattle.matching.specs.Places.{AnyAt}
+use Rattle.matching.proofs.Exchange.{any-listed}
 use Rattle.sets.specs.Standing.{CanPass, MemberAt}
 
 module _ {file ends : List ℕ} where

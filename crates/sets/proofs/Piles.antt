@@ -10,7 +10,7 @@ use mathlib.Core.Bool.{Bool, true, false, _&&_, _||_}
 use mathlib.Core.List.{List, [], _∷_, _++_}
 use Prim.Native.Nat.{ℕ, _+_}
 use Rattle.language.specs.Syntax.{Boolean}
-use Rattle.compare.specs.Places.{ExpressionAt, AnyAt}
+use Rattle.matching.specs.Places.{ExpressionAt, AnyAt}
 use Rattle.sets.specs.Items.{Halves, pairItem, itemHalves, sameHalves}
 use Rattle.sets.specs.Lists.{seenAll, written, standsIn, withinAll, withoutAll}
 use Rattle.sets.specs.Standing.{MembersAt, ViewAt}

@@ -13,7 +13,7 @@ use Rattle.rules.specs.Replace.{replacement, replaceMembers}
 use Rattle.rules.specs.Sets.{under}
 use Rattle.rules.specs.Tests.{stands, same}
 use Rattle.ends.specs.Ends.{EndsOf}
-use Rattle.compare.specs.declared.cursor.Put.{Put}
+use Rattle.matching.specs.declared.cursor.Put.{Put}
 use Rattle.compare.proofs.Halves.{is-true, is-verbatim}
 use Rattle.sets.specs.Items.{certainItem, itemHalves}
 use Rattle.sets.specs.Lists.{written, standsIn, sameAll}

@@ -10,9 +10,9 @@ use Rattle.rules.specs.Assertion.{Member, Members}
 use Rattle.rules.specs.Sets.{listed, without}
 use Rattle.rules.specs.Tests.{sameAntecedent, sameConsequent, sameMember, stands, within, same}
 use Rattle.layout.specs.Nodes.{AllInRange}
-use Rattle.compare.specs.Matching.{numbers, sameNumbers}
-use Rattle.compare.proofs.Numbers.{numbers-tell}
-use Rattle.compare.proofs.SameNumbers.{numbers-same}
+use Rattle.matching.specs.Matching.{numbers, sameNumbers}
+use Rattle.matching.proofs.Numbers.{numbers-tell}
+use Rattle.matching.proofs.SameNumbers.{numbers-same}
 use Rattle.sets.specs.Items.{Halves, sameHalves, sameWrittenHalves}
 use Rattle.sets.specs.Lists.{standsIn, withinAll, sameAll, listedIn, withoutAll}
 

@@ -20,8 +20,8 @@ use Rattle.layout.specs.Nodes.{setNode, halves}
 use Rattle.ends.specs.Ends.{EndsOf}
 use Rattle.ends.specs.Places.{endAt, NodeAt, WrittenAt, NodesAt}
 use Rattle.ends.proofs.Places.{parts-at, node-head, node-inside}
-use Rattle.compare.specs.declared.cursor.Put.{Put}
-use Rattle.compare.proofs.Operands.{written-any}
+use Rattle.matching.specs.declared.cursor.Put.{Put}
+use Rattle.matching.proofs.Operands.{written-any}
 use Rattle.compare.specs.Trees.{PutStands}
 use Rattle.compare.proofs.Trees.{put-replaces}
 use Rattle.compare.proofs.Halves.{AntecedentIs, is-written, is-and, is-and-not, is-replaced, ConsequentIs, is-verbatim, is-exchanged}

@@ -11,7 +11,7 @@ use mathlib.Core.List.{List, [], _∷_, _++_}
 use Prim.Native.Nat.{ℕ}
 use Rattle.ends.specs.Ends.{EndsOf}
 use Rattle.language.specs.Syntax.{Boolean}
-use Rattle.compare.specs.Places.{ExpressionAt, AnyAt}
+use Rattle.matching.specs.Places.{ExpressionAt, AnyAt}
 use Rattle.sets.specs.Items.{Halves, sameHalves}
 use Rattle.sets.specs.Lists.{written}
 use Rattle.sets.specs.Standing.{MembersAt, ViewAt}

@@ -14,7 +14,7 @@ use Prim.Native.Nat.{ℕ}
 use Rattle.language.specs.Syntax.{Boolean, Expr}
 use Rattle.rules.specs.Words.{words, sameWords}
 use Rattle.rules.specs.Tests.{sameAntecedent}
-use Rattle.compare.specs.Matching.{sameNumbers}
+use Rattle.matching.specs.Matching.{sameNumbers}
 use Rattle.ends.specs.Places.{endAt}
 use Rattle.compare.specs.Forms.{antecedentTree, consequentNumbers}
 use Rattle.compare.specs.declared.antecedent.Antecedent.the-variants.{Written as Alone, And, AndNot, Replaced as Changed, True}

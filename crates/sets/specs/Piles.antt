@@ -10,7 +10,7 @@ use lib.ListN.{length}
 use Rattle.layout.specs.Bytes.{payloadAt}
 use Rattle.ends.specs.Ends.{EndsOf}
 use Rattle.language.specs.Syntax.{Boolean}
-use Rattle.compare.specs.Places.{ExpressionAt, AnyAt}
+use Rattle.matching.specs.Places.{ExpressionAt, AnyAt}
 use Rattle.sets.specs.Items.{Halves, pairItem, itemHalves}
 use Rattle.sets.specs.Lists.{seenAll, written, withoutAll}
 use Rattle.sets.specs.Standing.{MemberAt, MembersAt, ViewAt}

@@ -19,8 +19,8 @@ use Rattle.rules.specs.Sets.{under}
 use Rattle.rules.specs.Tests.{stands, same}
 use Rattle.ends.specs.Ends.{EndsOf}
 use Rattle.ends.specs.Places.{WrittenAt, SetAt}
-use Rattle.compare.specs.Places.{ExpressionAt}
-use Rattle.compare.specs.declared.cursor.Put.{Put}
+use Rattle.matching.specs.Places.{ExpressionAt}
+use Rattle.matching.specs.declared.cursor.Put.{Put}
 use Rattle.compare.specs.Trees.{PutStands, HasPut}
 use Rattle.sets.specs.Trees.{HasSet}
 

@@ -15,7 +15,7 @@ use lib.ListN.{length}
 use Rattle.language.specs.Syntax.{Boolean}
 use Rattle.ends.specs.Ends.{EndsOf}
 use Rattle.ends.specs.Places.{endAt}
-use Rattle.compare.specs.Places.{ExpressionAt, AnyAt}
+use Rattle.matching.specs.Places.{ExpressionAt, AnyAt}
 use Rattle.compare.specs.Trees.{HasPut}
 use Rattle.compare.specs.Forms.{AntecedentAt, ConsequentAt}
 use Rattle.sets.specs.Items.{pastMember}

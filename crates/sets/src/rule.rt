@@ -7,7 +7,7 @@ use crate::pile::count;
 use crate::set::same_set;
 use compare::antecedent::Antecedent;
 use compare::consequent::Consequent;
-use compare::cursor::Put;
+use matching::cursor::Put;
 ghost use Rattle.sets.specs.Rules.{CanTwo, SameWritten, CanReplaced, SameReplaced, CanUnder, SameUnder};
 ghost use Rattle.sets.specs.Rules.{CanBranches, SameBranches, CanThree, SameUnion, CanTest, TestStands};
 

@@ -1,7 +1,7 @@
 -- `compare::plain::same_changed` meets its contract: two parts, or a cursor that has come to the end.
 -- Assumes nothing.
 use borrow.Author.Needs.{needs}
-use Rattle.compare.proofs.Forms.{came-to}
+use Rattle.matching.proofs.SameNumbers.{came-to}
 use Rattle.compare.proofs.Trees.{put-inside}
 use Rattle.compare.proofs.PlainForms.{boolean-known, of-replaced, unchanged-words, replaced-words}
 use Rattle.compare.proofs.plain.same_changed.Statement.{statement}
