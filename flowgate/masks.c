@@ -386,7 +386,8 @@ static void most_words(void)
     give_back(lent);
 }
 
-/* Words that claim 134,217,726 parts each, in the file and as the new command: looking for its end takes no longer than the words. */
+/* Words that claim 134,217,726 parts each, in the file and as the new command: finding where a command ends takes a step for each word, not
+   for each part that is claimed, or this would not end in time. */
 static void claimed_parts(void)
 {
     static char file[24 * FLOW_MOST_WORDS];
@@ -402,6 +403,8 @@ static void claimed_parts(void)
     lent = lend(bytes, FLOW_MOST_BYTES, FLOW_MOST_WORDS);
     expect("put among claimed parts", flow_put(lent.file, lent.count, lent.masks, lent.n, 1, command, k), REFUSED(5, 2));
     expect("put at claimed parts", flow_put(lent.file, lent.count, lent.masks, lent.n, 2, command, k - 4), REFUSED(5, 2));
+    expect_masks("claimed parts", lent, NULL);
+    expect_file("claimed parts", lent, bytes);
     give_back(lent);
 }
 

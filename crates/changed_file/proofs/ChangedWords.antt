@@ -1,7 +1,7 @@
 -- Refusal 7 of the changed words, by what is known of the words before.
 -- Assumes nothing.
 --     exchanged                  a command stands in the place of another
---     can-mend-table                 their table
+--     can-mend-table             their table
 --     same-again, apart-again    7 lets them pass as before
 --     fors-again                 their `for`s
 use mathlib.Core.Path.{_≡_, sym, ap, subst, _∙_}
@@ -27,7 +27,7 @@ use Rattle.reader.specs.declared.Layout.the-variants as Layout
 use Rattle.splice.specs.SimpleWords.{readTo}
 use Rattle.splice.proofs.ReadTo.{read-ends}
 use Rattle.changed_file.specs.Changed.{ChangedKnown}
-use Rattle.changed_file.specs.Tables.{ReadMarked, Stays, CanMendTable, TableMended, Touches}
+use Rattle.changed_file.specs.Tables.{ReadMarked, Stays, CanMendTable, TableMended, AssignsAny}
 use Rattle.changed_file.specs.declared.old.Old.{Old}
 use Rattle.changed_file.proofs.Tables.{read-marked-by}
 use Rattle.changed_file.proofs.Mended.{Exchanged, outside-same, outside-listed, count-same, new-kind, made-stays, same-found, apart-found}
@@ -65,7 +65,7 @@ module _ {Γ : Context} {v table : List ℕ} {s : Places} {place to : ℕ} {old 
             (a .marked .made i (omega (arith, n, count-same exchanged)));
       }
 
-  -- the table was mended; b is whether 7 lets the words pass as before
+  -- the table was mended
   module _ {stay : Bool} {after : List ℕ} (m : TableMended v Γ s table after stay) where
     found-again : Layout.Found s ≡ placesOf (wordsRead (limitsOf Γ) v) → ReadMarked v Γ (Layout.Found s) after
     found-again e = read-marked-by e (m .marked)
@@ -73,7 +73,7 @@ module _ {Γ : Context} {v table : List ℕ} {s : Places} {place to : ℕ} {old 
     pub same-again : {same : Bool} → same ≡ eqb (getD v place 0) (old .first) → stay ≡ true → same ≡ true → ReadMarked v Γ (Layout.Found s) after
     same-again e y k = found-again (same-found exchanged (a .marked) (a .was-read) (m .marked) (m .kept y) (first-word e k))
 
-    pub apart-again : {r : Bool} → stay ≡ true → Touches (old .fors .mask) (kindAt v place) (payloadAt v place) r → r ≡ false →
+    pub apart-again : {r : Bool} → stay ≡ true → AssignsAny (old .fors .mask) (kindAt v place) (payloadAt v place) r → r ≡ false →
         ReadMarked v Γ (Layout.Found s) after
     apart-again y t k = found-again (apart-found exchanged (a .marked) (a .was-read) (m .marked) (m .kept y) (a .fors-of .mask-of) t k)
 

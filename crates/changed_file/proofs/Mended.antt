@@ -2,8 +2,8 @@
 -- Assumes nothing.
 --     Exchanged                      a skip, an assert or an assignment stands from a place up to another, and all else is as it was
 --     outside-same, sizes-same       the words outside; the sizes of what starts there
+--     outside-listed                 the ends of these, in the list
 --     new-kind, new-rest             the kinds of the new command's words
---     outside-listed                 their ends
 --     count-same, start-same, mask-same, called-kept
 --                                    the number of procedures; their starts and masks, in a list that is the same behind the words
 --     first-same, marks-same         with the same first word, each word assigns what it did; masks of words that do
@@ -13,7 +13,7 @@
 use mathlib.Core.Path.{_≡_, refl, sym, ap, ap₂, fun-ext, subst, _∙_}
 use mathlib.Core.Bool.{Bool, true, false, _||_, cond}
 use mathlib.Core.List.{List}
-use mathlib.Core.Logic.{_⊎_, inl, inr}
+use mathlib.Core.Logic.{inl, inr}
 use mathlib.Core.Option.{Option, none}
 use Prim.Native.Nat.{ℕ, zero, suc, _+_, _*_, _-_, _/_, _%_, _<_, _≤_}
 use native.Mathlib.Omega.{arith}
@@ -43,8 +43,8 @@ use Rattle.context.specs.declared.Context as code
 use Rattle.reader.specs.File.{placesOf}
 use Rattle.reader.specs.declared.Places.{Places}
 use Rattle.reader.specs.declared.Layout.the-variants as Layout
-use Rattle.splice.proofs.ReadTo.{kind-bounds, read-is-simple, low-rest, read-ends}
-use Rattle.changed_file.specs.Tables.{Marked, Stays, SameBehind, Touches}
+use Rattle.splice.proofs.ReadTo.{low-rest, kinds-below, read-ends}
+use Rattle.changed_file.specs.Tables.{Marked, Stays, SameBehind, AssignsAny}
 use Rattle.changed_file.proofs.Tables.{marked-file, found-none, steady-before}
 
 pub record Exchanged (w v : List ℕ) (place to : ℕ) : Type 0 where
@@ -77,22 +77,10 @@ module _ {w v : List ℕ} {place to : ℕ} (x : Exchanged w v place to) where
 
   -- the kinds of the words of both commands
   old-kind : (i : ℕ) → place ≤ i → i < to → kindAt w i ≤ 28
-  old-kind i l m = go (lt-or-le place i)
-    where
-      go : (place < i) ⊎ (i ≤ place) → kindAt w i ≤ 28
-      go (inl k) = let z = low-rest w (x .old-levels) place to (x .old) i k m in omega arith
-      go (inr k) =
-          let e : place ≡ i = omega arith in
-          subst (λ j. kindAt w j ≤ 28) e (kind-bounds (kindAt w place) (read-is-simple w (x .old-levels) place to (x .old)) .1)
+  old-kind = kinds-below w (x .old-levels) place to (x .old)
 
   pub new-kind : (i : ℕ) → place ≤ i → i < to → kindAt v i ≤ 28
-  new-kind i l m = go (lt-or-le place i)
-    where
-      go : (place < i) ⊎ (i ≤ place) → kindAt v i ≤ 28
-      go (inl k) = let z = low-rest v (x .new-levels) place to (x .new) i k m in omega arith
-      go (inr k) =
-          let e : place ≡ i = omega arith in
-          subst (λ j. kindAt v j ≤ 28) e (kind-bounds (kindAt v place) (read-is-simple v (x .new-levels) place to (x .new)) .1)
+  new-kind = kinds-below v (x .new-levels) place to (x .new)
 
   pub new-rest : (i : ℕ) → place < i → i < to → kindAt v i < 24
   new-rest i l m = low-rest v (x .new-levels) place to (x .new) i l m
@@ -217,7 +205,7 @@ module _ {w v : List ℕ} {place to : ℕ} (x : Exchanged w v place to) where
         ∙ ap (λ c. written c (kindAt w i) (payloadAt w i)) (fun-ext (called-kept a)))
         (steady-before m was))
 
-    pub apart-found : {fors : ℕ} {r : Bool} → ForsMask w fors → Touches fors (kindAt v place) (payloadAt v place) r → r ≡ false →
+    pub apart-found : {fors : ℕ} {r : Bool} → ForsMask w fors → AssignsAny fors (kindAt v place) (payloadAt v place) r → r ≡ false →
         Layout.Found s ≡ placesOf (wordsRead (limitsOf Γ) v)
     apart-found {fors} {r} f h e =
         found-none k

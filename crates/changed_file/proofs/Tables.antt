@@ -20,7 +20,7 @@
 --                                    whether what a command modifies may change
 --     StaysBefore, stays-none, stays-more, stays-not, stays-all
 --                                    whether the masks of procedures stay
---     touches-any, touches-nothing, touches-scalar, touches-array
+--     assigns-unknown, assigns-nothing, assigns-scalar, assigns-array
 --                                    whether a word assigns an identifier of a mask
 use mathlib.Core.Path.{_≡_, refl, sym, ap, ap₂, subst, _∙_}
 use mathlib.Core.Bool.{Bool, true, false}
@@ -49,7 +49,7 @@ use Rattle.ends.proofs.Marks.{unwritten-below}
 use Rattle.ends.specs.Blocks.{tableAt, Blocked, written, ifAny}
 use Rattle.ends.specs.Ends.{EndsListed}
 use Rattle.ends.specs.Procedures.{startAt}
-use Rattle.ends.proofs.Table.{filled-kept, ends-listed, listed-blocks}
+use Rattle.ends.proofs.Table.{ends-listed, listed-blocks}
 use Rattle.scan.specs.Programs.{procedureCount, StartsListed, MaskMade, Masked}
 use Rattle.scan.specs.Steady.{fileContext, MaskedFile, CanScanFors, FirstFound}
 use Rattle.scan.specs.ForsMask.{ForsMask, ForsFound}
@@ -71,7 +71,7 @@ use Rattle.file.specs.Found.{CallsRight, TableRoom, Tabled}
 use Rattle.file.proofs.Found.{ReadAt, found-read, read-file, words-steady, words-unsteady}
 use Rattle.file.proofs.Files.{starts-moved, steady-none, unsteady-some}
 use Rattle.changed_file.specs.Tables.{Marked, StartsKept, Steadied, ReadMarked, Unchanged, MayChange, Stays}
-use Rattle.changed_file.specs.Tables.{SameBehind, CanMendTable, TableMended, Touches}
+use Rattle.changed_file.specs.Tables.{SameBehind, CanMendTable, TableMended, AssignsAny}
 
 -- what refusals 16 and 7 let pass
 pub called-read : (limits : Limits) (w : List ℕ) (x : Reading File) {f : File} {p : ℕ} → onRead x (callsTested limits w) ≡ read f p →
@@ -242,7 +242,7 @@ filled-marked {w} {before} {after = after} c t f e m = (
 )
   where
     starts : (i : ℕ) → i ≤ 16 → startAt w after i ≡ startAt w before i
-    starts i h = m .kept (tableAt w + i) (omega arith) ∙ filled-kept f (tableAt w + i) (omega arith)
+    starts i h = m .kept (tableAt w + i) (omega arith) ∙ f .kept (tableAt w + i) (omega arith)
 
 -- ---- what is left for the masks of all words
 pub tabled-again : {w table : List ℕ} {Γ : Context} {r : Layout} → Tabled w Γ r table → ReadMarked w Γ r table
@@ -341,26 +341,26 @@ module _ {file table : List ℕ} {from to : ℕ} {same : Bool} where
 
 -- ---- whether a word assigns an identifier of a mask
 module _ {mask k p : ℕ} where
-  pub touches-any : Touches mask k p true
-  touches-any = record { none = λ e. clash refl e }
+  pub assigns-unknown : AssignsAny mask k p true
+  assigns-unknown = record { none = λ e. clash refl e }
 
-  pub touches-nothing : {n : ℕ} → k ≡ n → n < 27 → Touches mask k p false
-  touches-nothing e h = record {
+  pub assigns-nothing : {n : ℕ} → k ≡ n → n < 27 → AssignsAny mask k p false
+  assigns-nothing e h = record {
     none = λ _ called i f _. clash f (ap (ifAny (λ n. bit n i)) (unwritten-below called k p (omega arith)));
   }
 
   -- one identifier
-  touches-one : (j : ℕ) → ((called : ℕ → ℕ) → written called k p ≡ some (2 ^ j)) → Touches mask k p (bit mask j)
-  touches-one j h = record {
+  assigns-one : (j : ℕ) → ((called : ℕ → ℕ) → written called k p ≡ some (2 ^ j)) → AssignsAny mask k p (bit mask j)
+  assigns-one j h = record {
     none = λ e called i f g.
         let z = sym (bit-power j i) ∙ ap (ifAny (λ n. bit n i)) (sym (h called)) ∙ f in
         clash g (ap (bit mask) (sym (eqb-true j i z)) ∙ e);
   }
 
-  pub touches-scalar : k ≡ 27 → Touches mask k p (bit mask (p % 32))
+  pub assigns-scalar : k ≡ 27 → AssignsAny mask k p (bit mask (p % 32))
   unfolding written
-  touches-scalar e = touches-one (p % 32) (λ called. ap (λ i. written called i p) e)
+  assigns-scalar e = assigns-one (p % 32) (λ called. ap (λ i. written called i p) e)
 
-  pub touches-array : k ≡ 28 → Touches mask k p (bit mask (32 + p % 32))
+  pub assigns-array : k ≡ 28 → AssignsAny mask k p (bit mask (32 + p % 32))
   unfolding written
-  touches-array e = touches-one (32 + p % 32) (λ called. ap (λ i. written called i p) e)
+  assigns-array e = assigns-one (32 + p % 32) (λ called. ap (λ i. written called i p) e)

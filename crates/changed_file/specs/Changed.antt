@@ -24,11 +24,11 @@ use Rattle.splice.specs.declared.extent.Extent.{Extent}
 use Rattle.changed_file.specs.Tables.{Marked}
 use Rattle.changed_file.specs.declared.old.Old.{Old}
 
--- the levels of the old command, unless the changed file was walked
-pub record LevelsFor (w : List ℕ) (place depth : ℕ) (walked : Bool) (r : ℕ) : Type 0 where
+-- the levels of the old command, unless the changed words are known to pass
+pub record LevelsFor (w : List ℕ) (place depth : ℕ) (both : Bool) (r : ℕ) : Type 0 where
   pub few : r ≤ depth
-  pub all : walked ≡ true → r ≡ depth
-  pub levels : walked ≡ false → (x : Extent) × ExtentOf w place depth x × (r ≡ x .levels)
+  pub all : both ≡ true → r ≡ depth
+  pub levels : both ≡ false → (x : Extent) × ExtentOf w place depth x × (r ≡ x .levels)
 
 pub record OldAt (w : List ℕ) (place depth : ℕ) (both : Bool) (fors : Fors) (r : Old) : Type 0 where
   pub first : r .first ≡ getD w place 0

@@ -10,7 +10,7 @@
 --     SameBehind      two lists have the same numbers behind so many
 --     CanMendTable, TableMended
 --                 the table is that of other words, which differ between two places; it is made that of these
---     Touches     a word assigns an identifier of a mask
+--     AssignsAny     a word assigns an identifier of a mask
 use mathlib.Core.Path.{_≡_}
 use mathlib.Core.Bool.{Bool, true, false}
 use mathlib.Core.List.{List}
@@ -91,5 +91,5 @@ pub record TableMended (file : List ℕ) (Γ : Context) (s : Places) (before aft
   pub kept : stay ≡ true → SameBehind (length file) before after
 
 -- what a word of this kind and payload assigns is among the bits of a mask
-pub record Touches (mask k p : ℕ) (r : Bool) : Type 0 where
+pub record AssignsAny (mask k p : ℕ) (r : Bool) : Type 0 where
   pub none : r ≡ false → (called : ℕ → ℕ) (i : ℕ) → ifAny (λ n. bit n i) (written called k p) ≡ true → bit mask i ≡ true → ⊥

@@ -6,10 +6,10 @@ use context::Context;
 use old::Old;
 use reader::Layout;
 use reader::Places;
+use table::assigns_any;
 use table::mend;
 use table::read_marked;
 use table::stays;
-use table::touches;
 ghost use mathlib.Core.Path.{_≡_};
 ghost use mathlib.Core.Bool.{true};
 ghost use Rattle.splice.specs.SimpleWords.{readTo};
@@ -41,7 +41,7 @@ pub fn read_mended(
     if same {
         return Layout::Found(places);
     }
-    if touches(first, fors.mask) {
+    if assigns_any(first, fors.mask) {
         return read_marked(w, table, context, places, fors);
     }
     Layout::Found(places)

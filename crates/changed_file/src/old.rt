@@ -18,7 +18,7 @@ pub struct Old {
     pub fors: Fors,
 }
 
-// With how many levels the new command is read wherever the old one was: as many as that takes, or any where the changed file was walked.
+// With how many levels the new command has to be read: as many as the old one takes, or all where the changed words are known to pass.
 fn levels_for(w: &[u32], place: usize, depth: usize, both: bool) -> usize
     ensures { λ r. ⌜ LevelsFor (now (w .entry)) place depth both r ⌝ }
 {

@@ -1,4 +1,4 @@
-// Tables without masks of blocks: in the workbench call only refusal 7 of a file with long bodies of `for`s needs these.
+// Tables without masks of blocks: in the workbench call only refusal 7 of a file with long bodies of `for`s needs the masks of blocks.
 use context::Context;
 use context::Refusal;
 use ends::blocks::fill_blocks;
@@ -24,7 +24,7 @@ ghost use Rattle.layout.specs.Bytes.{payloads};
 ghost use Rattle.ends.specs.Blocks.{CanBlock};
 ghost use Rattle.scan.specs.ForsMask.{ForsFound};
 ghost use Rattle.file.specs.Found.{CallsRight, TableRoom};
-ghost use Rattle.changed_file.specs.Tables.{Marked, StartsKept, Steadied, MayChange, Stays, CanMendTable, TableMended, Touches};
+ghost use Rattle.changed_file.specs.Tables.{Marked, StartsKept, Steadied, MayChange, Stays, CanMendTable, TableMended, AssignsAny};
 
 // The ends of words that refusals 2 to 6 and 16 let pass, and the masks of their procedures.
 pub fn fill_marked(w: &[u32], table: &mut [u32], context: Context, places: Places)
@@ -142,8 +142,8 @@ pub fn mend(
 }
 
 // Whether a word assigns an identifier of a mask, or is of another kind than those of the commands that are put.
-pub fn touches(x: u32, mask: u64) -> bool
-    ensures { λ r. ⌜ Touches mask (x / payloads) (x % payloads) r ⌝ }
+pub fn assigns_any(x: u32, mask: u64) -> bool
+    ensures { λ r. ⌜ AssignsAny mask (x / payloads) (x % payloads) r ⌝ }
 {
     let kind = x / KIND;
     let number = x % KIND % 32;

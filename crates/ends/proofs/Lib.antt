@@ -1,7 +1,6 @@
 -- Where the parts of a file end, and what its words assign.
 --     Sizes         the sizes of what starts at each word
 --     Ends          the places that the sizes make are the ends
---     Fill          ends written from the last word to the first
 --     Mending       ends of some words written anew
 --     Swap          the sizes when one part is put in the place of another
 --     Places        what stands at a place: its first word, and its parts at their places
@@ -12,7 +11,6 @@
 --     Table         ends and masks together
 pub mod Sizes
 pub mod Ends
-pub mod Fill
 pub mod Mending
 pub mod Swap
 pub mod Places

@@ -3,6 +3,7 @@
 --     Mending                  the ends of the words from a place on are written
 --     mending-none, mending-more, mending-all
 --                              before the first turn; after a turn; after the last
+--     can-mend-all, mended-all the ends of all words
 --     mending-end              what a turn writes, and that it goes no further than the last word
 use mathlib.Core.Path.{_≡_, refl, _∙_}
 use mathlib.Core.Logic.{inl, inr}
@@ -13,7 +14,7 @@ use lib.ListN.{length, getD, set, length-set}
 use lib.Seq.{getD-set-same, getD-set-other}
 use Rattle.layout.specs.Bytes.{kindAt, payloadAt}
 use Rattle.layout.specs.Nodes.{countOf}
-use Rattle.ends.specs.Sizes.{sizes, follow}
+use Rattle.ends.specs.Sizes.{sizes, follow, CanFill, Filled}
 use Rattle.ends.specs.Mend.{CanMend, Mended}
 use Rattle.ends.proofs.Sizes.{lt-or-le, Ended, follow-end}
 
@@ -75,3 +76,16 @@ module _ (file before : List ℕ) (from to : ℕ) where
         × (follow ends (length file) n (i - 1 + 1) ≤ length file)
     mending-end ends i n l m e =
         follow-end file ends i (m .ended) (i - 1) n (omega arith) (omega (arith, m .high, can .inside)) e
+
+-- the ends of all words
+pub can-mend-all : {file ends : List ℕ} → CanFill file ends → CanMend file ends 0 (length file)
+can-mend-all c = record {
+  ordered = omega arith;
+  inside = omega arith;
+  long = c .long;
+  small = c .small;
+  sized = λ at h l. absurd (omega arith);
+}
+
+pub mended-all : {file before after : List ℕ} → Mended file before after 0 (length file) → Filled file before after
+mended-all m = record { kept = m .kept-behind; ended = λ at h. m .sized at (omega arith) h }

@@ -3,7 +3,6 @@
 --     counted, uncounted         the count of a kind that has parts; of one that has none
 --     sizes-length, sizes-at     as many as the words; the size at a place, by the sizes after it
 --     sizes-inside               no size goes past the last word
---     placed-length, placed-at   sizes as places
 --     follow-past                following ends is going past parts by their sizes
 --     follow-end                 past the parts of a word is its end, and no further than the last word
 use mathlib.Core.Path.{_≡_, refl, sym, ap, _∙_}
@@ -18,7 +17,7 @@ use lib.ListN.{length, getD, drop, length-drop, drop-of-length-le}
 use lib.Seq.{drop-cons, drop-drop}
 use Rattle.layout.specs.Bytes.{kindAt, payloadAt, payloads}
 use Rattle.layout.specs.Nodes.{countBeside, counts, countOf}
-use Rattle.ends.specs.Sizes.{past, sizes, placed, follow}
+use Rattle.ends.specs.Sizes.{past, sizes, follow}
 
 pub lt-or-le : (m n : ℕ) → (m < n) ⊎ (n ≤ m)
 lt-or-le m n = elim (decLt m n) [ yes h ↦ inl h | no h ↦ inr (omega arith) ]
@@ -88,17 +87,6 @@ sizes-inside file at h =
     let e = sizes-length file in
     let r = inside-at (sizes file) at (sizes-within file) (omega arith) in
     omega arith
-
-pub placed-length : (at : ℕ) (m : List ℕ) → length (placed at m) ≡ length m
-unfolding placed
-placed-length at [] = refl
-placed-length at (s ∷ m) = ap suc (placed-length (suc at) m)
-
-pub placed-at : (from : ℕ) (m : List ℕ) (at : ℕ) → at < length m → getD (placed from m) at 0 ≡ from + at + getD m at 0
-unfolding placed
-placed-at from [] at h = absurd (omega arith)
-placed-at from (s ∷ m) zero h = omega arith
-placed-at from (s ∷ m) (suc at) h = let r = placed-at (suc from) m at (omega arith) in omega arith
 
 -- the ends from a place on are those that the sizes make
 abbrev pub Ended : List ℕ → List ℕ → ℕ → Type 0

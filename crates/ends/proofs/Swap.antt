@@ -1,7 +1,7 @@
 -- Two files that differ only within a part, which has the same size in both: all that starts elsewhere has the same size, by
 -- induction from the last word to the first. Assumes nothing.
 --     sizes-drop       the sizes of the words from a place on
---     Kept, Passed     the size at a place is the same, and what starts there does not end within the part; so of parts in a row
+--     Kept, RowKept    the size at a place is the same, and what starts there does not end within the part; so of parts in a row
 --     sizes-swapped    the law
 use mathlib.Core.Path.{_≡_, refl, sym, ap, ap₂, subst, _∙_}
 use mathlib.Core.Logic.{inl, inr}
@@ -54,18 +54,18 @@ module _
     kept-place = record { same = omega arith; lands = λ l. omega arith }
 
     -- n parts from `at` on have the same words, and do not end within the part
-    record Passed (n at : ℕ) : Type 0 where
+    record RowKept (n at : ℕ) : Type 0 where
       words : past n (drop at (sizes v)) ≡ past n (drop at (sizes w))
       lands : Outside (at + past n (drop at (sizes w)))
 
-    passed : {from : ℕ} → ((at : ℕ) → from ≤ at → Outside at → Kept at) → (n at : ℕ) → from ≤ at → Outside at →
-        Passed n at
+    row-kept : {from : ℕ} → ((at : ℕ) → from ≤ at → Outside at → Kept at) → (n at : ℕ) → from ≤ at → Outside at →
+        RowKept n at
     unfolding past
-    passed f zero at l o = record { words = refl; lands = λ h. omega (arith, o (omega arith)) }
-    passed f (suc n) at l o = elim (lt-or-le at (length w)) [
+    row-kept f zero at l o = record { words = refl; lands = λ h. omega (arith, o (omega arith)) }
+    row-kept f (suc n) at l o = elim (lt-or-le at (length w)) [
       | inl h ↦
           let k = f at l o in
-          let r = passed f n (at + getD (sizes w) at 0) (omega arith) (k .lands) in
+          let r = row-kept f n (at + getD (sizes w) at 0) (omega arith) (k .lands) in
           let ev = past-more (sizes v) at n (omega (arith, sizes-length v)) in
           let ew = past-more (sizes w) at n (omega (arith, sizes-length w)) in
           record {
@@ -80,7 +80,7 @@ module _
           record { words = ev ∙ sym ew; lands = λ i. omega (arith, o (omega arith)) }
     ]
 
-    by-word : (at : ℕ) → at < place → ((n : ℕ) → Passed n (suc at)) → Kept at
+    by-word : (at : ℕ) → at < place → ((n : ℕ) → RowKept n (suc at)) → Kept at
     by-word at h f =
         let e = before at h in
         let sv = sizes-at v at (omega arith) in
@@ -106,7 +106,7 @@ module _
     kept (suc n) at l o = elim (lt-or-le at place) [
       | inl i ↦
           by-word at i λ c.
-          passed {from = suc at} (λ j m q. kept n j (omega arith) q) c (suc at) (omega arith) (λ k. omega arith)
+          row-kept {from = suc at} (λ j m q. kept n j (omega arith) q) c (suc at) (omega arith) (λ k. omega arith)
       | inr i ↦ kept-from at i o
     ]
 

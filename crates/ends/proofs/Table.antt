@@ -1,35 +1,21 @@
 -- A list of the ends that the sizes make, with the masks of blocks behind them, is `EndsOf` the file.
 -- Assumes nothing.
---     filled-kept              what stands behind the ends
 --     table-ends               the law
 --     ends-listed              without the masks, it lists the ends
 --     node-listed, listed-at   where what stands at a place ends, by such a list; it stands up to its end in the list
 --     listed-blocks            with the masks of blocks it is `EndsOf` the file
-use mathlib.Core.Path.{_≡_, sym, ap, subst, _∙_}
-use mathlib.Core.List.{List, _++_}
-use Prim.Native.Nat.{ℕ, _+_, _-_, _<_, _≤_}
+use mathlib.Core.Path.{_≡_, sym, subst, _∙_}
+use mathlib.Core.List.{List}
+use Prim.Native.Nat.{ℕ, _+_, _<_, _≤_}
 use native.Mathlib.Omega.{arith}
-use lib.ListN.{length, getD, drop}
-use lib.Seq.{getD-append-add, getD-drop}
+use lib.ListN.{length, getD}
 use Rattle.layout.specs.Nodes.{Node, expressionNode, commandNode, setNode, nodePart}
 use Rattle.layout.specs.Standing.{PartStands}
 use Rattle.ends.specs.Ends.{EndsOf, EndsListed}
 use Rattle.ends.specs.Places.{NodeAt}
-use Rattle.ends.specs.Sizes.{sizes, endPlaces, Filled}
+use Rattle.ends.specs.Sizes.{sizes}
 use Rattle.ends.specs.Blocks.{Blocked}
-use Rattle.ends.proofs.Sizes.{sizes-length, placed-length}
 use Rattle.ends.proofs.Ends.{EndsBySize, node-sized}
-
--- what stands behind the words is as it was
-pub filled-kept : {file before after : List ℕ} → Filled file before after → (at : ℕ) → length file ≤ at →
-    getD after at 0 ≡ getD before at 0
-filled-kept {file} {before} f at h =
-    let e : length file + (at - length file) ≡ at = omega arith in
-    let n : length (endPlaces file) ≡ length file = placed-length 0 (sizes file) ∙ sizes-length file in
-    ap (λ l. getD l at 0) (f .content)
-    ∙ ap (λ j. getD (endPlaces file ++ drop (length file) before) j 0) (sym (ap (λ j. j + (at - length file)) n ∙ e))
-    ∙ getD-append-add (endPlaces file) (drop (length file) before) (at - length file) 0
-    ∙ getD-drop (length file) before (at - length file) 0 ∙ ap (λ j. getD before j 0) e
 
 -- between the ends and the masks of blocks, more may be written behind them
 module _

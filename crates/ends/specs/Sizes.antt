@@ -2,13 +2,12 @@
 -- Working: `node-sized` of proofs/Ends says that these places are the ends.
 -- Assumes nothing.
 --     past, sizes    the words of the next parts, by the sizes of what starts at each place; those sizes
---     endPlaces      the places past what starts at each word
 --     follow         from a place on, past so many parts, by a list of ends
 --     CanFill        a list of ends has room for the words of a file
 --     Filled         what is left of a list of ends when they are written to it
 use mathlib.Core.Path.{_≡_}
 use mathlib.Core.Bool.{true, false}
-use mathlib.Core.List.{List, [], _∷_, _++_}
+use mathlib.Core.List.{List, [], _∷_}
 use Prim.Native.Nat.{ℕ, zero, suc, _+_, _/_, _%_, _<_, _≤_}
 use lib.Dec.{ltb}
 use lib.ListN.{length, getD, drop}
@@ -25,14 +24,6 @@ unfoldable pub sizes : List ℕ → List ℕ
 sizes [] = []
 sizes (x ∷ l) = suc (past (countOf (x / payloads) (x % payloads)) (sizes l)) ∷ sizes l
 
--- sizes as places, of which the first is `at`
-unfoldable pub placed : ℕ → List ℕ → List ℕ
-placed at [] = []
-placed at (s ∷ m) = (at + s) ∷ placed (suc at) m
-
-abbrev pub endPlaces : List ℕ → List ℕ
-endPlaces file = placed 0 (sizes file)
-
 -- of a file of n words
 unfoldable pub follow : List ℕ → ℕ → ℕ → ℕ → ℕ
 follow ends n zero at = at
@@ -44,5 +35,5 @@ pub record CanFill (file ends : List ℕ) : Type 0 where
 
 -- what stands past the file's words is as it was
 pub record Filled (file before after : List ℕ) : Type 0 where
-  pub content : after ≡ endPlaces file ++ drop (length file) before
+  pub kept : (at : ℕ) → length file ≤ at → getD after at 0 ≡ getD before at 0
   pub ended : (at : ℕ) → at < length file → getD after at 0 ≡ at + getD (sizes file) at 0

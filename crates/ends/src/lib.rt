@@ -4,6 +4,7 @@ pub mod mask; // mask.rt: identifiers as the bits of a number
 pub mod blocks; // blocks.rt: what words assign, by blocks
 pub mod mend; // mend.rt: the ends of some words, written anew
 
+use mend::mend_ends;
 use words::kinds::AND;
 use words::kinds::ASSERT;
 use words::kinds::COMPARISON;
@@ -95,10 +96,5 @@ pub fn fill_ends(w: &[u32], ends: &mut [u32])
     requires { ⌜ CanFill (now w) (now ends) ⌝ }
     ensures { λ r. ⌜ Filled (now (w .entry)) (now (ends .entry)) (now (ends .exit)) ⌝ }
 {
-    let mut i = w.len();
-    while 0 < i {
-        i -= 1;
-        let end = past(ends, w.len(), i + 1, parts(w[i]));
-        ends[i] = end as u32;
-    }
+    mend_ends(w, ends, 0, w.len());
 }

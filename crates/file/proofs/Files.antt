@@ -6,7 +6,7 @@
 --     calls-right, wrong-called                       16 lets the words pass; 16
 --     refused-tabled                                  2 to 6 and 16
 --     steady-tabled, unsteady-tabled                  7 lets the words pass; 7
---     bad-read, loaded-room, loaded-file              1; the words that were loaded
+--     bad-read, loaded-room, loaded-all, loaded-file  1; the words that were loaded
 --     Words, file-words                               the words of a file that was read
 use mathlib.Core.Path.{_≡_, refl, sym, _∙_, ap, ap₂, subst}
 use mathlib.Core.Bool.{true, false}
@@ -28,7 +28,7 @@ use Rattle.ends.specs.Ends.{EndsOf}
 use Rattle.ends.specs.Sizes.{Filled}
 use Rattle.ends.specs.Blocks.{tableAt, Blocked}
 use Rattle.ends.specs.Procedures.{startAt}
-use Rattle.ends.proofs.Table.{filled-kept, table-ends, ends-listed}
+use Rattle.ends.proofs.Table.{table-ends, ends-listed}
 use Rattle.context.specs.Contexts.{limitsOf, refusal}
 use Rattle.reader.specs.File.{placesOf, Located, readOf}
 use Rattle.context.specs.declared.Context.{Context}
@@ -58,7 +58,7 @@ table-made {w} {before} {ends} {masked} {after} f m b = record {
   ends-of = table-ends (λ at h. m .kept at (omega arith) ∙ f .ended at h) b;
   starts = λ i h.
       b .rest-kept (tableAt w + i) (omega arith) ∙ m .kept (tableAt w + i) (omega arith)
-      ∙ filled-kept f (tableAt w + i) (omega arith);
+      ∙ f .kept (tableAt w + i) (omega arith);
   made = λ i h.
       made-moved (record {
         ends = b .kept;

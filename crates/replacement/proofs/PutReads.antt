@@ -44,23 +44,23 @@ module _ {Γ : Context} {bytes : List ℕ} (lent : List ℕ) {words table : List
   w = take (length bytes / 4) words
 
   pub read-count : length bytes / 4 ≡ length w
-  read-count = sym (ap length (c .rooms .loaded) ∙ words-length bytes)
+  read-count = sym (ap length (c .walk .rooms .loaded) ∙ words-length bytes)
 
   pub read-room : TableRoom w table
   read-room = record {
-    size = omega (arith, good-length bytes (c .good), read-count);
-    room = omega (arith, read-count, c .rooms .inside, c .rooms .wide);
+    size = omega (arith, good-length bytes (c .walk .good), read-count);
+    room = omega (arith, read-count, c .walk .rooms .inside, c .walk .rooms .wide);
   }
 
   pub read-right : CallsRight w Γ s table
-  read-right = subst (λ l. CallsRight l Γ s table) (sym (c .rooms .loaded)) (c .right)
+  read-right = subst (λ l. CallsRight l Γ s table) (sym (c .walk .rooms .loaded)) (c .right)
 
   from-words : fileOf (limitsOf Γ) bytes ≡ wordsRead (limitsOf Γ) (wordsOf bytes)
-  from-words = good-file (limitsOf Γ) bytes (c .good)
+  from-words = good-file (limitsOf Γ) bytes (c .walk .good)
 
   module _ {filled after : List ℕ} {r : Layout} (k : StartsKept w table filled) (t : Steadied w Γ s r filled after) where
     steadied : Steadied (wordsOf bytes) Γ s r filled after
-    steadied = subst (λ l. Steadied l Γ s r filled after) (c .rooms .loaded) t
+    steadied = subst (λ l. Steadied l Γ s r filled after) (c .walk .rooms .loaded) t
 
     pub can-replace : {z : Places} {fors : Fors} → r ≡ Layout.Found z → length after ≡ length table → ForsFound w fors →
         CanReplace Γ bytes (length lent) place new words after s both fors
@@ -69,19 +69,21 @@ module _ {Γ : Context} {bytes : List ℕ} (lent : List ℕ) {words table : List
         let y = same-file (steadied .marked) (x .was-read) in
         record {
           old = record { contents = x .file; end = x .end; was-read = from-words ∙ x .was-read; enough = c .enough };
-          rooms = record { loaded = c .rooms .loaded; inside = c .rooms .inside; wide = omega (arith, c .rooms .wide, n) };
+          rooms = record { loaded = c .walk .rooms .loaded; inside = c .walk .rooms .inside; wide = omega (arith, c .walk .rooms .wide, n) };
           marked = steadied .marked;
           masked = steadied-again steadied .masked (x .file) (x .end) (x .was-read);
           was-read = found-none (steadied .marked) (y .1);
-          fors-of = subst (λ l. ForsFound l fors) (c .rooms .loaded) f;
+          fors-of = subst (λ l. ForsFound l fors) (c .walk .rooms .loaded) f;
           new-right = λ b.
-              let y = c .new-right b in (
-                y .0,
-                y .1,
-                right-moved
-                    (spliced-length (wordsOf bytes) place (wordsOf new) (y .0) ∙ sym (ap length (c .rooms .loaded)))
-                    (kept-on k (t .starts)) (y .2),
-              );
+              let y = c .new-right b in
+              record {
+                within = y .within;
+                simple = y .simple;
+                right =
+                    right-moved
+                    (spliced-length (wordsOf bytes) place (wordsOf new) (y .within) ∙ sym (ap length (c .walk .rooms .loaded)))
+                    (kept-on k (t .starts)) (y .right);
+              };
         }
 
     pub unsteady-put : {x : Refusal} → r ≡ Layout.Refused x → PutDone (limitsOf Γ) bytes lent place new (Refused x) bytes lent

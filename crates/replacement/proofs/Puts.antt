@@ -12,7 +12,7 @@
 --                                            the old command is none, or of another length
 --     word-count, ends-here, was-simple, changed-count, can-store, can-table, can-finish, can-change
 --                                            what the next step asks for
---     changed-known                             what is known of the changed words
+--     changed-known                          what is known of the changed words
 use mathlib.Core.Path.{_≡_, refl, sym, ap, subst, _∙_}
 use mathlib.Core.Bool.{Bool, true, false, _&&_}
 use mathlib.Core.List.{List}
@@ -352,7 +352,7 @@ module _ {Γ : Context} {bytes : List ℕ} (lent : List ℕ) {words table : List
       new-right {d} l h = go both refl
         where
           go : (b : Bool) → both ≡ b → CallsRight (spliced (wordsOf bytes) place (wordsOf new)) Γ s table
-          go true e = c .new-right e .2
+          go true e = c .new-right e .right
           go false e =
               let x = l .levels e in
               old-right (x .1)
@@ -378,7 +378,7 @@ module _ {Γ : Context} {bytes : List ℕ} (lent : List ℕ) {words table : List
             let k = sym (y .known) ∙ b in
             subst (λ w. readTo w (o .levels) place (place + length new / 4) ≡ true) (sym words-new)
             (subst (λ n. readTo (spliced (wordsOf bytes) place (wordsOf new)) n place (place + length new / 4) ≡ true)
-            (sym (y .levels-for .all k)) (c .new-right k .1));
+            (sym (y .levels-for .all k)) (c .new-right k .simple));
         right = subst (λ w. readTo w (o .levels) place (place + length new / 4) ≡ true → CallsRight w Γ s table) (sym words-new)
             (new-right (y .levels-for));
       }

@@ -2,12 +2,12 @@
 -- Working: `can-replace` of proofs/PutReads, `can-change` and `can-finish` of proofs/Puts say that what is read meets them, `finish-done` that
 -- `PutDone` follows. Assumes nothing.
 --     OldRead       a file was read, and enough numbers are lent
---     CanRead       refusals 2 to 6 and 16 let its words pass
---     CanReplace    so does 7; its words and their table are there, and what is known of its `for`s
 --     Simple        at the place stands a skip, an assert or an assignment as long as the new bytes
 --     CanChange     the words of the file are changed
---     CanSettle     the new command is one, and what refusals 2 to 7 and 16 leave of the changed words is known
 --     CanFinish     the new command is one, the changed file was read, and its table is there
+--     CanRead       refusals 2 to 6 and 16 let its words pass
+--     CanReplace    so does 7; its words and their table are there, and what is known of its `for`s
+--     CanSettle     the new command is one, and what refusals 2 to 7 and 16 leave of the changed words is known
 use mathlib.Core.Path.{_≡_}
 use mathlib.Core.Bool.{Bool, true, false}
 use mathlib.Core.List.{List}
@@ -17,7 +17,7 @@ use Rattle.rules.specs.Context.{Limits, alone}
 use Rattle.layout.specs.Bytes.{wordsOf}
 use Rattle.layout.specs.Reading.{read}
 use Rattle.layout.specs.Read.{command}
-use Rattle.layout.specs.File.{File, badLength, fileOf, wordsRead}
+use Rattle.layout.specs.File.{File, fileOf, wordsRead}
 use Rattle.ends.specs.Ends.{EndsListed}
 use Rattle.scan.specs.Steady.{MaskedFile}
 use Rattle.scan.specs.ForsMask.{ForsFound}
@@ -32,13 +32,12 @@ use Rattle.reader.specs.declared.Layout.{Layout}
 use Rattle.reader.specs.declared.Layout.the-variants as Layout
 use Rattle.file.specs.Found.{CallsRight}
 use Rattle.splice.specs.Simple.{simpleTo}
-use Rattle.splice.specs.Splice.{spliced}
 use Rattle.splice.specs.SimpleWords.{readTo}
-use Rattle.splice.specs.Walk.{Rooms}
+use Rattle.splice.specs.Walk.{Rooms, CanWalk, ChangedRight}
 use Rattle.changed_file.specs.Tables.{Marked, ReadMarked}
 use Rattle.replacement.specs.Put.{changed}
 
--- n numbers are lent, and they are enough
+-- n numbers are lent
 module _ (limits : Limits) (bytes : List ℕ) (n : ℕ) where
   pub record OldRead : Type 0 where
     pub contents : File
@@ -70,18 +69,11 @@ module _ (limits : Limits) (bytes : List ℕ) (n : ℕ) where
 
 -- s are the places of the file's parts; `both`: refusals 2 to 6 and 16 let the changed words pass too
 module _ (Γ : Context) (bytes : List ℕ) (n place : ℕ) (new words table : List ℕ) (s : Places) (both : Bool) where
-  abbrev pub BothRight : Type 0
-  BothRight = both ≡ true →
-      (place + length (wordsOf new) ≤ length (wordsOf bytes))
-      × (readTo (spliced (wordsOf bytes) place (wordsOf new)) (Γ .depth) place (place + length new / 4) ≡ true)
-      × CallsRight (spliced (wordsOf bytes) place (wordsOf new)) Γ s table
-
   pub record CanRead : Type 0 where
     pub enough : fewNumbers bytes n ≡ false
-    pub good : badLength bytes ≡ false
-    pub rooms : Rooms bytes words table
+    pub walk : CanWalk bytes words table
     pub right : CallsRight (wordsOf bytes) Γ s table
-    pub new-right : BothRight
+    pub new-right : both ≡ true → ChangedRight Γ bytes place new s table
 
   pub record CanReplace (fors : Fors) : Type 0 where
     pub old : OldRead (limitsOf Γ) bytes n
@@ -90,7 +82,7 @@ module _ (Γ : Context) (bytes : List ℕ) (n place : ℕ) (new words table : Li
     pub masked : MaskedFile (wordsOf bytes) table (limitsOf Γ) (old .contents)
     pub was-read : Layout.Found s ≡ placesOf (wordsRead (limitsOf Γ) (wordsOf bytes))
     pub fors-of : ForsFound (wordsOf bytes) fors
-    pub new-right : BothRight
+    pub new-right : both ≡ true → ChangedRight Γ bytes place new s table
 
 -- r is what refusals 2 to 7 and 16 leave of the changed words w
 pub record CanSettle (Γ : Context) (bytes : List ℕ) (n place : ℕ) (new w table : List ℕ) (r : Layout) : Type 0 where

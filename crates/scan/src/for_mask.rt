@@ -7,8 +7,8 @@ use words::kinds::KIND;
 use words::numbers::least;
 ghost use Rattle.scan.specs.ForsMask.{ForsFound};
 
-// The mask of q and m of each `for`, and two places: before `first` there is no `for`, and from `past` on there is none. `words` counts the
-// words of each `for` with those inside it, up to some thousands: it decides only how refusal 7 is tested.
+// The mask of q and m of each `for`, and two places: before `first` there is no `for`, and from `past` on there is none. `words` is how
+// many words all `for`s have, those inside several counted for each: it decides only how refusal 7 is tested.
 pub struct Fors {
     pub mask: u64,
     pub words: usize,
@@ -16,7 +16,8 @@ pub struct Fors {
     pub past: usize,
 }
 
-// So many words, and those of a `for` at a place up to its end. More than 8,192 words are as many as any file has.
+// So many words, and those of a `for` at a place up to its end. Each number counts as at most 8,192, the most words of a file, so that no
+// sum is too large.
 fn with_body(words: usize, at: usize, end: usize) -> usize {
     if end <= at {
         return words;

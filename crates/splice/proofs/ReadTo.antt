@@ -8,8 +8,8 @@
 --     walk-stands, walk-deeper, read-deeper
 --                       it stands there; what is read with some levels is read with more
 --     kind-bounds       the kinds of these commands
---     low-rest, no-calls, read-ends
---                       its words but for the first are those of an expression; none is a call; where it ends
+--     low-rest, kinds-below, no-calls, read-ends
+--                       its words but for the first are those of an expression; the kinds of all; none is a call; where it ends
 use mathlib.Core.Path.{_≡_, refl, sym, ap, ap₂, subst, _∙_}
 use mathlib.Core.Bool.{Bool, true, false, _&&_, _||_}
 use mathlib.Core.List.{List, [], _∷_, _++_}
@@ -206,15 +206,18 @@ module _ (file : List ℕ) (d at to : ℕ) (h : readTo file d at to ≡ true) wh
       let c = it .command in
       rest-at file (commandWords c) at to (stood .stand) (simple-low c (it .simple)) (node-range d (commandNode Γ c) (stood .fit)) i l m
 
-  pub no-calls : (i : ℕ) → at ≤ i → i < to → kindAt file i ≡ 38 → ⊥
-  no-calls i l m k = elim (lt-or-le at i) [
-    | inl n ↦ let z = low-rest i n m in omega (arith, z, k)
+  pub kinds-below : (i : ℕ) → at ≤ i → i < to → kindAt file i ≤ 28
+  kinds-below i l m = elim (lt-or-le at i) [
+    | inl n ↦ let z = low-rest i n m in omega arith
     | inr n ↦
         let e : at ≡ i = omega arith in
         let b = kind-bounds (kindAt file at) (read-is-simple file d at to h) in
         let y : kindAt file at ≡ kindAt file i = ap (kindAt file) e in
-        omega (arith, b .1, y, k)
+        omega (arith, b .1, y)
   ]
+
+  pub no-calls : (i : ℕ) → at ≤ i → i < to → kindAt file i ≡ 38 → ⊥
+  no-calls i l m k = let z = kinds-below i l m in omega (arith, z, k)
 
   -- it ends in the file, where its size says
   pub read-ends : (at < to) × (to ≤ length file) × (at + getD (sizes file) at 0 ≡ to)

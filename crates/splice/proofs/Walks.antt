@@ -180,7 +180,6 @@ module _ {bytes : List ℕ} {place : ℕ} {new words table : List ℕ} (c : NewL
 
   pub can-put-back : CanPutBack bytes words place (place + length new / 4)
   can-put-back = record {
-    good = c .good;
     order = omega arith;
     within = c .within;
     inside = c .inside;
@@ -256,7 +255,11 @@ module _ {Γ : Context} {bytes : List ℕ} {place : ℕ} {new words table : List
       both = λ t b l.
           let z : Layout.Found s ≡ Layout.Found t = sym (o .layout b) ∙ l in
           let y : s ≡ t = cc in
-          (words-room (c .loaded), c .simple, subst (λ p. CallsRight v Γ p last) y (subst (CallsRight v Γ s) (sym (o .kept b)) new-right));
+          record {
+            within = words-room (c .loaded);
+            simple = c .simple;
+            right = subst (λ p. CallsRight v Γ p last) y (subst (CallsRight v Γ s) (sym (o .kept b)) new-right);
+          };
     }
 
 -- ---- whether the file is known to pass

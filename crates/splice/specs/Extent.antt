@@ -1,6 +1,6 @@
--- How many levels what stands at a place takes, and where it ends.
+-- How many levels what stands at a place takes at least, and where it ends. Too few would cost a walk, and change no answer.
 -- Working: `fits-wherever` of proofs/Again says what follows of a command in its place. Assumes nothing.
---     ExtentOf    whatever stands there, with at most so many levels, ends there and takes these levels
+--     ExtentOf    whatever stands there, with at most so many levels, ends there and takes these levels or more
 use mathlib.Core.Path.{_≡_}
 use mathlib.Core.List.{List}
 use Prim.Native.Nat.{ℕ, _≤_}

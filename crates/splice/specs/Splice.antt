@@ -1,6 +1,6 @@
 -- Numbers in the place of as many (document 02, request [5]): "of equal length in the place of one such command".
 -- Trusted. Assumes nothing.
---     spliced    the list with them
+--     spliced    a list with others in the place of as many of its numbers
 use mathlib.Core.List.{List, _++_}
 use Prim.Native.Nat.{ℕ, _+_}
 use lib.ListN.{length, take, drop}

@@ -5,6 +5,7 @@
 --     CanPutBack            other words stand from a place up to another
 --     NewLoaded, NewRead    the new command's words stand there; it is one, read whole, and r is its extent
 --     OldIfRead             the file passes refusals 2 to 6 and 16 if the command at a place is read with so many levels
+--     ChangedRight          the new command is one, read whole, and the changed words pass refusals 2 to 6 and 16
 --     WalkedFile            the walk of the file
 --     WalkedOld             the same where it may be known to pass: if so, its places are these, and the table stays
 --     WalkedFirst           the walk of the file and, if `both`, of the changed words: they pass with the same places and starts
@@ -25,7 +26,6 @@ use Rattle.splice.specs.Extent.{ExtentOf}
 use Rattle.splice.specs.declared.extent.Extent.{Extent}
 use Rattle.splice.specs.declared.walk.Walked.{Walked}
 
--- words and a table in lent room
 pub record Rooms (bytes words table : List ℕ) : Type 0 where
   pub loaded : take (length bytes / 4) words ≡ wordsOf bytes
   pub inside : length bytes / 4 ≤ length words
@@ -36,7 +36,6 @@ pub record CanWalk (bytes words table : List ℕ) : Type 0 where
   pub rooms : Rooms bytes words table
 
 pub record CanPutBack (bytes words : List ℕ) (place to : ℕ) : Type 0 where
-  pub good : badLength bytes ≡ false
   pub order : place ≤ to
   pub within : to ≤ length bytes / 4
   pub inside : length bytes / 4 ≤ length words
@@ -59,6 +58,11 @@ pub record OldIfRead (Γ : Context) (bytes words : List ℕ) (s : Places) (table
   pub walk : CanWalk bytes words table
   pub right : readTo (wordsOf bytes) levels place to ≡ true → CallsRight (wordsOf bytes) Γ s table
 
+pub record ChangedRight (Γ : Context) (bytes : List ℕ) (place : ℕ) (new : List ℕ) (s : Places) (table : List ℕ) : Type 0 where
+  pub within : place + length (wordsOf new) ≤ length (wordsOf bytes)
+  pub simple : readTo (spliced (wordsOf bytes) place (wordsOf new)) (Γ .depth) place (place + length new / 4) ≡ true
+  pub right : CallsRight (spliced (wordsOf bytes) place (wordsOf new)) Γ s table
+
 pub record WalkedFile (Γ : Context) (bytes : List ℕ) (r : Walked) (table : List ℕ) : Type 0 where
   pub called : Called (wordsOf bytes) Γ (r .layout) table
   pub alone : r .both ≡ false
@@ -71,7 +75,4 @@ pub record WalkedOld (Γ : Context) (bytes : List ℕ) (s : Places) (before : Li
 pub record WalkedFirst (Γ : Context) (bytes : List ℕ) (place : ℕ) (new : List ℕ) (r : Walked) (words table : List ℕ) : Type 0 where
   pub loaded : take (length bytes / 4) words ≡ wordsOf bytes
   pub called : Called (wordsOf bytes) Γ (r .layout) table
-  pub both : (s : Places) → r .both ≡ true → r .layout ≡ Layout.Found s →
-      (place + length (wordsOf new) ≤ length (wordsOf bytes))
-      × (readTo (spliced (wordsOf bytes) place (wordsOf new)) (Γ .depth) place (place + length new / 4) ≡ true)
-      × CallsRight (spliced (wordsOf bytes) place (wordsOf new)) Γ s table
+  pub both : (s : Places) → r .both ≡ true → r .layout ≡ Layout.Found s → ChangedRight Γ bytes place new s table

@@ -68,8 +68,8 @@ fn settle(
     }
 }
 
-// The words are those of the changed file: the new command has to be one, whole. Where it takes no more levels than the old one, it is read
-// wherever that was; else the changed words were refused, and are read again.
+// The words are those of the changed file: the new command has to be one, whole. Where it takes no more levels than the old one, or the
+// changed words are known to pass, refusals 2 to 6 and 16 let these pass; else they are read as any file's.
 fn change(
     w: &[u32],
     table: &mut [u32],

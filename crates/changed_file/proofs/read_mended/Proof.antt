@@ -55,7 +55,7 @@ returns-4 c =
     let tested = c .before in
     let mended = tested .before .before .before .before .before in
     let pre = mended .before .before .before .before .before .before .before .before .before .pre in
-    apart-again (pre .0) (pre .1) (mended .mend .ensures) (not-false _ (tested .before .before .if1 .left)) (tested .touches .ensures) (c .if3 .left)
+    apart-again (pre .0) (pre .1) (mended .mend .ensures) (not-false _ (tested .before .before .if1 .left)) (tested .assigns-any .ensures) (c .if3 .left)
 
 pub read-mended-spec : {M : Type 1} → statement M
 read-mended-spec =

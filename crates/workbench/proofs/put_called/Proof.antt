@@ -66,13 +66,13 @@ pub put-called-spec : {M : Type 1} → statement M
 put-called-spec =
     tie.close
     (tie.spec
-    (λ c. c .before .before .before .before .before .pre .rooms .inside)
+    (λ c. c .before .before .before .before .before .pre .walk .rooms .inside)
     slice-aggregate-fill-marked
     fill-marked-requires
-    (λ c. c .before .before .before .before .before .before .before .before .before .before .pre .rooms .inside)
+    (λ c. c .before .before .before .before .before .before .before .before .before .before .pre .walk .rooms .inside)
     slice-aggregate-find-fors
     (λ c κs. search needs)
-    (λ c. c .before .before .before .before .before .before .before .before .before .before .before .before .before .pre .rooms .inside)
+    (λ c. c .before .before .before .before .before .before .before .before .before .before .before .before .before .pre .walk .rooms .inside)
     slice-aggregate-read-marked
     read-marked-requires
     (λ c. search needs)

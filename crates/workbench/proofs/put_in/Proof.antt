@@ -46,11 +46,13 @@ put-called-requires c κs =
     let first = walked .walk-first .ensures in
     record {
       enough = sym (if1 .before .few-numbers .ensures) ∙ if1 .if1 .left;
-      good = good;
-      rooms = record {
-        loaded = first .loaded;
-        inside = omega (arith, rooms .inside, words2 .words2 .given);
-        wide = omega (arith, rooms .wide, words2 .words2 .given, table .table .given);
+      walk = record {
+        good = good;
+        rooms = record {
+          loaded = first .loaded;
+          inside = omega (arith, rooms .inside, words2 .words2 .given);
+          wide = omega (arith, rooms .wide, words2 .words2 .given, table .table .given);
+        };
       };
       right = first .called .right _ (layout .layout .given .1);
       new-right = λ b. first .both _ b (layout .layout .given .1);

@@ -2,7 +2,7 @@
 //! a workbench call costs no more than a reading that stores the masks.
 
 use super::measure::{count_within, Bench, CALLS, CHECK};
-use super::puts::{puts, Put, NAMES};
+use super::puts::{puts, Put, KINDS_OF_PUTS, NAMES};
 use super::refused::refused_early;
 use second::benchmark::worst::{without_assignments, KINDS};
 use second::naive::read::read;
@@ -37,19 +37,19 @@ pub struct Cost {
     /// The check, refused at one of its first evidence words, less what it judged.
     pub reading: u64,
     /// The check with masks, alike.
-    pub with_masks: u64,
+    pub reading_with_masks: u64,
     /// A workbench call with each kind of new command, if there is one.
-    pub puts: [Option<u64>; 4],
+    pub puts: [Option<u64>; KINDS_OF_PUTS],
 }
 
 impl Cost {
     pub fn filling(&self) -> u64 {
-        self.with_masks - self.reading
+        self.reading_with_masks - self.reading
     }
 
     /// A put of this kind for one reading with masks.
     pub fn put_to_reading(&self, kind: usize) -> Option<f64> {
-        Some(self.puts[kind]? as f64 / self.with_masks as f64)
+        Some(self.puts[kind]? as f64 / self.reading_with_masks as f64)
     }
 }
 
@@ -60,7 +60,7 @@ pub struct Judged {
     /// What the check takes after reading.
     pub judging: u64,
     /// What the check with masks takes after reading and filling.
-    pub with_masks: u64,
+    pub judging_with_masks: u64,
     /// The check with masks, proved to fast.
     pub to_fast: f64,
 }
@@ -87,8 +87,8 @@ impl Measured {
 
 /// The kinds of puts that cost more than they may.
 fn dear_puts(cost: &Cost) -> Vec<&'static str> {
-    let dear = |kind: usize| cost.puts[kind].is_some_and(|put| put > cost.with_masks);
-    (0..NAMES.len()).filter(|kind| dear(*kind)).map(|kind| NAMES[kind]).collect()
+    let dear = |kind: usize| cost.puts[kind].is_some_and(|put| put > cost.reading_with_masks);
+    (0..KINDS_OF_PUTS).filter(|kind| dear(*kind)).map(|kind| NAMES[kind]).collect()
 }
 
 /// The check and the check with masks: the call and its program.
@@ -120,11 +120,11 @@ fn cost(name: &str, bytes: &[u8]) -> Cost {
     let (calls, line) = checks(&early);
     assert_eq!(line, due, "{name} with another word");
     let judged = judging(&early);
-    let [reading, with_masks] = [0, 1].map(|i| calls[i] - judged[i]);
+    let [reading, reading_with_masks] = [0, 1].map(|i| calls[i] - judged[i]);
     let file = read(bytes).expect("a file that is read");
-    let puts = puts(&file, words).map(|put| put.map(|put| put_cost(bytes, &put)));
-    println!("{name}, {words} words: {due} after judging {judged:?}; reading {reading}, with masks {with_masks}; puts {puts:?}");
-    let cost = Cost { words, reading, with_masks, puts };
+    let puts = puts(&file, bytes).map(|put| put.map(|put| put_cost(bytes, &put)));
+    println!("{name}, {words} words: {due} after judging {judged:?}; reading {reading}, with masks {reading_with_masks}; puts {puts:?}");
+    let cost = Cost { words, reading, reading_with_masks, puts };
     fills(name, bytes, &cost);
     cost
 }
@@ -140,14 +140,14 @@ fn judged(bench: &Bench, name: &str, bytes: &[u8]) -> Judged {
     let cost = cost(name, bytes);
     let ([check, masks], line) = checks(bytes);
     assert!(line.starts_with("accepted"), "{name}: {line}");
-    let (judging, with_masks) = (check - cost.reading, masks - cost.with_masks);
-    println!("{name}: judging {judging}, with masks {with_masks}");
-    Judged { name: name.to_string(), cost, judging, with_masks, to_fast: bench.masks_to_fast(bytes) }
+    let (judging, judging_with_masks) = (check - cost.reading, masks - cost.reading_with_masks);
+    println!("{name}: judging {judging}, with masks {judging_with_masks}");
+    Judged { name: name.to_string(), cost, judging, judging_with_masks, to_fast: bench.masks_to_fast(bytes) }
 }
 
 /// The promise of the check with masks, to one part in a hundred.
 fn costs_as_if_not_modified(file: &Judged, other: &Judged) {
-    let [with, without] = [file, other].map(|one| one.cost.filling() + one.with_masks);
+    let [with, without] = [file, other].map(|one| one.cost.filling() + one.judging_with_masks);
     let name = &file.name;
     assert!(
         with.abs_diff(without) * 100 <= without,

@@ -1,11 +1,12 @@
 //! The kinds of new commands that the workbench call is measured with.
 
 use second::layout::syntax::*;
-use second::layout::words::take_apart;
+use second::layout::words::{bytes_of, take_apart};
 use second::naive::commands::{all_commands, with_inner};
-use second::naive::masks::{is_simple, words_of_command};
+use second::naive::masks::{self, is_simple, words_of_command};
 
-pub const NAMES: [&str; 4] = ["Itself", "Another scalar", "Deeper", "In a procedure"];
+pub const KINDS_OF_PUTS: usize = 5;
+pub const NAMES: [&str; KINDS_OF_PUTS] = ["Itself", "Another scalar", "A counter", "Deeper", "In a procedure"];
 pub const ITSELF: usize = 0;
 pub const OTHER_SCALAR: usize = 1;
 
@@ -19,17 +20,27 @@ fn put(old: &Command, new: &Command) -> Put {
     Put { place: old.place, new: words_of_command(new) }
 }
 
-/// A new command of each kind, for a file of so many words; none where no command of at most a sixteenth of the words gives one.
-pub fn puts(file: &File, words: usize) -> [Option<Put>; 4] {
-    let all = short(all_commands(file), words);
+/// A new command of each kind, which is put; none where no command of at most a sixteenth of the file's words gives one.
+pub fn puts(file: &File, bytes: &[u8]) -> [Option<Put>; KINDS_OF_PUTS] {
+    let all = short(all_commands(file), bytes.len() / 4);
     let bodies = file.procedures.iter().flat_map(|procedure| with_inner(&procedure.command));
-    let in_procedures = short(bodies.collect(), words);
+    let in_procedures = short(bodies.collect(), bytes.len() / 4);
+    let first = |commands: &[&Command], new: &dyn Fn(&Command) -> Option<Put>| {
+        commands.iter().filter_map(|command| new(command)).find(|put| is_put(bytes, put))
+    };
     [
-        all.first().map(|command| put(command, command)),
-        all.iter().find_map(|command| to_another_scalar(file, command)),
-        all.iter().find_map(|command| deeper(command)),
-        in_procedures.iter().find_map(|command| to_another_scalar(file, command)),
+        first(&all, &|command| Some(put(command, command))),
+        first(&all, &|command| to_another_scalar(command, |y| !counts_with(file, y))),
+        first(&all, &|command| to_another_scalar(command, |y| counts_with(file, y))),
+        first(&all, &deeper),
+        first(&in_procedures, &|command| to_another_scalar(command, |y| !counts_with(file, y))),
     ]
+}
+
+/// Whether the second implementation puts it.
+fn is_put(bytes: &[u8], put: &Put) -> bool {
+    let mut masks = vec![0; bytes.len() / 4];
+    masks::put(&mut bytes.to_vec(), &mut masks, put.place, &bytes_of(&put.new)).is_ok()
 }
 
 /// Those of some commands that the workbench call takes and that have at most a sixteenth of so many words.
@@ -37,13 +48,14 @@ fn short(all: Vec<&Command>, words: usize) -> Vec<&Command> {
     all.into_iter().filter(|command| is_simple(command) && 16 * words_of_command(command).len() <= words).collect()
 }
 
-/// For an assignment to a scalar: to the first other one that no `for` counts with.
-fn to_another_scalar(file: &File, old: &Command) -> Option<Put> {
+/// For an assignment to a scalar: to the first other one of these.
+fn to_another_scalar(old: &Command, of: impl Fn(u32) -> bool) -> Option<Put> {
     let Form::AssignScalar(x, right) = &old.form else { return None };
-    let other = (0..32).find(|y| y != x && !counts_with(file, *y))?;
+    let other = (0..32).find(|y| y != x && of(*y))?;
     Some(put(old, &command(Form::AssignScalar(other, right.clone()))))
 }
 
+/// Whether a `for` of the file has it as its q or its m.
 fn counts_with(file: &File, x: u32) -> bool {
     all_commands(file).iter().any(|command| matches!(command.form, Form::For(q, m, _) if q == x || m == x))
 }

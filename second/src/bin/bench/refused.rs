@@ -6,8 +6,8 @@ use second::layout::write;
 use second::naive::judge::{check, Answer};
 use second::naive::read::read;
 
-/// Words after the first evidence word that are tried too: some rules ask at their own word for nothing, or for nothing that one other word
-/// breaks.
+/// How many words are tried from the first evidence word on: some rules ask at their own word for nothing, or for nothing that one other
+/// word breaks.
 const FURTHER: usize = 64;
 
 /// Other payloads of a word that has the same parts with them: of a constant, an identifier, a truth value and a rule (the rules that have

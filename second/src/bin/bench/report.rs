@@ -91,7 +91,7 @@ fn judged_table(all: &[masks::Judged]) -> String {
     let mut out =
         String::from("| File | Reading | Judging | Filling | Judging with masks | With masks ÷ fast |\n|---|--:|--:|--:|--:|--:|\n");
     for one in all {
-        let counts = [one.cost.reading, one.judging, one.cost.filling(), one.with_masks].map(thousands);
+        let counts = [one.cost.reading, one.judging, one.cost.filling(), one.judging_with_masks].map(thousands);
         let _ = writeln!(out, "| {} | {} | {} |", one.name, counts.join(" | "), figures(one.to_fast));
     }
     out
@@ -103,11 +103,11 @@ fn put_cell(cost: &masks::Cost, kind: usize) -> String {
 }
 
 fn puts_table(all: &[masks::Judged]) -> String {
-    let mut out = format!("| File | Words | Reading with masks | {} |\n|---|--:|--:|{}\n", puts::NAMES.join(" | "), "--:|".repeat(4));
+    let mut out = format!("| File | Words | Reading with masks | {} |\n|---|--:|--:|{}\n", puts::NAMES.join(" | "), "--:|".repeat(puts::KINDS_OF_PUTS));
     for one in all {
         let cost = &one.cost;
-        let counts = [cost.words as u64, cost.with_masks].map(thousands);
-        let ratios = [0, 1, 2, 3].map(|kind| put_cell(cost, kind));
+        let counts = [cost.words as u64, cost.reading_with_masks].map(thousands);
+        let ratios: Vec<String> = (0..puts::KINDS_OF_PUTS).map(|kind| put_cell(cost, kind)).collect();
         let _ = writeln!(out, "| {} | {} | {} |", one.name, counts.join(" | "), ratios.join(" | "));
     }
     out
@@ -130,7 +130,7 @@ fn filling_table(all: &[masks::Cost]) -> String {
 pub fn masks(m: &masks::Measured) -> String {
     let judged = judged_table(&m.judged);
     let (puts, filling) = (puts_table(&m.judged), filling_table(&m.growing));
-    format!("{MASKS}\n{judged}\n{PUTS}.\n\n{puts}\nBy size, for the growing files `{}`:\n\n{filling}", masks::GROWING)
+    format!("{MASKS}\n{judged}\n{PUTS}\n{puts}\nBy size, for the growing files `{}`:\n\n{filling}", masks::GROWING)
 }
 
 /// From the least to the most of some numbers.
@@ -223,9 +223,10 @@ benchmark stops if filling and judging together differ by more than 1 %.
 ";
 
 const PUTS: &str = "The workbench call, `flow_put`, for one reading with masks, which is reading and filling. The new command is the old one
-itself, an assignment to another scalar, an assert that takes more levels, and an assignment to another scalar in the body of a procedure; each
-in the first such place of the file, of at most a sixteenth of its words, and – where there is none. The benchmark stops where a put costs more
-than a reading with masks";
+itself, an assignment to another scalar with which no `for` counts, one to a scalar with which a `for` does, an assert that takes more levels, and
+an assignment to another scalar in the body of a procedure; each in the first such place of the file that is put, of at most a sixteenth of its
+words, and – where there is none. The benchmark stops where a put costs more than a reading with masks.
+";
 
 const RUNNER: &str = "## The runner
 
