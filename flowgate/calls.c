@@ -1,11 +1,13 @@
 /* The library's calls with known answers, and what the header takes them apart into: document 01's rows on a `for` over skip, where the
- * parts of a file stand, and refusals of the runner. masks.c has the calls with masks. It is C and C++ alike. Writes a line for each
- * answer that is wrong; exit status 0 if none is. */
+ * parts of a file stand, and refusals of the runner. masks.c has the calls with masks, limits.c other settings than the standard ones. It is
+ * C and C++ alike. Writes a line for each answer that is wrong; exit status 0 if none is. */
 #include <stdint.h>
 #include <stdio.h>
 #include <string.h>
 
 #include "flowcheck.h"
+
+#define STANDARD FLOW_STANDARD_SETTINGS
 
 enum { SCALARS = FLOW_SCALARS, VALUES = FLOW_VALUES };
 
@@ -53,19 +55,20 @@ static uint64_t run_loop(int64_t bound, size_t n, size_t k, size_t budget)
 {
     memset(scalars, 0, sizeof scalars);
     scalars[1] = bound;
-    return flow_run(loop, sizeof loop, scalars, n, values, k, budget);
+    return flow_run(loop, sizeof loop, scalars, n, values, k, budget, STANDARD);
 }
 
 static uint64_t run_store(int64_t index)
 {
     scalars[0] = index;
-    return flow_run(store, sizeof store, scalars, SCALARS, values, VALUES, 1);
+    return flow_run(store, sizeof store, scalars, SCALARS, values, VALUES, 1, STANDARD);
 }
 
 static void check_calls(void)
 {
     uint32_t refused = flow_check(store, sizeof loop);
     expect("loop accepted", flow_check(loop, sizeof loop), 1);
+    expect("loop accepted with settings", flow_check_settings(loop, sizeof loop, STANDARD), 1);
     expect("loop cut", flow_check(loop, sizeof loop - 1), 65536);
     expect("accepted", (uint64_t)flow_accepted(flow_check(loop, sizeof loop)), 1);
     expect("its count", flow_count(flow_check(loop, sizeof loop)), 1);
@@ -81,37 +84,38 @@ static void check_calls(void)
 /* The parts of `store` are its words 1 to 5, 6 and 7. */
 static void part_calls(void)
 {
-    expect("program", flow_program(store, sizeof store), 1 * 65536 + 6);
-    expect("precondition", flow_precondition(store, sizeof store), 6 * 65536 + 7);
-    expect("postcondition", flow_postcondition(store, sizeof store), 7 * 65536 + 8);
-    expect("first word", flow_first(flow_program(store, sizeof store)), 1);
-    expect("past the last", flow_past(flow_program(store, sizeof store)), 6);
-    expect("no program", flow_program(store, sizeof store - 4), 0);
-    expect("no precondition", flow_precondition(store, sizeof store - 4), 0);
-    expect("no postcondition", flow_postcondition(store, sizeof store - 4), 0);
+    expect("program", flow_program(store, sizeof store, STANDARD), 1 * 65536 + 6);
+    expect("precondition", flow_precondition(store, sizeof store, STANDARD), 6 * 65536 + 7);
+    expect("postcondition", flow_postcondition(store, sizeof store, STANDARD), 7 * 65536 + 8);
+    expect("first word", flow_first(flow_program(store, sizeof store, STANDARD)), 1);
+    expect("past the last", flow_past(flow_program(store, sizeof store, STANDARD)), 6);
+    expect("no program", flow_program(store, sizeof store - 4, STANDARD), 0);
+    expect("no precondition", flow_precondition(store, sizeof store - 4, STANDARD), 0);
+    expect("no postcondition", flow_postcondition(store, sizeof store - 4, STANDARD), 0);
 }
 
 static uint64_t run_called(size_t budget)
 {
     memset(scalars, 0, sizeof scalars);
     scalars[1] = 7;
-    return flow_run(called, sizeof called, scalars, SCALARS, values, VALUES, budget);
+    return flow_run(called, sizeof called, scalars, SCALARS, values, VALUES, budget, STANDARD);
 }
 
 /* The parts are the main program's; a call is one step, before its body's. */
 static void procedure_calls(void)
 {
     expect("called", flow_check(called, sizeof called), 2);
-    expect("its program", flow_program(called, sizeof called), 11 * 65536 + 12);
-    expect("its precondition", flow_precondition(called, sizeof called), 12 * 65536 + 15);
-    expect("its postcondition", flow_postcondition(called, sizeof called), 15 * 65536 + 18);
+    expect("its program", flow_program(called, sizeof called, STANDARD), 11 * 65536 + 12);
+    expect("its precondition", flow_precondition(called, sizeof called, STANDARD), 12 * 65536 + 15);
+    expect("its postcondition", flow_postcondition(called, sizeof called, STANDARD), 15 * 65536 + 18);
     expect("a call and its body", run_called(2), steps_and(2, 0, 0));
     expect("what the body did", (uint64_t)scalars[0], 7);
     expect("no step for the body", run_called(1), steps_and(1, 13, 2));
     expect("no step for the call", run_called(0), steps_and(0, 13, 11));
     expect("a call of nothing", flow_check(nowhere, sizeof nowhere), 16 * 65536 + 1);
-    expect("no program", flow_program(nowhere, sizeof nowhere), 0);
-    expect("a run of it", flow_run(nowhere, sizeof nowhere, scalars, SCALARS, values, VALUES, FLOW_MOST_BUDGET + 1), steps_and(0, 16, 1));
+    expect("no program", flow_program(nowhere, sizeof nowhere, STANDARD), 0);
+    expect("a run of it", flow_run(nowhere, sizeof nowhere, scalars, SCALARS, values, VALUES, FLOW_MOST_BUDGET + 1, STANDARD),
+        steps_and(0, 16, 1));
 }
 
 static void run_calls(void)
@@ -143,31 +147,35 @@ static void calls_with_null(void)
     expect("check of null", flow_check_bytes(NULL, 0), 65536);
     expect("check of null, 4", flow_check_bytes(NULL, 4), 65536);
     expect("check of bytes", flow_check_bytes(loop, sizeof loop), 1);
-    expect("program of null", flow_program_bytes(NULL, 0), 0);
-    expect("precondition of null", flow_precondition_bytes(NULL, 0), 0);
-    expect("postcondition of null", flow_postcondition_bytes(NULL, 0), 0);
-    expect("program of bytes", flow_program_bytes(store, sizeof store), flow_program(store, sizeof store));
-    expect("precondition of bytes", flow_precondition_bytes(store, sizeof store), flow_precondition(store, sizeof store));
-    expect("postcondition of bytes", flow_postcondition_bytes(store, sizeof store), flow_postcondition(store, sizeof store));
-    expect("run of null", flow_run_bytes(NULL, 0, scalars, SCALARS, values, VALUES, 1), steps_and(0, 1, 0));
-    expect("no scalars", flow_run_bytes(loop, sizeof loop, NULL, SCALARS, values, VALUES, 1), steps_and(0, 11, 0));
-    expect("no values", flow_run_bytes(loop, sizeof loop, scalars, SCALARS, NULL, VALUES, 1), steps_and(0, 11, 0));
-    expect("no store", flow_run_bytes(loop, sizeof loop, NULL, 0, NULL, 0, 1), steps_and(0, 11, 0));
+    expect("check of null with settings", flow_check_settings_bytes(NULL, 4, STANDARD), 65536);
+    expect("check of bytes with settings", flow_check_settings_bytes(loop, sizeof loop, STANDARD), 1);
+    expect("program of null", flow_program_bytes(NULL, 0, STANDARD), 0);
+    expect("precondition of null", flow_precondition_bytes(NULL, 0, STANDARD), 0);
+    expect("postcondition of null", flow_postcondition_bytes(NULL, 0, STANDARD), 0);
+    expect("program of bytes", flow_program_bytes(store, sizeof store, STANDARD), 1 * 65536 + 6);
+    expect("precondition of bytes", flow_precondition_bytes(store, sizeof store, STANDARD), 6 * 65536 + 7);
+    expect("postcondition of bytes", flow_postcondition_bytes(store, sizeof store, STANDARD), 7 * 65536 + 8);
+    expect("run of null", flow_run_bytes(NULL, 0, scalars, SCALARS, values, VALUES, 1, STANDARD), steps_and(0, 1, 0));
+    expect("no scalars", flow_run_bytes(loop, sizeof loop, NULL, SCALARS, values, VALUES, 1, STANDARD), steps_and(0, 11, 0));
+    expect("no values", flow_run_bytes(loop, sizeof loop, scalars, SCALARS, NULL, VALUES, 1, STANDARD), steps_and(0, 11, 0));
+    expect("no store", flow_run_bytes(loop, sizeof loop, NULL, 0, NULL, 0, 1, STANDARD), steps_and(0, 11, 0));
     scalars[1] = -5;
-    expect("run of bytes", flow_run_bytes(loop, sizeof loop, scalars, SCALARS, values, VALUES, 2), steps_and(2, 0, 0));
+    expect("run of bytes", flow_run_bytes(loop, sizeof loop, scalars, SCALARS, values, VALUES, 2, STANDARD), steps_and(2, 0, 0));
 }
 
-/* Eighteen meanings, no two alike, and one text for every other number. */
+/* Nineteen meanings, no two alike, and one text for every other number. */
 static void meanings(void)
 {
     uint32_t i, j;
-    for (i = 0; i <= 19; i++) {
+    for (i = 0; i <= 20; i++) {
         for (j = 1; j < i; j++) {
             expect("meanings that differ", strcmp(flow_meaning(i), flow_meaning(j)) != 0, 1);
         }
     }
-    expect("no meaning", strcmp(flow_meaning(0), flow_meaning(19)) == 0, 1);
+    expect("no meaning", strcmp(flow_meaning(0), flow_meaning(20)) == 0, 1);
     expect("meaning of 8", strcmp(flow_meaning(8), "a rule's condition fails") == 0, 1);
+    expect("meaning of 19",
+        strcmp(flow_meaning(19), "a setting is outside its range: comparisons 0 to 16, depth 1 to 256, members 0 to 128") == 0, 1);
 }
 
 int main(void)

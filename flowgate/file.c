@@ -35,6 +35,13 @@ uint32_t word_at(const struct file *file, size_t place)
     return (uint32_t)bytes[0] | (uint32_t)bytes[1] << 8 | (uint32_t)bytes[2] << 16 | (uint32_t)bytes[3] << 24;
 }
 
+void set_word_at(struct file *file, size_t place, uint32_t word)
+{
+    for (unsigned i = 0; i < 4; i++) {
+        file->bytes[4 * place + i] = (uint8_t)(word >> 8 * i & 0xff);
+    }
+}
+
 unsigned kind_of(uint32_t word)
 {
     return word >> 26;

@@ -19,8 +19,9 @@ int read_file(const char *name, struct file *file);
 /* The whole words of a file. */
 size_t count_words(const struct file *file);
 
-/* The word at a place below count_words. */
+/* The word at a place below count_words, read and written. */
 uint32_t word_at(const struct file *file, size_t place);
+void set_word_at(struct file *file, size_t place, uint32_t word);
 
 unsigned kind_of(uint32_t word);
 unsigned payload_of(uint32_t word);

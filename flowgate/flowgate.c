@@ -9,6 +9,7 @@
 #include "options.h"
 #include "parts.h"
 #include "report.h"
+#include "settings.h"
 #include "show.h"
 #include "text.h"
 
@@ -19,6 +20,7 @@ static const char *orders[PARTS];
 static const char *contract;
 static const char *folder;
 static int show, quiet, json;
+static struct given_settings given;
 
 static const struct option options[] = {
     {"--program", NULL, &orders[PROGRAM]},
@@ -26,6 +28,9 @@ static const struct option options[] = {
     {"--postcondition", NULL, &orders[POSTCONDITION]},
     {"--contract", NULL, &contract},
     {"--parts", NULL, &folder},
+    {"--comparisons", NULL, &given.comparisons},
+    {"--depth", NULL, &given.depth},
+    {"--members", NULL, &given.members},
     {"--show", &show, NULL},
     {"--json", &json, NULL},
     {"--quiet", &quiet, NULL},
@@ -43,6 +48,7 @@ static const struct program program = {
     "  --postcondition FILE  whose postcondition\n"
     "  --contract DIR        all three, by DIR/program, DIR/precondition and DIR/postcondition\n"
     "  --parts DIR           write the parts of an accepted certificate as such files\n"
+    SETTINGS_HELP
     "  --show                write the parts of accepted certificates in readable form\n"
     "  --json                write one JSON object a line\n"
     "  --quiet               write nothing\n"
@@ -54,26 +60,27 @@ static const struct program program = {
     options,
 };
 
-/* The bytes that a part must have, where its order is stated. */
+/* The bytes that a part must have, where its order is stated; what every certificate is judged under. */
 static struct file ordered[PARTS];
+static struct settings settings;
 
-static int is_standard(const char *name)
+static int is_standard_input(const char *name)
 {
     return name != NULL && strcmp(name, "-") == 0;
 }
 
-/* Options and files that don't go together. */
+/* Options and files that don't go together; the settings. */
 static enum command agree(int count, char **names)
 {
     int standard = 0;
     for (int i = 0; i < PARTS; i++) {
-        standard += is_standard(orders[i]);
+        standard += is_standard_input(orders[i]);
         if (contract != NULL && orders[i] != NULL) {
             return bad_use(&program, "--contract", "it orders every part already");
         }
     }
     for (int i = 0; i < count; i++) {
-        standard += is_standard(names[i]);
+        standard += is_standard_input(names[i]);
     }
     if (standard > 1) {
         return bad_use(&program, "-", "standard input is read once");
@@ -88,7 +95,7 @@ static enum command agree(int count, char **names)
         fputs(program.usage, stderr);
         return BAD_USE;
     }
-    return GO_ON;
+    return read_settings(&program, &given, &settings);
 }
 
 static int fail(const char *name, int error)
@@ -124,24 +131,24 @@ static int read_orders(void)
 static struct result judge(const char *name, struct file *file)
 {
     struct table table;
-    struct result result = {ACCEPTED, 0, {PROGRAM, 0}, 0};
+    struct result result = {ACCEPTED, &settings, 0, {PROGRAM, 0}, 0};
     result.error = read_file(name, file);
     if (result.error != 0) {
         result.verdict = UNREADABLE;
         return result;
     }
-    result.answer = flow_check(file->bytes, file->count);
+    result.answer = flow_check_settings(file->bytes, file->count, settings.comparisons, settings.depth, settings.members);
     if (!flow_accepted(result.answer)) {
         result.verdict = REFUSED;
         return result;
     }
-    if (!find_procedures(file, &table)) {
+    if (!find_procedures(file, &settings, &table)) {
         result.verdict = UNREADABLE;
         result.error = ENOTSUP;
         return result;
     }
     for (int i = 0; i < PARTS && result.verdict == ACCEPTED; i++) {
-        if (orders[i] != NULL && !is_ordered(file, &ordered[i], (enum part)i, &result.difference)) {
+        if (orders[i] != NULL && !is_ordered(file, &settings, &ordered[i], (enum part)i, &result.difference)) {
             result.verdict = DIFFERS;
         }
     }
@@ -156,7 +163,7 @@ static int write_parts(const struct file *file)
         enum part part = (enum part)(i % PARTS);
         int error = path_of(folder, part, path);
         if (error == 0) {
-            error = i < PARTS ? find_new(path) : write_part(file, part, path);
+            error = i < PARTS ? find_new(path) : write_part(file, &settings, part, path);
         }
         if (error != 0) {
             return fail(path, error);
@@ -178,7 +185,7 @@ static int check_file(const char *name)
         return result.verdict == UNREADABLE ? FAILED : STOPPED;
     }
     if (show) {
-        show_parts(&file);
+        show_parts(&file, &settings);
     }
     return folder != NULL ? write_parts(&file) : PASSED;
 }

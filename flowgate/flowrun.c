@@ -7,15 +7,21 @@
 #include <string.h>
 
 #include "file.h"
+#include "natural.h"
 #include "options.h"
+#include "settings.h"
 #include "store.h"
 #include "text.h"
 
 enum { ENDED = 0, REFUSED = 1, FAILED = 2 };
 
 static int quiet, json;
+static struct given_settings given;
 
 static const struct option options[] = {
+    {"--comparisons", NULL, &given.comparisons},
+    {"--depth", NULL, &given.depth},
+    {"--members", NULL, &given.members},
     {"--json", &json, NULL},
     {"--quiet", &quiet, NULL},
     {NULL, NULL, NULL},
@@ -29,6 +35,7 @@ static const struct program program = {
     "STORE is words x1=5 (scalar 1) and a0[3]=7 (array 0 at index 3), or @FILE, a file of such words;\n"
     "what is not named is 0. What the run changed is written as such words.\n"
     "\n"
+    SETTINGS_HELP
     "  --json                write one JSON object\n"
     "  --quiet               write nothing\n"
     "  --help, --version     write this, or the version\n"
@@ -37,6 +44,9 @@ static const struct program program = {
     "Exit status: 0 the run ended; 1 it was refused; 2 something can't be read or written, or bad use.\n",
     options,
 };
+
+/* What the file is read under. */
+static struct settings settings;
 
 static int fail(const char *name, int error)
 {
@@ -109,19 +119,37 @@ static size_t next_change(const struct store *before, const struct store *after,
     return cell;
 }
 
+static void print_refusal(const struct file *file, uint64_t answer)
+{
+    uint32_t number = flow_run_number(answer);
+    uint32_t place = flow_run_place(answer);
+    printf(":%u: refused %u: %s; ", place, number, flow_meaning(number));
+    put_exceeded(&settings, file, number, place, stdout);
+}
+
+/* How the run ended. Settings that are not the standard ones are told, since the file may be read under no others. */
+static void print_end(void)
+{
+    fputs(": ended ", stdout);
+    if (!are_standard(&settings)) {
+        fputs("under ", stdout);
+        put_settings(&settings, stdout);
+        fputs(", ", stdout);
+    }
+}
+
 /* The whole text is words of a store: its first line is a comment. */
-static void print_text(const char *name, uint64_t answer, const struct store *before, const struct store *after)
+static void print_text(const char *name, const struct file *file, uint64_t answer, const struct store *before, const struct store *after)
 {
     uint64_t steps = flow_run_steps(answer);
     fputs("# ", stdout);
     put_name(name, stdout);
     if (flow_run_ended(answer)) {
-        fputs(": ended", stdout);
+        print_end();
     } else {
-        uint32_t number = flow_run_number(answer);
-        printf(":%u: refused %u: %s;", flow_run_place(answer), number, flow_meaning(number));
+        print_refusal(file, answer);
     }
-    printf(" after %" PRIu64 " step%s\n", steps, steps == 1 ? "" : "s");
+    printf("after %" PRIu64 " step%s\n", steps, steps == 1 ? "" : "s");
     for (size_t cell = next_change(before, after, 0); cell < CELLS; cell = next_change(before, after, cell + 1)) {
         char cell_name[MOST_NAME];
         name_cell(cell, cell_name);
@@ -141,6 +169,10 @@ static void print_json(const char *name, uint64_t answer, const struct store *be
         uint32_t number = flow_run_number(answer);
         printf(",\"verdict\":\"refused\",\"number\":%u,\"place\":%u,\"meaning\":", number, flow_run_place(answer));
         put_json(flow_meaning(number), stdout);
+    }
+    if (!are_standard(&settings)) {
+        fputs(",\"settings\":", stdout);
+        put_json_settings(&settings, stdout);
     }
     printf(",\"steps\":%" PRIu64 ",\"changed\":{", flow_run_steps(answer));
     for (size_t cell = next_change(before, after, 0); cell < CELLS; cell = next_change(before, after, cell + 1)) {
@@ -162,16 +194,17 @@ static int run_file(const char *name, size_t budget, const struct store *before)
         return fail(name, error);
     }
     after = *before;
-    uint64_t answer = flow_run(file.bytes, file.count, after.scalars, FLOW_SCALARS, after.values, FLOW_VALUES, budget);
+    uint64_t answer = flow_run(file.bytes, file.count, after.scalars, FLOW_SCALARS, after.values, FLOW_VALUES, budget,
+        settings.comparisons, settings.depth, settings.members);
     if (json) {
         print_json(name, answer, before, &after);
     } else if (!quiet) {
-        print_text(name, answer, before, &after);
+        print_text(name, &file, answer, before, &after);
     }
     return flow_run_ended(answer) ? ENDED : REFUSED;
 }
 
-/* Words that don't go together; the budget. */
+/* Words that don't go together; the budget and the settings. */
 static enum command agree(int count, char **words, uint64_t *budget)
 {
     int standard = 0;
@@ -189,7 +222,7 @@ static enum command agree(int count, char **words, uint64_t *budget)
         return bad_use(&program, "-", "standard input is read once");
     }
     const char *wrong = read_natural(words[1], SIZE_MAX, budget);
-    return wrong != NULL ? bad_use(&program, words[1], wrong) : GO_ON;
+    return wrong != NULL ? bad_use(&program, words[1], wrong) : read_settings(&program, &given, &settings);
 }
 
 int main(int count, char **words)

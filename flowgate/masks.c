@@ -1,7 +1,7 @@
 /* flow_check_masks and flow_put with known answers: each refusal in its order, the masks of every kind of command, what is changed and
- * what is not, and the header's functions about them. The rows of tests/calls.tsv are run elsewhere. What is lent lies in blocks of just
- * its size, so that valgrind sees an access past it. It is C and C++ alike. Writes a line for each answer that is wrong; exit status 0
- * if none is. */
+ * what is not, and the header's functions about them, all under the standard settings (limits.c has others). The rows of tests/calls.tsv are
+ * run elsewhere. What is lent lies in blocks of just its size, so that valgrind sees an access past it. It is C and C++ alike. Writes a
+ * line for each answer that is wrong; exit status 0 if none is. */
 #include <stdint.h>
 #include <stdio.h>
 #include <stdlib.h>
@@ -9,6 +9,7 @@
 
 #include "flowcheck.h"
 
+#define STANDARD FLOW_STANDARD_SETTINGS
 #define REFUSED(number, place) ((number) * 65536 + (place))
 
 /* The bytes of a file, and one word more. */
@@ -149,7 +150,7 @@ static const struct check checks[] = {
 static void check_bytes(const char *what, const uint8_t *bytes, size_t count, size_t n, uint32_t answer, const char *masks)
 {
     struct lent lent = lend(bytes, count, n);
-    expect(what, flow_check_masks(lent.file, lent.count, lent.masks, lent.n), answer);
+    expect(what, flow_check_masks(lent.file, lent.count, lent.masks, lent.n, STANDARD), answer);
     expect_masks(what, lent, masks);
     expect_file(what, lent, bytes);
     if (flow_number(answer) != 17) {
@@ -264,12 +265,12 @@ static void put_bytes(const struct put *put, const uint8_t *bytes, size_t count,
     struct lent fresh;
     uint8_t *copy = (uint8_t *)block(k);
     memcpy(copy, command, k);
-    expect(put->what, flow_put(lent.file, lent.count, lent.masks, lent.n, put->place, copy, k), put->answer);
+    expect(put->what, flow_put(lent.file, lent.count, lent.masks, lent.n, put->place, copy, k, STANDARD), put->answer);
     expect_masks(put->what, lent, put->masks);
     fresh = lend(bytes, count, put->n);
     if (flow_was_put(put->answer)) {
         memcpy(fresh.file + 4 * put->place, command, k);
-        expect(put->what, (uint64_t)flow_stored(flow_check_masks(fresh.file, count, fresh.masks, fresh.n)), 1);
+        expect(put->what, (uint64_t)flow_stored(flow_check_masks(fresh.file, count, fresh.masks, fresh.n, STANDARD)), 1);
     }
     expect_file(put->what, lent, fresh.file);
     expect(put->what, memcmp(lent.masks, fresh.masks, lent.n * sizeof(uint64_t)) == 0, 1);
@@ -375,11 +376,11 @@ static void most_words(void)
     expect("most words", bytes_of(file, bytes), FLOW_MOST_BYTES);
     check_bytes("one number too few for the most words", bytes, FLOW_MOST_BYTES, FLOW_MOST_WORDS - 1, REFUSED(17, 0), NULL);
     lent = lend(bytes, FLOW_MOST_BYTES, FLOW_MOST_WORDS);
-    expect("most words checked", flow_check_masks(lent.file, lent.count, lent.masks, lent.n), 1);
+    expect("most words checked", flow_check_masks(lent.file, lent.count, lent.masks, lent.n, STANDARD), 1);
     expect("first word", lent.masks[1], 0x80000000u);
     expect("last command", lent.masks[8187], 0x80000000u);
     expect("last word", lent.masks[8191], 0);
-    expect("put as last", flow_put(lent.file, lent.count, lent.masks, lent.n, 8187, command, bytes_of("28:0 17:0", command)), 0);
+    expect("put as last", flow_put(lent.file, lent.count, lent.masks, lent.n, 8187, command, bytes_of("28:0 17:0", command), STANDARD), 0);
     expect("first word after it", lent.masks[1], (uint64_t)1 << 32);
     expect("last command after it", lent.masks[8187], (uint64_t)1 << 32);
     expect("file after it", memcmp(lent.file + 4 * 8187, command, 8) == 0, 1);
@@ -401,8 +402,8 @@ static void claimed_parts(void)
     expect("claimed parts", bytes_of(file, bytes), FLOW_MOST_BYTES);
     k = bytes_of(words, command);
     lent = lend(bytes, FLOW_MOST_BYTES, FLOW_MOST_WORDS);
-    expect("put among claimed parts", flow_put(lent.file, lent.count, lent.masks, lent.n, 1, command, k), REFUSED(5, 2));
-    expect("put at claimed parts", flow_put(lent.file, lent.count, lent.masks, lent.n, 2, command, k - 4), REFUSED(5, 2));
+    expect("put among claimed parts", flow_put(lent.file, lent.count, lent.masks, lent.n, 1, command, k, STANDARD), REFUSED(5, 2));
+    expect("put at claimed parts", flow_put(lent.file, lent.count, lent.masks, lent.n, 2, command, k - 4, STANDARD), REFUSED(5, 2));
     expect_masks("claimed parts", lent, NULL);
     expect_file("claimed parts", lent, bytes);
     give_back(lent);
@@ -417,14 +418,14 @@ static void not_set(void)
     uint8_t command[8];
     size_t count = bytes_of(SMALL, bytes);
     uint64_t *masks = (uint64_t *)block(12 * sizeof(uint64_t));
-    expect("checked, no number set", flow_check_masks(bytes, count, masks, 12), 1);
+    expect("checked, no number set", flow_check_masks(bytes, count, masks, 12, STANDARD), 1);
     expect("its mask", masks[1], 4);
     free(masks);
     masks = (uint64_t *)block(12 * sizeof(uint64_t));
-    expect("put, no number set", flow_put(bytes, count, masks, 12, 5, command, bytes_of("27:3 1:7", command)), 0);
+    expect("put, no number set", flow_put(bytes, count, masks, 12, 5, command, bytes_of("27:3 1:7", command), STANDARD), 0);
     expect("its mask", masks[1], 8);
     masks[11] = 6;
-    expect("put again", flow_put(bytes, count, masks, 12, 2, command, bytes_of("28:0 17:0", command)), 0);
+    expect("put again", flow_put(bytes, count, masks, 12, 2, command, bytes_of("28:0 17:0", command), STANDARD), 0);
     expect("its mask", masks[1], 0x100000008u);
     expect("past the words", masks[11], 6);
     free(masks);
@@ -438,16 +439,16 @@ static void with_null(void)
     size_t count = bytes_of(SMALL, bytes);
     size_t k = bytes_of("27:9 1:7", command);
     uint64_t masks[11] = {0};
-    expect("check of null", flow_check_masks_bytes(NULL, 0, NULL, 0), REFUSED(1, 0));
-    expect("check of null, 44", flow_check_masks_bytes(NULL, 44, masks, 11), REFUSED(1, 0));
-    expect("check with no masks", flow_check_masks_bytes(bytes, count, NULL, 11), REFUSED(17, 0));
-    expect("check of bytes", flow_check_masks_bytes(bytes, count, masks, 11), 1);
+    expect("check of null", flow_check_masks_bytes(NULL, 0, NULL, 0, STANDARD), REFUSED(1, 0));
+    expect("check of null, 44", flow_check_masks_bytes(NULL, 44, masks, 11, STANDARD), REFUSED(1, 0));
+    expect("check with no masks", flow_check_masks_bytes(bytes, count, NULL, 11, STANDARD), REFUSED(17, 0));
+    expect("check of bytes", flow_check_masks_bytes(bytes, count, masks, 11, STANDARD), 1);
     expect("its mask", masks[1], 4);
-    expect("put into null", flow_put_bytes(NULL, 44, masks, 11, 5, command, k), REFUSED(1, 0));
-    expect("put into null, all null", flow_put_bytes(NULL, 0, NULL, 0, 0, NULL, 0), REFUSED(1, 0));
-    expect("put with no masks", flow_put_bytes(bytes, count, NULL, 11, 5, command, k), REFUSED(17, 0));
-    expect("put of null", flow_put_bytes(bytes, count, masks, 11, 5, NULL, k), REFUSED(18, 0));
-    expect("put of bytes", flow_put_bytes(bytes, count, masks, 11, 5, command, k), 0);
+    expect("put into null", flow_put_bytes(NULL, 44, masks, 11, 5, command, k, STANDARD), REFUSED(1, 0));
+    expect("put into null, all null", flow_put_bytes(NULL, 0, NULL, 0, 0, NULL, 0, STANDARD), REFUSED(1, 0));
+    expect("put with no masks", flow_put_bytes(bytes, count, NULL, 11, 5, command, k, STANDARD), REFUSED(17, 0));
+    expect("put of null", flow_put_bytes(bytes, count, masks, 11, 5, NULL, k, STANDARD), REFUSED(18, 0));
+    expect("put of bytes", flow_put_bytes(bytes, count, masks, 11, 5, command, k, STANDARD), 0);
     expect("its mask", masks[1], 512);
 }
 
@@ -455,7 +456,7 @@ static void taken_apart(void)
 {
     uint64_t mask = (uint64_t)1 << 63 | 1;
     uint32_t number;
-    for (number = 1; number <= 18; number++) {
+    for (number = 1; number <= 19; number++) {
         expect("stored", (uint64_t)flow_stored(REFUSED(number, 7)), number == 8 || number == 9);
         expect("not put", (uint64_t)flow_was_put(REFUSED(number, 0)), 0);
     }

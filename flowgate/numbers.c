@@ -35,10 +35,12 @@ int main(int count, char **arguments)
         return 2;
     }
     if (count == 2) {
-        print(flow_check_masks(file.bytes, file.count, masks, FLOW_MOST_WORDS), 0);
+        print(flow_check_masks(file.bytes, file.count, masks, FLOW_MOST_WORDS, FLOW_STANDARD_SETTINGS), 0);
     } else {
         size_t place = strtoul(arguments[2], NULL, 10);
-        print(flow_put(file.bytes, file.count, masks, FLOW_MOST_WORDS, place, command.bytes, command.count), 1);
+        uint32_t answer
+            = flow_put(file.bytes, file.count, masks, FLOW_MOST_WORDS, place, command.bytes, command.count, FLOW_STANDARD_SETTINGS);
+        print(answer, 1);
     }
     return 0;
 }

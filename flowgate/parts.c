@@ -8,7 +8,7 @@
 /* What is known of each part: its name, and the proved call that finds it. */
 static const struct {
     const char *name;
-    uint32_t (*find)(const uint8_t *file, size_t count);
+    uint32_t (*find)(const uint8_t *file, size_t count, size_t comparisons, size_t depth, size_t members);
 } parts[PARTS] = {
     [PROGRAM] = {"program", flow_program},
     [PRECONDITION] = {"precondition", flow_precondition},
@@ -28,10 +28,10 @@ static void add_piece(struct pieces *pieces, size_t first, size_t past)
 }
 
 /* What stands before the main command: 62:k and the bodies. */
-static void add_bodies(struct pieces *pieces, const struct file *file)
+static void add_bodies(struct pieces *pieces, const struct file *file, const struct settings *settings)
 {
     struct table table;
-    find_procedures(file, &table);
+    find_procedures(file, settings, &table);
     if (table.count > 0) {
         add_piece(pieces, 1, 2);
     }
@@ -40,12 +40,12 @@ static void add_bodies(struct pieces *pieces, const struct file *file)
     }
 }
 
-struct pieces find_part(const struct file *file, enum part part)
+struct pieces find_part(const struct file *file, const struct settings *settings, enum part part)
 {
-    uint32_t places = parts[part].find(file->bytes, file->count);
+    uint32_t places = parts[part].find(file->bytes, file->count, settings->comparisons, settings->depth, settings->members);
     struct pieces pieces = {0};
     if (part == PROGRAM && places != 0) {
-        add_bodies(&pieces, file);
+        add_bodies(&pieces, file, settings);
     }
     add_piece(&pieces, flow_first(places), flow_past(places));
     return pieces;
@@ -74,9 +74,10 @@ size_t place_in(const struct pieces *pieces, size_t word)
     return past;
 }
 
-int is_ordered(const struct file *file, const struct file *ordered, enum part part, struct difference *difference)
+int is_ordered(const struct file *file, const struct settings *settings, const struct file *ordered, enum part part,
+    struct difference *difference)
 {
-    struct pieces pieces = find_part(file, part);
+    struct pieces pieces = find_part(file, settings, part);
     size_t count = 4 * count_part(&pieces);
     size_t i = 0;
     while (i < count && i < ordered->count && file->bytes[4 * place_in(&pieces, i / 4) + i % 4] == ordered->bytes[i]) {
@@ -104,9 +105,9 @@ int find_new(const char *path)
     return EEXIST;
 }
 
-int write_part(const struct file *file, enum part part, const char *path)
+int write_part(const struct file *file, const struct settings *settings, enum part part, const char *path)
 {
-    struct pieces pieces = find_part(file, part);
+    struct pieces pieces = find_part(file, settings, part);
     errno = 0;
     FILE *stream = fopen(path, "wb");
     if (stream == NULL) {

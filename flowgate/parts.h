@@ -7,6 +7,7 @@
 
 #include "file.h"
 #include "procedures.h"
+#include "settings.h"
 
 enum part { PROGRAM, PRECONDITION, POSTCONDITION };
 enum { PARTS = 3, MOST_PATH = 4096 };
@@ -26,8 +27,8 @@ struct difference {
 /* `program`, `precondition` or `postcondition`: the name of its file in a folder, too. */
 const char *name_of(enum part part);
 
-/* The words of a part; none if the file is refused. */
-struct pieces find_part(const struct file *file, enum part part);
+/* The words of a part; none if the file is refused under these settings. */
+struct pieces find_part(const struct file *file, const struct settings *settings, enum part part);
 
 /* How many words a part has. */
 size_t count_part(const struct pieces *pieces);
@@ -36,7 +37,8 @@ size_t count_part(const struct pieces *pieces);
 size_t place_in(const struct pieces *pieces, size_t word);
 
 /* Whether the part has just these bytes; if not, where they first differ. */
-int is_ordered(const struct file *file, const struct file *ordered, enum part part, struct difference *difference);
+int is_ordered(const struct file *file, const struct settings *settings, const struct file *ordered, enum part part,
+    struct difference *difference);
 
 /* The path of a part's file in a folder: an error number if it is too long, or 0. */
 int path_of(const char *folder, enum part part, char path[MOST_PATH]);
@@ -45,6 +47,6 @@ int path_of(const char *folder, enum part part, char path[MOST_PATH]);
 int find_new(const char *path);
 
 /* Writes a part as a file. The error number of what went wrong, or 0. */
-int write_part(const struct file *file, enum part part, const char *path);
+int write_part(const struct file *file, const struct settings *settings, enum part part, const char *path);
 
 #endif

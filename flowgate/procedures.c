@@ -39,7 +39,7 @@ static struct span take_part(const struct file *file, size_t *place)
     return span;
 }
 
-int find_procedures(const struct file *file, struct table *table)
+int find_procedures(const struct file *file, const struct settings *settings, struct table *table)
 {
     size_t place = 1;
     table->count = 0;
@@ -57,5 +57,6 @@ int find_procedures(const struct file *file, struct table *table)
         procedure->postcondition = take_part(file, &place);
         take_part(file, &place);
     }
-    return place == flow_first(flow_program(file->bytes, file->count));
+    return place
+        == flow_first(flow_program(file->bytes, file->count, settings->comparisons, settings->depth, settings->members));
 }

@@ -6,6 +6,7 @@
 #include <stddef.h>
 
 #include "file.h"
+#include "settings.h"
 
 enum { MOST_PROCEDURES = FLOW_MOST_PROCEDURES };
 
@@ -27,7 +28,8 @@ struct table {
     struct procedure procedures[MOST_PROCEDURES];
 };
 
-/* Finds the procedures, none in a file without a table. Whether the main program begins where they end. */
-int find_procedures(const struct file *file, struct table *table);
+/* Finds the procedures, none in a file without a table. Whether the main program of the file, accepted under these settings, begins where
+ * they end. */
+int find_procedures(const struct file *file, const struct settings *settings, struct table *table);
 
 #endif

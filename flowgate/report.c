@@ -27,9 +27,10 @@ static void print_words(const struct file *file, size_t place)
     }
 }
 
-static void print_refusal(const struct file *file, uint32_t number, uint32_t place)
+static void print_refusal(const struct file *file, const struct settings *settings, uint32_t number, uint32_t place)
 {
     printf("refused %u: %s; ", number, flow_meaning(number));
+    put_exceeded(settings, file, number, place, stdout);
     if (number == 1 && file->count > FLOW_MOST_BYTES) {
         printf("over %d bytes; ", FLOW_MOST_BYTES);
     } else if (number == 1) {
@@ -41,11 +42,11 @@ static void print_refusal(const struct file *file, uint32_t number, uint32_t pla
 }
 
 /* The word of the part and the ordered one, each as kind:payload, or that there is none. */
-static void print_difference(const struct file *file, const struct file *ordered, struct difference difference)
+static void print_difference(const struct file *file, const struct file *ordered, const struct result *result)
 {
-    struct pieces pieces = find_part(file, difference.part);
-    size_t word = difference.word;
-    printf("differs: word %zu of the %s is ", word, name_of(difference.part));
+    struct pieces pieces = find_part(file, result->settings, result->difference.part);
+    size_t word = result->difference.word;
+    printf("differs: word %zu of the %s is ", word, name_of(result->difference.part));
     if (word < count_part(&pieces)) {
         print_word(word_at(file, place_in(&pieces, word)));
     } else {
@@ -66,8 +67,19 @@ static size_t place_of(const struct file *file, const struct result *result)
     if (result->verdict == REFUSED) {
         return flow_place(result->answer);
     }
-    struct pieces pieces = find_part(file, result->difference.part);
+    struct pieces pieces = find_part(file, result->settings, result->difference.part);
     return place_in(&pieces, result->difference.word);
+}
+
+/* Settings that are not the standard ones are told, since the file may be accepted under no others. */
+static void print_accepted(const struct result *result)
+{
+    printf(": accepted %u", flow_count(result->answer));
+    if (!are_standard(result->settings)) {
+        fputs(" under ", stdout);
+        put_settings(result->settings, stdout);
+    }
+    putchar('\n');
 }
 
 void print_text(const char *name, const struct file *file, const struct file *ordered, const struct result *result)
@@ -78,14 +90,14 @@ void print_text(const char *name, const struct file *file, const struct file *or
     }
     put_name(name, stdout);
     if (result->verdict == ACCEPTED) {
-        printf(": accepted %u\n", flow_count(result->answer));
+        print_accepted(result);
         return;
     }
     printf(":%zu: ", place_of(file, result));
     if (result->verdict == REFUSED) {
-        print_refusal(file, flow_number(result->answer), flow_place(result->answer));
+        print_refusal(file, result->settings, flow_number(result->answer), flow_place(result->answer));
     } else {
-        print_difference(file, ordered, result->difference);
+        print_difference(file, ordered, result);
     }
 }
 
@@ -103,7 +115,7 @@ static void print_json_word(const struct file *file, size_t place, int there)
 
 static void print_json_difference(const struct file *file, const struct file *ordered, const struct result *result)
 {
-    struct pieces pieces = find_part(file, result->difference.part);
+    struct pieces pieces = find_part(file, result->settings, result->difference.part);
     size_t word = result->difference.word;
     size_t place = place_in(&pieces, word);
     printf("\"differs\",\"number\":null,\"place\":%zu,\"count\":%u,\"meaning\":\"the %s is not as ordered\"", place,
@@ -130,6 +142,10 @@ void print_json(const char *name, const struct file *file, const struct file *or
     } else {
         fputs("\"unreadable\",\"number\":null,\"place\":null,\"count\":null,\"meaning\":", stdout);
         put_json(strerror(result->error), stdout);
+    }
+    if (!are_standard(result->settings)) {
+        fputs(",\"settings\":", stdout);
+        put_json_settings(result->settings, stdout);
     }
     fputs("}\n", stdout);
 }

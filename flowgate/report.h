@@ -4,12 +4,15 @@
 
 #include "file.h"
 #include "parts.h"
+#include "settings.h"
 
 enum verdict { ACCEPTED, REFUSED, DIFFERS, UNREADABLE };
 
-/* Of one certificate: the call's answer, if it was read; where a part differs; the error number, if it was not read. */
+/* Of one certificate: the settings it was to be judged under; the call's answer, if it was read; where a part differs; the error number, if
+ * it was not read. */
 struct result {
     enum verdict verdict;
+    const struct settings *settings;
     uint32_t answer;
     struct difference difference;
     int error;

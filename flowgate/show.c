@@ -1,6 +1,6 @@
 /* The parts of an accepted certificate in readable form. Words are in prefix order, and a word's kind says how its operands are written:
  * a form, where # is the next operand, @ the next in brackets if it is an and or an or, and $ the next command, on lines that are one
- * deeper. The check has accepted the file, so the walk stays in the part, and calls nest no deeper than the layout allows. */
+ * deeper. The check has accepted the file, so the walk stays in the part, and calls nest no deeper than the settings allow. */
 #include <stdio.h>
 
 #include "parts.h"
@@ -166,15 +166,15 @@ static void show_procedure(const struct file *file, const struct procedure *proc
     show_span(file, procedure->postcondition, POSTCONDITION);
 }
 
-void show_parts(const struct file *file)
+void show_parts(const struct file *file, const struct settings *settings)
 {
     struct table table;
-    find_procedures(file, &table);
+    find_procedures(file, settings, &table);
     for (size_t i = 0; i < table.count; i++) {
         show_procedure(file, &table.procedures[i], i);
     }
     for (int i = 0; i < PARTS; i++) {
-        struct pieces pieces = find_part(file, (enum part)i);
+        struct pieces pieces = find_part(file, settings, (enum part)i);
         puts(name_of((enum part)i));
         show_span(file, pieces.spans[pieces.count - 1], (enum part)i);
     }

@@ -1,6 +1,7 @@
 /* How much stack the library's calls take: `stack ROWS RUNS FOLDER/...`, with the rows and runs that have known answers, and folders of
  * files with theirs in `expected`. To these it adds files in which evidence, expressions or commands nest as deep as may be, also through
- * procedures. flow_put is given the longest command that it takes, in its own place.
+ * procedures. flow_put is given the longest command that it takes, in its own place. All is done under the standard settings, and again
+ * under the largest, with files as deep as these allow; of a file that the standard ones refuse by 4, 5 or 9 no answer is known there.
  *
  * Each call is made in a thread whose stack lies above a page that can't be touched. First the stack is more than enough and filled
  * with a pattern, and the lowest byte that was written says how much the call took. Then it is just what flowcheck.h states. Writes the
@@ -17,25 +18,24 @@
 
 #include "flowcheck.h"
 
-enum { SCALARS = 32, VALUES = 2048, MOST_BYTES = 32768, MOST_STACK = 256 * 1024 };
-enum { PAGE = 4096, ROOM = 2 * MOST_STACK, PATTERN = 0xa5, BUDGET = 10000 };
+enum { SCALARS = 32, VALUES = 2048, MOST_BYTES = 32768, MOST_STACK = 256 * 1024, MOST_STACK_DEEPEST = 512 * 1024 };
+enum { PAGE = 4096, PATTERN = 0xa5, BUDGET = 10000 };
 
 /* A run may be in sixteen procedures at once. */
-enum { MOST_RUN_STACK = (FLOW_MOST_PROCEDURES + 1) * MOST_STACK, MOST_ROOM = 2 * MOST_RUN_STACK };
+enum { BODIES = FLOW_MOST_PROCEDURES + 1, MOST_ROOM = 2 * BODIES * MOST_STACK_DEEPEST };
 
-/* The kinds of words, and the most levels. */
+/* The kinds of words. */
 enum { CONSTANT = 1, SCALAR = 2, OPERATOR = 3, SELECT = 4, LESS = 8, TRUTH = 9, AND = 10, OR = 11, NOT = 12 };
 enum { ARRAY = 16, ZERO = 17, UPDATE = 18 };
 enum { SKIP = 24, SEQUENCE = 25, ASSERT = 26, TO_SCALAR = 27, TO_ARRAY = 28, IF = 29, WHILE = 30, FOR = 31, CALL = 38, TABLE = 62 };
-enum { SET = 32, FLOW = 33, IMPLICATION = 34, BEFORE = 35, FIRST_WORD = 63, DEEPEST = 128 };
+enum { SET = 32, FLOW = 33, IMPLICATION = 34, BEFORE = 35, FIRST_WORD = 63 };
 
-/* What is to be called, and the answer. */
-enum call { CHECK, PROGRAM, PRECONDITION, POSTCONDITION, RUN, CHECK_MASKS, PUT, CALLS };
-static const char *const names[CALLS]
-    = {"flow_check", "flow_program", "flow_precondition", "flow_postcondition", "flow_run", "flow_check_masks", "flow_put"};
-static const size_t stated[CALLS] = {FLOW_CHECK_STACK, FLOW_CHECK_STACK, FLOW_CHECK_STACK, FLOW_CHECK_STACK, FLOW_RUN_STACK,
-    FLOW_CHECK_MASKS_STACK, FLOW_PUT_STACK};
-static uint32_t (*const calls[RUN])(const uint8_t *, size_t) = {flow_check, flow_program, flow_precondition, flow_postcondition};
+/* What is to be called, and the answer. flow_check is called where the settings are the standard ones. */
+enum call { CHECK_SETTINGS, PROGRAM, PRECONDITION, POSTCONDITION, CHECK, RUN, CHECK_MASKS, PUT, CALLS };
+static const char *const names[CALLS] = {"flow_check_settings", "flow_program", "flow_precondition", "flow_postcondition", "flow_check",
+    "flow_run", "flow_check_masks", "flow_put"};
+static uint32_t (*const calls[CHECK])(const uint8_t *, size_t, size_t, size_t, size_t)
+    = {flow_check_settings, flow_program, flow_precondition, flow_postcondition};
 static enum call call;
 static uint8_t file[MOST_BYTES + 4];
 static size_t bytes;
@@ -45,6 +45,25 @@ static int64_t values[VALUES];
 static uint64_t masks[FLOW_MOST_WORDS];
 static uint64_t answer;
 
+/* The settings; the most stack that may be stated for a check; what is stated. */
+struct limits {
+    size_t comparisons;
+    size_t depth;
+    size_t members;
+    size_t most_stack;
+    size_t stated[CALLS];
+};
+static const struct limits standard = {FLOW_STANDARD_SETTINGS, MOST_STACK,
+    {FLOW_CHECK_STACK, FLOW_CHECK_STACK, FLOW_CHECK_STACK, FLOW_CHECK_STACK, FLOW_CHECK_STACK, FLOW_RUN_STACK, FLOW_CHECK_MASKS_STACK,
+        FLOW_PUT_STACK}};
+static const struct limits largest = {FLOW_MOST_SETTINGS, MOST_STACK_DEEPEST,
+    {FLOW_CHECK_STACK_DEEPEST, FLOW_CHECK_STACK_DEEPEST, FLOW_CHECK_STACK_DEEPEST, FLOW_CHECK_STACK_DEEPEST, FLOW_CHECK_STACK_DEEPEST,
+        FLOW_RUN_STACK_DEEPEST, FLOW_CHECK_MASKS_STACK_DEEPEST, FLOW_PUT_STACK_DEEPEST}};
+
+/* Those at hand, and their depth. */
+static const struct limits *limits;
+static int deepest;
+
 /* What flow_put is given beside the file: a place, and the words that stand there. */
 static size_t place;
 static uint8_t command[MOST_BYTES];
@@ -53,7 +72,7 @@ static size_t command_bytes;
 /* Where the thread's stack is, how much of it is filled with the pattern, and where in it the call was made; `above` is what the thread
  * takes above that. */
 static uint8_t *stack;
-static size_t room = ROOM;
+static size_t room;
 static uint8_t *frame;
 static size_t above;
 
@@ -77,15 +96,19 @@ static void fail(const char *what)
 /* The call itself: what lies below this frame is the call's. */
 static void *make_call(void *unused)
 {
+    size_t comparisons = limits->comparisons, depth = limits->depth, members = limits->members;
+
     frame = __builtin_frame_address(0);
-    if (call == RUN) {
-        answer = flow_run(file, bytes, scalars, SCALARS, values, VALUES, budget);
+    if (call == CHECK) {
+        answer = flow_check(file, bytes);
+    } else if (call == RUN) {
+        answer = flow_run(file, bytes, scalars, SCALARS, values, VALUES, budget, comparisons, depth, members);
     } else if (call == CHECK_MASKS) {
-        answer = flow_check_masks(file, bytes, masks, FLOW_MOST_WORDS);
+        answer = flow_check_masks(file, bytes, masks, FLOW_MOST_WORDS, comparisons, depth, members);
     } else if (call == PUT) {
-        answer = flow_put(file, bytes, masks, FLOW_MOST_WORDS, place, command, command_bytes);
+        answer = flow_put(file, bytes, masks, FLOW_MOST_WORDS, place, command, command_bytes, comparisons, depth, members);
     } else {
-        answer = calls[call](file, bytes);
+        answer = calls[call](file, bytes, comparisons, depth, members);
     }
     return unused;
 }
@@ -123,9 +146,11 @@ static void measure(const char *name)
 /* The same with just the stack that is stated: below it is the page that can't be touched. Threads align by 64 bytes. */
 static void call_with_stated(const char *name)
 {
+    size_t stated = limits->stated[call];
+
     snprintf(trying, PAGE, "%s on %s", names[call], name);
-    call_in_thread(stated[call] + above / 64 * 64);
-    if ((size_t)(frame - stack) > stated[call] || (size_t)(frame - stack) + 64 <= stated[call]) {
+    call_in_thread(stated + above / 64 * 64);
+    if ((size_t)(frame - stack) > stated || (size_t)(frame - stack) + 64 <= stated) {
         printf("stack: the thread's stack is not as it should be\n");
         wrong = 1;
     }
@@ -219,12 +244,32 @@ static void try_check(const char *name, const uint64_t *due)
     static const uint64_t none = 0;
     int i;
 
-    try(CHECK, name, due);
+    if (limits == &standard) {
+        try(CHECK, name, due);
+    }
+    try(CHECK_SETTINGS, name, due);
     for (i = PROGRAM; i <= POSTCONDITION; i++) {
         try((enum call)i, name, *due >> 16 ? &none : NULL);
     }
     try(CHECK_MASKS, name, due);
     try_put(name, *due);
+}
+
+/* The refusals that larger settings may change. */
+static int is_limit(uint32_t number)
+{
+    return number == 4 || number == 5 || number == 9;
+}
+
+/* The same for a file whose answer is known under the standard settings. */
+static void try_known(const char *name, const uint64_t *due)
+{
+    uint64_t changed = *due;
+
+    if (limits != &standard && is_limit(flow_number((uint32_t)*due))) {
+        changed = flow_check_settings(file, bytes, limits->comparisons, limits->depth, limits->members);
+    }
+    try_check(name, &changed);
 }
 
 /* Runs the file from a store that is 0 but for the bounds of `for` loops. */
@@ -280,7 +325,7 @@ static void try_row(char *at)
     uint64_t due = number_of(field(&at));
 
     read_hexadecimal(field(&at));
-    try_check(name, &due);
+    try_known(name, &due);
 }
 
 /* A lent store: INDEX=VALUE,.., the scalars and then the values. */
@@ -307,7 +352,7 @@ static void try_run_row(char *at)
     due |= (uint64_t)strtoull(field(&at), NULL, 10) << 32;
     read_hexadecimal(field(&at));
     lend(field(&at));
-    try(RUN, name, &due);
+    try(RUN, name, limits == &standard || !is_limit(flow_run_number(due)) ? &due : NULL);
 }
 
 static FILE *open_file(const char *folder_or_path, const char *name)
@@ -347,7 +392,7 @@ static void try_file(char *at)
 
     bytes = fread(file, 1, sizeof file, stream);
     fclose(stream);
-    try_check(name, &due);
+    try_known(name, &due);
     try_run(name);
 }
 
@@ -390,7 +435,7 @@ static void nest(int times, uint32_t kind, uint32_t payload, uint32_t leaf)
     }
 }
 
-/* Never true: ors of c and not c, over ten comparisons c. */
+/* Never true: ors of c and not c, over as many comparisons c as may be. */
 static void never(int from, int to)
 {
     int middle = (from + to) / 2;
@@ -407,7 +452,7 @@ static void never(int from, int to)
         nest(i, NOT, 0, 0);
         put(LESS, 1);
         put(SCALAR, 0);
-        put(CONSTANT, (uint32_t)from % 10);
+        put(CONSTANT, (uint32_t)from % (uint32_t)limits->comparisons);
     }
 }
 
@@ -417,9 +462,9 @@ static const char *const antecedents[ANTECEDENTS] = {"small", "large", "large un
 static void put_antecedent(enum antecedent which)
 {
     if (which == UNDER_NOTS) {
-        nest(112, NOT, 0, 0);
+        nest(deepest - 16, NOT, 0, 0);
     } else if (which == UNDER_ANDS) {
-        nest(112, AND, 0, TRUTH);
+        nest(deepest - 16, AND, 0, TRUTH);
     }
     never(0, which == SMALL ? 1 : 450);
 }
@@ -428,7 +473,7 @@ static void put_antecedent(enum antecedent which)
 static void try_implied_set(enum antecedent which)
 {
     char name[80];
-    uint64_t due = 2 * DEEPEST - 1;
+    uint64_t due = 2 * (uint64_t)deepest - 1;
     int i;
 
     begin();
@@ -440,14 +485,14 @@ static void try_implied_set(enum antecedent which)
     put(FLOW, 8);
     put(SET, 0);
     put(FLOW, 1);
-    for (i = 2; i < DEEPEST; i++) {
+    for (i = 2; i < deepest; i++) {
         put(IMPLICATION, 17);
         nest(3, SET, 0, 0);
         put(IMPLICATION, 13);
     }
     put(IMPLICATION, 14);
     end();
-    snprintf(name, sizeof name, "set rule 14 at depth 128, %s", antecedents[which]);
+    snprintf(name, sizeof name, "set rule 14 at depth %d, %s", deepest, antecedents[which]);
     try_check(name, &due);
     try_run(name);
 }
@@ -456,7 +501,7 @@ static void try_implied_set(enum antecedent which)
 static void try_implied_before(enum antecedent which)
 {
     char name[80];
-    uint64_t due = DEEPEST;
+    uint64_t due = (uint64_t)deepest;
 
     begin();
     put(WHILE, 0);
@@ -468,11 +513,11 @@ static void try_implied_before(enum antecedent which)
     put_antecedent(which);
     put(CONSTANT, 5);
     put(FLOW, 11);
-    nest(DEEPEST - 3, BEFORE, 28, TRUTH);
+    nest(deepest - 3, BEFORE, 28, TRUTH);
     nest(1, BEFORE, 21, TRUTH);
     put(BEFORE, 22);
     end();
-    snprintf(name, sizeof name, "rule 21 at depth 127, %s", antecedents[which]);
+    snprintf(name, sizeof name, "rule 21 at depth %d, %s", deepest - 1, antecedents[which]);
     try_check(name, &due);
 }
 
@@ -505,27 +550,32 @@ static void put_deep(const struct deep *which, int levels)
     nest((levels - 1) * which->times, which->after, 1, 0);
 }
 
-/* Rule 13 at each while of a nest, and below it rule 3 or 4, which puts an identifier for itself into expressions as deep as may be. */
+/* Rule 13 at each while of a nest, and below it rule 3 or 4, which puts an identifier for itself into expressions as deep as may be; the
+ * sets have as many members as may be. */
 static void try_replaced(const struct deep *which, uint32_t assignment, uint32_t identifier)
 {
     char name[80];
-    uint64_t due = DEEPEST - 1;
+    uint64_t due = (uint64_t)deepest - 1;
+    int members = (int)limits->members;
+    int long_members = 2560 / deepest;
     int i;
 
     begin();
-    nest(DEEPEST - 2, WHILE, 0, TRUTH);
+    nest(deepest - 2, WHILE, 0, TRUTH);
     nest(1, assignment, 1, identifier);
-    for (i = 0; i < 40; i++) {
-        if (i % 20 == 0) {
-            put(SET, 20);
+    for (i = 0; i < 2 * members; i++) {
+        int member = i % members;
+
+        if (member == 0) {
+            put(SET, (uint32_t)members);
         }
         put(TRUTH, 1);
-        put_deep(i % 20 == 1 ? which : deep, i % 20 == 0 ? 1 : DEEPEST - 1);
+        put_deep(member == 1 ? which : deep, member == 0 || member >= long_members ? 1 : deepest - 1);
     }
-    nest(DEEPEST - 2, FLOW, 13, 0);
+    nest(deepest - 2, FLOW, 13, 0);
     put(FLOW, assignment == TO_SCALAR ? 3 : 4);
     end();
-    snprintf(name, sizeof name, "rule %d at depth 127, %s", assignment == TO_SCALAR ? 3 : 4, which->name);
+    snprintf(name, sizeof name, "rule %d at depth %d, %s", assignment == TO_SCALAR ? 3 : 4, deepest - 1, which->name);
     try_check(name, &due);
 }
 
@@ -533,25 +583,25 @@ static void try_replaced(const struct deep *which, uint32_t assignment, uint32_t
 static void try_compared(const struct deep *which)
 {
     char name[80];
-    uint64_t due = DEEPEST;
+    uint64_t due = (uint64_t)deepest;
     int i;
 
     begin();
-    nest(DEEPEST - 1, WHILE, 0, TRUTH);
+    nest(deepest - 1, WHILE, 0, TRUTH);
     put(SKIP, 0);
     for (i = 0; i < 2; i++) {
         nest(1, SET, 2, TRUTH);
         put(TRUTH, 1);
-        nest(DEEPEST - 3, which->kind, 0, which->leaf);
+        nest(deepest - 3, which->kind, 0, which->leaf);
         nest(1 - i, AND, 0, TRUTH);
         put(TRUTH, 0);
-        nest((DEEPEST - 3) * which->times, which->after, 1, 0);
+        nest((deepest - 3) * which->times, which->after, 1, 0);
         put(SCALAR, 0);
     }
-    nest(DEEPEST - 1, FLOW, 13, 0);
+    nest(deepest - 1, FLOW, 13, 0);
     put(FLOW, 1);
     end();
-    snprintf(name, sizeof name, "rule 1 at depth 128, antecedents of %s", which->name);
+    snprintf(name, sizeof name, "rule 1 at depth %d, antecedents of %s", deepest, which->name);
     try_check(name, &due);
 }
 
@@ -590,7 +640,7 @@ static void try_command(const char *name, int fors, int whiles)
 /* Under so many loops skip, or commands with an expression that has all the levels left. */
 static void try_loops(int fors, int whiles)
 {
-    int left = DEEPEST - fors - whiles;
+    int left = deepest - fors - whiles;
     size_t i;
 
     begin_loops(fors, whiles);
@@ -607,73 +657,107 @@ static void try_loops(int fors, int whiles)
 static void try_branches(void)
 {
     begin();
-    nest(DEEPEST - 1, IF, 0, TRUTH);
-    nest(DEEPEST, SKIP, 0, 0);
-    try_command("skip under 127 ifs", 0, 0);
+    nest(deepest - 1, IF, 0, TRUTH);
+    nest(deepest, SKIP, 0, 0);
+    try_command("skip under ifs", 0, 0);
     begin();
-    nest(DEEPEST - 1, SEQUENCE, 0, 0);
-    nest(DEEPEST, SKIP, 0, 0);
-    try_command("skip under 127 sequences", 0, 0);
+    nest(deepest - 1, SEQUENCE, 0, 0);
+    nest(deepest, SKIP, 0, 0);
+    try_command("skip under sequences", 0, 0);
 }
 
-/* The body of procedure 0: skip under 127 levels, or a command with an expression that has all the levels left. */
-static void put_last(uint32_t kind, const struct deep *last)
+/* So many levels around a command of one word. */
+static void put_levels(uint32_t kind, int levels, uint32_t inner, uint32_t payload)
 {
-    if (last) {
-        put(last->command, last->command != ASSERT);
-        put_deep(last, DEEPEST - 1);
-        return;
+    nest(levels, kind, 0, kind == SEQUENCE ? 0 : TRUTH);
+    put(inner, payload);
+    nest(kind == WHILE ? 0 : levels, SKIP, 0, 0);
+}
+
+/* A command whose expression nests one deeper than may be. */
+static void try_too_deep(const struct deep *which)
+{
+    char name[80];
+    uint64_t due;
+
+    begin();
+    put(which->command, which->command != ASSERT);
+    put_deep(which, deepest);
+    nest(2, SET, 0, 0);
+    put(FLOW, 10);
+    end();
+    due = flow_check_settings(file, bytes, limits->comparisons, limits->depth, limits->members);
+    snprintf(name, sizeof name, "%s to depth %d", which->name, deepest + 1);
+    if (flow_number((uint32_t)due) != 4) {
+        printf("stack: %s: not refused by 4\n", name);
+        wrong = 1;
     }
-    nest(DEEPEST - 1, kind, 0, kind == SEQUENCE ? 0 : TRUTH);
-    nest(kind == WHILE ? 1 : DEEPEST, SKIP, 0, 0);
+    try_check(name, &due);
+    try_run(name);
 }
 
-/* A body of 127 levels around a call of the procedure below. */
-static void put_caller(uint32_t kind, uint32_t below)
+/* The body of procedure 0 where it is an expression: as deep as may be. */
+static void put_last(const struct deep *last)
 {
-    nest(DEEPEST - 1, kind, 0, kind == SEQUENCE ? 0 : TRUTH);
-    put(CALL, below);
-    nest(kind == WHILE ? 0 : DEEPEST - 1, SKIP, 0, 0);
+    put(last->command, last->command != ASSERT);
+    put_deep(last, deepest - 1);
 }
 
-/* The main program's, with as many `for` loops as there may be: none of their scalars is modified by what they call. */
-static void put_main(uint32_t kind)
+/* The words of an expression with so many levels, and of its command. */
+static int last_words(const struct deep *last)
 {
-    if (kind == WHILE) {
-        put_fors(28);
-        nest(DEEPEST - 1 - 28, WHILE, 0, TRUTH);
-        put(CALL, FLOW_MOST_PROCEDURES - 1);
-    } else {
-        put_caller(kind, FLOW_MOST_PROCEDURES - 1);
-    }
+    return 2 + (deepest - 2) * (1 + (last->leaf != 0) + last->times);
 }
 
-/* A run that is in sixteen procedures at once, each at the deepest level of its body. The contracts ask nothing. */
+/* The levels that the bodies can have together, besides the `for` loops and procedure 0 if it is an expression: two words for a while, and
+ * for a sequence with its other part, three for an if. Each body has two sets and its evidence, and all but procedure 0's a call. */
+static int all_levels(uint32_t kind, int fors, const struct deep *last)
+{
+    int words = FLOW_MOST_WORDS - 2 - 4 * BODIES - fors - (last ? last_words(last) - 1 : 0);
+
+    return words / (kind == IF ? 3 : 2);
+}
+
+/* The levels of the next body, at most so many: they are no longer left for others. */
+static int take_levels(int *left, int most_levels)
+{
+    int levels = *left < most_levels ? *left : most_levels;
+
+    *left -= levels;
+    return levels;
+}
+
+/* A run that is in sixteen procedures at once, each at the deepest level of its body; where the words don't suffice for that, the main
+ * program and the last procedures nest less. The main program has `for` loops if it has whiles: none of their scalars is modified by what
+ * they call. The contracts ask nothing. */
 static void try_procedures(uint32_t kind, const char *name, const struct deep *last)
 {
     char whole[80];
-    uint64_t due = FLOW_MOST_PROCEDURES + 1;
+    uint64_t due = BODIES;
+    int fors = kind == WHILE ? 28 : 0;
+    int left = all_levels(kind, fors, last);
     uint32_t i;
 
     begin();
     put(TABLE, FLOW_MOST_PROCEDURES);
-    for (i = 0; i <= FLOW_MOST_PROCEDURES; i++) {
-        if (i == 0) {
-            put_last(kind, last);
-        } else if (i < FLOW_MOST_PROCEDURES) {
-            put_caller(kind, i - 1);
+    for (i = 0; i < BODIES; i++) {
+        if (i == 0 && last) {
+            put_last(last);
         } else {
-            put_main(kind);
+            int outer = i == FLOW_MOST_PROCEDURES ? fors : 0;
+
+            put_fors(outer);
+            put_levels(kind, take_levels(&left, deepest - 1 - outer), i == 0 ? SKIP : CALL, i == 0 ? 0 : i - 1);
         }
         nest(2, SET, 0, 0);
         put(FLOW, 10);
     }
     end();
-    snprintf(whole, sizeof whole, "16 procedures of 127 %s, the last of %s", name, last ? last->name : name);
+    snprintf(whole, sizeof whole, "16 procedures of %s, the last of %s", name, last ? last->name : name);
     try_check(whole, &due);
-    room = MOST_ROOM;
+    room = 2 * BODIES * limits->most_stack;
     try_run(whole);
-    room = ROOM;
+    room = 2 * limits->most_stack;
 }
 
 static void try_all_procedures(void)
@@ -704,9 +788,10 @@ static void try_deepest(void)
         if (deep[i].command == ASSERT) {
             try_compared(&deep[i]);
         }
+        try_too_deep(&deep[i]);
     }
     for (i = 0; i < 2; i++) {
-        for (whiles = DEEPEST - 1 - fors[i]; whiles >= 0; whiles -= whiles > DEEPEST - 8 - fors[i] ? 1 : 30) {
+        for (whiles = deepest - 1 - fors[i]; whiles >= 0; whiles -= whiles > deepest - 8 - fors[i] ? 1 : 30) {
             try_loops(fors[i], whiles);
         }
     }
@@ -714,10 +799,14 @@ static void try_deepest(void)
     try_all_procedures();
 }
 
-static void try_all(int count, char **paths)
+/* Under the standard settings, or under the largest. */
+static void try_under(const struct limits *which, int count, char **paths)
 {
     int i;
 
+    limits = which;
+    deepest = (int)limits->depth;
+    room = 2 * limits->most_stack;
     try_deepest();
     try_table(paths[0], "", try_row);
     try_table(paths[1], "", try_run_row);
@@ -728,7 +817,7 @@ static void try_all(int count, char **paths)
 }
 
 /* All again with just the stack that is stated, in a process of its own, which dies if that does not suffice. */
-static void try_with_stated(int count, char **paths)
+static void try_with_stated(const struct limits *which, int count, char **paths)
 {
     int status;
     pid_t child;
@@ -740,7 +829,7 @@ static void try_with_stated(int count, char **paths)
     }
     if (child == 0) {
         just = 1;
-        try_all(count, paths);
+        try_under(which, count, paths);
         fflush(stdout);
         _exit(wrong);
     }
@@ -753,8 +842,27 @@ static void try_with_stated(int count, char **paths)
     wrong |= status != 0;
 }
 
+/* What was measured, and whether what is stated suffices for it and is no more than it may be. */
+static void report(void)
+{
+    int i;
+
+    printf("under %zu comparisons, depth %zu, %zu members:\n", limits->comparisons, limits->depth, limits->members);
+    for (i = 0; i < CALLS; i++) {
+        size_t stated = limits->stated[i];
+
+        if (most[i].calls > 0) {
+            printf("%s: at most %zu bytes of stack in %zu calls (%s); %zu are stated\n", names[i], most[i].stack, most[i].calls,
+                most[i].name, stated);
+        }
+        wrong |= most[i].stack > stated || stated > limits->most_stack * (i == RUN ? BODIES : 1);
+    }
+    memset(most, 0, sizeof most);
+}
+
 int main(int count, char **arguments)
 {
+    static const struct limits *const both[] = {&standard, &largest};
     int i;
     uint8_t *mapped = mmap(NULL, PAGE + MOST_ROOM, PROT_READ | PROT_WRITE, MAP_PRIVATE | MAP_ANONYMOUS, -1, 0);
 
@@ -767,12 +875,10 @@ int main(int count, char **arguments)
         fprintf(stderr, "usage: stack ROWS RUNS FOLDER/...\n");
         return 2;
     }
-    try_all(count - 1, arguments + 1);
-    for (i = 0; i < CALLS; i++) {
-        printf("%s: at most %zu bytes of stack in %zu calls (%s); %zu are stated\n", names[i], most[i].stack, most[i].calls,
-            most[i].name, stated[i]);
-        wrong |= most[i].stack > stated[i] || stated[i] > (i == RUN ? MOST_RUN_STACK : MOST_STACK);
+    for (i = 0; i < 2; i++) {
+        try_under(both[i], count - 1, arguments + 1);
+        report();
+        try_with_stated(both[i], count - 1, arguments + 1);
     }
-    try_with_stated(count - 1, arguments + 1);
     return wrong;
 }

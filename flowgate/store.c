@@ -1,29 +1,8 @@
 /* The runner's store as text. */
+#include "natural.h"
 #include "store.h"
 
 static const char no_form[] = "no word of the form x1=5 or a0[3]=7";
-
-enum taken { TAKEN, NO_DIGIT, TOO_LARGE };
-
-/* Takes the decimal digits that the text starts with, and leaves the text behind them. */
-static enum taken take_number(const char **text, uint64_t most, uint64_t *number)
-{
-    const char *start = *text;
-    int large = 0;
-    *number = 0;
-    for (; **text >= '0' && **text <= '9'; ++*text) {
-        uint64_t digit = (uint64_t)(**text - '0');
-        large = large || *number > most / 10 || (*number == most / 10 && digit > most % 10);
-        *number = large ? 0 : 10 * *number + digit;
-    }
-    return *text == start ? NO_DIGIT : large ? TOO_LARGE : TAKEN;
-}
-
-const char *read_natural(const char *text, uint64_t most, uint64_t *number)
-{
-    enum taken taken = take_number(&text, most, number);
-    return taken == NO_DIGIT || *text != '\0' ? "no whole number" : taken == TOO_LARGE ? "too large a number" : NULL;
-}
 
 /* The value that a word names, up to its `=`. */
 static const char *find_value(struct store *store, const char **word, int64_t **value)

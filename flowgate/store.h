@@ -28,9 +28,6 @@ struct source {
 /* Sets what the words say. What is wrong with the word at hand, or NULL. */
 const char *set_words(struct store *store, struct source *source);
 
-/* The whole number that the text is, without a sign. What is wrong with it, or NULL. */
-const char *read_natural(const char *text, uint64_t most, uint64_t *number);
-
 /* The cells of a store, scalars first: their values, and their names in words. */
 int64_t value_at(const struct store *store, size_t cell);
 void name_cell(size_t cell, char name[MOST_NAME]);

@@ -1,10 +1,9 @@
 //! With the feature `first`, links a first implementation into `compare`,
 //! `compare_calls`, `bench_check` and `bench_calls`: SECOND_FIRST_DIR is the folder
 //! of its static library, SECOND_FIRST_LIB the file in it (by default its only `*.a`).
-//! The library has `extern "C" fn flow_check(ptr: *const u8, len: usize) -> u32`,
-//! and for those of calls `flow_check_masks` and `flow_put` (bin/first/calls.rs).
-//! `compare_runs` and `bench_run` take librunner.a of the same folder, which has
-//! `flow_run`.
+//! The library has the calls of include/flowcheck.h that bin/first declares; but
+//! `compare_runs`, `compare_calls` and `bench_run` take `flow_run` from librunner.a of
+//! the same folder.
 
 fn main() {
     println!("cargo:rerun-if-changed=build.rs");
@@ -35,6 +34,7 @@ fn main() {
     }
     let runner = dir.join("librunner.a");
     println!("cargo:rerun-if-changed={}", runner.display());
-    println!("cargo:rustc-link-arg-bin=compare_runs={}", runner.display());
-    println!("cargo:rustc-link-arg-bin=bench_run={}", runner.display());
+    for program in ["compare_runs", "compare_calls", "bench_run"] {
+        println!("cargo:rustc-link-arg-bin={program}={}", runner.display());
+    }
 }

@@ -1,5 +1,6 @@
 /* workbench CERTIFICATE: shows what each command of a certificate modifies, puts other commands in their place, and checks the result, by
- * flow_check_masks and flow_put of the proved library. It takes lines from standard input, which `help` lists; # starts a comment.
+ * flow_check_masks and flow_put of the proved library, under the standard settings. It takes lines from standard input, which `help` lists;
+ * # starts a comment.
  * Exit status: 0 if every line was carried out, a refusal being an answer as any other; 1 if a line was bad; 2 if the certificate or the
  * lines can't be read, standard output can't be written, or for bad use. */
 #define _POSIX_C_SOURCE 200809L
@@ -119,7 +120,7 @@ static void print_commands(const uint64_t *before)
 
 static int check(void)
 {
-    answer = flow_check_masks(file, count, masks, FLOW_MOST_WORDS);
+    answer = flow_check_masks(file, count, masks, FLOW_MOST_WORDS, FLOW_STANDARD_SETTINGS);
     print_answer(answer);
     return CARRIED_OUT;
 }
@@ -168,7 +169,7 @@ static int put(void)
         }
     }
     memcpy(before, masks, sizeof masks);
-    uint32_t done = flow_put(file, count, masks, FLOW_MOST_WORDS, place, command, 4 * (behind - 1));
+    uint32_t done = flow_put(file, count, masks, FLOW_MOST_WORDS, place, command, 4 * (behind - 1), FLOW_STANDARD_SETTINGS);
     if (flow_was_put(done)) {
         puts("put");
         print_commands(before);

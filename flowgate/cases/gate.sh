@@ -32,10 +32,10 @@ END
 short:4: refused 3: the file ends where a word is due; at word 4: 32:0 32:0 [no word, the file ends]
 END
     lines 1 deep << 'END'
-deep:129: refused 4: a word is deeper than 128; at word 129: 12:0 12:0 [9:7]
+deep:129: refused 4: a word is deeper than the settings allow; depth 128; at word 129: 12:0 12:0 [9:7]
 END
     lines 1 members kind << 'END'
-members:2: refused 5: a word's kind or payload isn't allowed there; at word 2: 63:5 24:0 [32:65] 32:0 33:1
+members:2: refused 5: a word's kind or payload isn't allowed there; members 64; at word 2: 63:5 24:0 [32:65] 32:0 33:1
 kind:4: refused 5: a word's kind or payload isn't allowed there; at word 4: 32:0 32:0 [34:13]
 END
     lines 1 rest << 'END'
@@ -50,7 +50,7 @@ nowhere:1: refused 16: a call's number is not below its own procedure's, or not 
 called: accepted 2
 END
     lines 1 large << 'END'
-large:94: refused 9: a rule's condition is an implication over more than 10 comparisons; at word 94: 1:10 2:1 [34:14] 33:1
+large:94: refused 9: a rule's condition is an implication over more comparisons than the settings allow; comparisons 10; at word 94: 1:10 2:1 [34:14] 33:1
 END
     lines 1 good rule copy << 'END'
 good: accepted 1

@@ -1,6 +1,6 @@
 # ./library --prefix: what is installed is enough to build and run a program in C and one in C++; the pages of manual.
 
-# a program that checks, finds a part, runs, says what a number means, and uses masks, in C and C++ alike
+# a program that checks, finds a part, runs, says what a number means, and uses masks and settings, in C and C++ alike
 user_program() {
     cat << 'END'
 #include <stdio.h>
@@ -17,14 +17,15 @@ int main(void)
     static uint64_t masks[FLOW_MOST_WORDS];
     uint8_t copy[sizeof loop];
     uint32_t answer = flow_check(loop, sizeof loop);
-    uint64_t ran = flow_run(loop, sizeof loop, scalars, FLOW_SCALARS, values, FLOW_VALUES, 1);
-    printf("%s %d %d\n", FLOWCHECK_VERSION, flow_accepted(answer), (int)flow_past(flow_program(loop, sizeof loop)));
+    uint64_t ran = flow_run(loop, sizeof loop, scalars, FLOW_SCALARS, values, FLOW_VALUES, 1, FLOW_STANDARD_SETTINGS);
+    printf("%s %d %d\n", FLOWCHECK_VERSION, flow_accepted(answer), (int)flow_past(flow_program(loop, sizeof loop, FLOW_MOST_SETTINGS)));
     printf("%d %s\n", (int)flow_run_place(ran), flow_meaning(flow_run_number(ran)));
     printf("%d\n", (int)flow_number(flow_check_bytes(NULL, 0)));
     memcpy(copy, loop, sizeof loop);
-    printf("%d", (int)flow_check_masks(copy, sizeof copy, masks, FLOW_MOST_WORDS));
+    printf("%d", (int)flow_check_masks(copy, sizeof copy, masks, FLOW_MOST_WORDS, FLOW_STANDARD_SETTINGS));
     printf(" %d", flow_modifies_scalar(masks[1], 0));
-    printf(" %d\n", flow_was_put(flow_put(copy, sizeof copy, masks, FLOW_MOST_WORDS, 2, loop + 8, 4)));
+    printf(" %d", flow_was_put(flow_put(copy, sizeof copy, masks, FLOW_MOST_WORDS, 2, loop + 8, 4, FLOW_STANDARD_SETTINGS)));
+    printf(" %d\n", (int)flow_number(flow_check_settings(loop, sizeof loop, 16, 257, 128)));
     return 0;
 }
 END
@@ -33,7 +34,7 @@ END
 # build_user COMPILER WORD...: the program built with the installed header and library alone, and run
 build_user() {
     tried 1
-    printf '%s 1 3\n1 the budget is used up and a step is due\n1\n1 1 1\n' "$version" > due
+    printf '%s 1 3\n1 the budget is used up and a step is due\n1\n1 1 1 19\n' "$version" > due
     if ! "$@" -pedantic -Wall -Wextra -Werror $cflags -o user "$source" $libs || ! ./user > got || ! diff due got; then
         wrong "a program built with what is installed: $*"
     fi

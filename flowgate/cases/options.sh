@@ -37,7 +37,7 @@ words_of_options() {
     expect 0 good --version --help
     "$bin/$program" --help > out
     expect 0 --help
-    for word in usage: --program --precondition --postcondition --contract --parts --show --json --quiet 'Exit status: 0'; do
+    for word in usage: --program --precondition --postcondition --contract --parts --comparisons --depth --members --show --json --quiet 'Exit status: 0'; do
         tried 1
         grep -q -e "$word" out || wrong "flowgate --help: it has no $word"
     done

@@ -162,7 +162,7 @@ run_options() {
     "$bin/flowrun" --help > out
     : > err
     expect 0 --help
-    for word in usage: STORE @FILE --json --quiet 'Exit status: 0'; do
+    for word in usage: STORE @FILE --comparisons --depth --members --json --quiet 'Exit status: 0'; do
         tried 1
         grep -q -e "$word" out || wrong "flowrun --help: it has no $word"
     done

@@ -1,4 +1,4 @@
-# examples/workbench: its sessions, bad lines, and what can't be read or written; and masks.c under valgrind.
+# examples/workbench: its sessions, bad lines, and what can't be read or written; and masks.c and limits.c under valgrind.
 
 # session NAME: the lines of a session with the certificate of that name, and what they give
 session() {
@@ -177,8 +177,9 @@ workbench_cases() {
         program=workbench-c++
         sessions
     elif [ $run = in_valgrind ]; then
-        program=masks-plain
-        silent 0
+        for program in masks-plain limits-plain; do
+            silent 0
+        done
     fi
 }
 

@@ -1,6 +1,7 @@
 //! Document 02, request [4]: constants by cases.
 
 use second::fast;
+use second::layout::settings::STANDARD;
 use second::layout::words::{bytes_of, constant_of, pack, payload_of};
 use second::naive::run::{run, ARRAY_VALUES, SCALARS};
 
@@ -28,8 +29,8 @@ fn assigned(payload: u32) -> (i64, i64) {
     let bytes = bytes_of(&words);
     let (mut naive, mut fast) = (vec![7; SCALARS], vec![7; SCALARS]);
     let mut arrays = vec![0; ARRAY_VALUES];
-    assert_eq!(run(&bytes, 1, &mut naive, &mut arrays).end_text(), "ended");
-    fast::run(&bytes, 1, &mut fast, &mut arrays, &mut fast::Work::new());
+    assert_eq!(run(&bytes, 1, &mut naive, &mut arrays, STANDARD).end_text(), "ended");
+    fast::run(&bytes, 1, &mut fast, &mut arrays, fast::STANDARD, &mut fast::Work::new());
     (naive[0], fast[0])
 }
 

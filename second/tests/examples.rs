@@ -4,6 +4,7 @@
 use second::compare::pairs::{try_pair, Found};
 use second::examples::{self, guard::*};
 use second::generate::{accepted, file_prng};
+use second::layout::settings::STANDARD;
 use second::layout::syntax::{Expression, File};
 use second::naive::big::Big;
 use second::naive::judge::check;
@@ -131,7 +132,7 @@ fn annotated_text_of_generated_files() {
     let names = Names { scalars: &["zero"], arrays: &["first", "second"] };
     for i in 0..300 {
         let bytes = accepted(&mut file_prng(31, i));
-        let file = read(&bytes).expect("readable");
+        let file = read(&bytes, STANDARD).expect("readable");
         let text = annotate(&file, &names).expect("each rule fits its command");
         assert_eq!(assemble(&text), Ok(bytes), "{text}");
     }
@@ -144,7 +145,7 @@ fn end_of(name: &str, start: &[(u32, i64)]) -> Vec<i64> {
         scalars[*x as usize] = *value;
     }
     let mut arrays = vec![0; ARRAY_VALUES];
-    assert_eq!(run(&bytes(name), 100, &mut scalars, &mut arrays).end_text(), "ended");
+    assert_eq!(run(&bytes(name), 100, &mut scalars, &mut arrays, STANDARD).end_text(), "ended");
     scalars
 }
 
@@ -203,7 +204,7 @@ fn programs_do_what_they_should() {
         let old = store_of(start).expect("a store");
         let mut new = old.clone();
         let (scalars, arrays) = new.split_at_mut(SCALARS);
-        assert_eq!(run(&bytes(name), 100, scalars, arrays).end_text(), end, "{name} {start}");
+        assert_eq!(run(&bytes(name), 100, scalars, arrays, STANDARD).end_text(), end, "{name} {start}");
         assert_eq!(changes_of(&old, &new), changes, "{name} {start}");
     }
 }
@@ -212,7 +213,7 @@ fn programs_do_what_they_should() {
 #[test]
 fn good_contracts_hold_of_runs() {
     for (name, _, bytes) in expected().into_iter().filter(|(_, line, _)| line.starts_with("accepted")) {
-        let file = read(&bytes).expect("readable");
+        let file = read(&bytes, STANDARD).expect("readable");
         let mut agreed = 0;
         for i in 0..10_000 {
             let found = try_pair(&mut file_prng(32, i), &file, 100).0;
@@ -278,7 +279,7 @@ fn faulty_contracts_are_broken_by_runs() {
     let readme = readme().replace('\n', " ");
     for [name, good, one, two] in LEAKS {
         assert!(readme.contains(&format!("`{}` and `{}`", shown(one), shown(two))), "{name}");
-        let file = |name: &str| read(&bytes(name)).expect("readable");
+        let file = |name: &str| read(&bytes(name), STANDARD).expect("readable");
         assert_eq!(judged_by_runs(&file(name), one, two), (true, false), "{name}");
         let (agreed, ended) = judged_by_runs(&file(good), one, two);
         assert!(!agreed || ended, "{name}");
@@ -291,7 +292,7 @@ fn faulty_contracts_are_broken_by_runs() {
 /// Figure 3 (a), written out: what the two outputs derive from.
 #[test]
 fn the_contract_is_that_of_figure_3() {
-    let file = read(&bytes("guard-both")).expect("readable");
+    let file = read(&bytes("guard-both"), STANDARD).expect("readable");
     let shown: Vec<String> = file.pre.iter().map(|member| NAMES.member(member)).collect();
     let wanted = [
         "IN_1_RDY = 1 ∧ ¬(OUT_0_RDY = 1) ⇒ IN_1_DAT",
@@ -312,7 +313,7 @@ fn the_contract_is_that_of_figure_3() {
 /// The tidied guard has the program and the contract of the other, and less words of evidence.
 #[test]
 fn the_tidied_guard_is_the_guard() {
-    let [both, tidied] = ["guard-both", "guard-tidied"].map(|name| read(&bytes(name)).expect("readable"));
+    let [both, tidied] = ["guard-both", "guard-tidied"].map(|name| read(&bytes(name), STANDARD).expect("readable"));
     assert_eq!((both.command, both.pre, both.post), (tidied.command, tidied.pre, tidied.post));
     assert_eq!(bytes("guard-both").len() - bytes("guard-tidied").len(), 4 * 24);
 }

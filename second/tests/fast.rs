@@ -1,9 +1,11 @@
 //! The fast version against known answers, and the files of growing size.
 
+use second::benchmark::highest;
 use second::benchmark::worst::{deepest, without_assignments, KINDS};
-use second::fast::{check, check_with_masks, put, Work};
+use second::fast::{check, check_settings, check_with_masks, Work, STANDARD};
+use second::layout::settings::{Settings, HIGHEST};
 use second::naive::judge::{self, line_of, Answer};
-use second::tool::calls::{compare_rows, Version};
+use second::tool::calls::{compare_rows, FAST};
 use std::path::Path;
 
 fn tests() -> std::path::PathBuf {
@@ -26,15 +28,10 @@ fn rows() {
 
 #[test]
 fn call_rows() {
-    let fast = Version {
-        name: "fast",
-        check_with_masks: |bytes, masks| Some(check_with_masks(bytes, masks, &mut Work::new())),
-        put: |bytes, masks, place, new| Some(put(bytes, masks, place, new, &mut Work::new())),
-    };
     let text = std::fs::read_to_string(tests().join("calls.tsv")).expect("the rows");
-    let (compared, differ) = compare_rows(&text, &fast).expect("rows of calls");
+    let (compared, differ) = compare_rows(&text, &FAST).expect("rows of calls");
     assert!(differ.is_empty(), "{}", differ.join("\n"));
-    assert!(compared > 50);
+    assert!(compared > 100);
 }
 
 #[test]
@@ -49,7 +46,7 @@ fn usual_and_worst_files() {
             assert_eq!(line_of(check(&bytes, &mut work)), fields[1], "{}", fields[0]);
             assert_eq!(judge::check(&bytes).line(), fields[1], "{}", fields[0]);
             let mut masks = vec![u64::MAX; bytes.len() / 4];
-            assert_eq!(line_of(check_with_masks(&bytes, &mut masks, &mut work)), fields[1], "{}, with masks", fields[0]);
+            assert_eq!(line_of(check_with_masks(&bytes, &mut masks, STANDARD, &mut work)), fields[1], "{}, with masks", fields[0]);
             agreed += 1;
         }
     }
@@ -68,7 +65,7 @@ fn worst_files_without_assignments() {
         assert!(matches!(answer, Answer::Accepted(_)), "{name}: {}", answer.line());
         let modifies = [bytes, other].map(|bytes| {
             let mut masks = vec![u64::MAX; bytes.len() / 4];
-            assert_eq!(check_with_masks(&bytes, &mut masks, &mut work), answer.packed(), "{name}");
+            assert_eq!(check_with_masks(&bytes, &mut masks, STANDARD, &mut work), answer.packed(), "{name}");
             masks.iter().any(|mask| *mask != 0)
         });
         assert_eq!(modifies, [true, false], "{name}");
@@ -90,6 +87,53 @@ fn growing_files_are_accepted() {
         }
         assert!(last > 4 * 7_000, "{}: {last} bytes at most", kind.name);
     }
+}
+
+/// What is dear under the highest settings: accepted there, and refused with 4, 5 or 9 under the old ones. The second implementation
+/// tries smaller files of the same kinds.
+#[test]
+fn files_for_the_highest_settings() {
+    let mut work = Box::new(Work::new());
+    let under = |bytes: &[u8], settings: Settings, work: &mut Work| check_settings(bytes, settings.numbers().into(), work);
+    for kind in highest::KINDS {
+        let bytes = kind.file(8_192);
+        assert!((4 * 7_600..=32_768).contains(&bytes.len()), "{}: {} bytes", kind.name, bytes.len());
+        assert!(under(&bytes, HIGHEST, &mut work) < 65_536, "{}", kind.name);
+        let old = judge::check(&bytes);
+        assert!(matches!(old.packed() / 65_536, 4 | 5 | 9), "{}: {}", kind.name, old.line());
+        let smaller = kind.file(1_024);
+        assert_eq!(under(&smaller, HIGHEST, &mut work), judge::check_settings(&smaller, HIGHEST).packed(), "{}", kind.name);
+    }
+    for (i, bytes) in highest::deepest().iter().enumerate() {
+        let answer = judge::check_settings(bytes, HIGHEST);
+        assert!(matches!(answer, Answer::Accepted(248..)), "file {i}: {}", answer.line());
+        assert_eq!(under(bytes, HIGHEST, &mut work), answer.packed(), "file {i}");
+        assert_eq!(judge::check(bytes).packed() / 65_536, 4, "file {i}");
+    }
+}
+
+/// What the benchmark compares: a file over 16 comparisons, and one as long over 10 that is accepted also under the old settings.
+#[test]
+fn files_over_ten_comparisons() {
+    let mut work = Box::new(Work::new());
+    for kind in highest::OVER_SIXTEEN {
+        let bytes = kind.file(8_192);
+        let ten = highest::over_ten(&bytes);
+        assert_eq!(ten.len(), bytes.len(), "{}", kind.name);
+        let accepted = check_settings(&bytes, HIGHEST.numbers().into(), &mut work);
+        assert!(accepted < 65_536, "{}: {}", kind.name, line_of(accepted));
+        assert_eq!(judge::check(&bytes).packed() / 65_536, 9, "{}", kind.name);
+        assert_eq!(judge::check(&ten).packed(), accepted, "{}", kind.name);
+        let nine = Settings { comparisons: 9, ..HIGHEST };
+        assert_eq!(check_settings(&ten, nine.numbers().into(), &mut work) / 65_536, 9, "{}", kind.name);
+    }
+    for bytes in highest::failing() {
+        let answer = judge::check_settings(&bytes, HIGHEST).packed();
+        assert_eq!(answer / 65_536, 8);
+        assert_eq!(judge::check(&highest::over_ten(&bytes)).packed(), answer);
+    }
+    let [first, last] = highest::failing().map(|bytes| bytes.len());
+    assert_eq!(first, last);
 }
 
 #[test]

@@ -1,5 +1,6 @@
 //! The generator against the judge, and the runner against the language.
 
+use second::layout::settings::STANDARD;
 use second::compare::pairs::{try_pair, Found};
 use second::generate::limits::limit;
 use second::generate::run_cases::run_case;
@@ -54,7 +55,7 @@ fn the_runner_agrees_with_the_language() {
         let case = run_case(&mut rng);
         let mut store = case.store.clone();
         let (scalars, arrays) = store.split_at_mut(SCALARS);
-        let outcome = run(&case.bytes, case.budget, scalars, arrays);
+        let outcome = run(&case.bytes, case.budget, scalars, arrays, STANDARD);
         let number = match outcome.end {
             End::Ended => 0,
             End::Refused(r) => r.number as usize,
@@ -63,7 +64,7 @@ fn the_runner_agrees_with_the_language() {
         if ![0, 12, 13].contains(&number) || outcome.steps > 20_000 {
             continue;
         }
-        let file = read(&case.bytes).expect("readable");
+        let file = read(&case.bytes, STANDARD).expect("readable");
         let mut whole = Store {
             scalars: case.store[..SCALARS].iter().map(|v| Big::from(*v)).collect(),
             arrays: case.store[SCALARS..]
@@ -106,7 +107,7 @@ fn no_counterexample_in_accepted_files() {
     for i in 0..500 {
         let mut rng = file_prng(15, i);
         let bytes = accepted(&mut rng);
-        let file = read(&bytes).expect("readable");
+        let file = read(&bytes, STANDARD).expect("readable");
         for _ in 0..10 {
             assert_ne!(try_pair(&mut rng, &file, 400).0, Found::Counterexample, "file {i}");
         }

@@ -4,6 +4,7 @@ use second::fast;
 use second::generate::file_prng;
 use second::generate::procedures::without_contract;
 use second::generate::run_cases::{run_case, RunCase};
+use second::layout::settings::{Settings, STANDARD};
 use second::layout::syntax::*;
 use second::layout::words::bytes_of;
 use second::layout::write::file_words_with;
@@ -17,8 +18,8 @@ fn ran(command: &str) -> (String, u64, i64) {
     let (mut scalars, mut arrays) = (vec![0; SCALARS], vec![0; ARRAY_VALUES]);
     (scalars[0], scalars[2]) = (i64::MAX, 64);
     let (mut others, mut values) = (scalars.clone(), arrays.clone());
-    let outcome = run(&bytes, 100, &mut scalars, &mut arrays);
-    let packed = fast::run(&bytes, 100, &mut others, &mut values, &mut fast::Work::new());
+    let outcome = run(&bytes, 100, &mut scalars, &mut arrays, STANDARD);
+    let packed = fast::run(&bytes, 100, &mut others, &mut values, fast::STANDARD, &mut fast::Work::new());
     let code = match outcome.end {
         End::Ended => 0,
         End::Refused(r) => u64::from(r.number) << 16 | r.place as u64,
@@ -128,7 +129,7 @@ fn command_with_both_sides(c: &Command) -> Command {
 fn outcome(bytes: &[u8], case: &RunCase) -> (u32, u64, Vec<i64>) {
     let mut store = case.store.clone();
     let (scalars, arrays) = store.split_at_mut(SCALARS);
-    let outcome = run(bytes, case.budget, scalars, arrays);
+    let outcome = run(bytes, case.budget, scalars, arrays, STANDARD);
     let number = match outcome.end {
         End::Ended => 0,
         End::Refused(r) => r.number,
@@ -142,7 +143,8 @@ fn the_order_tells_only_where_a_side_has_no_value() {
     let (mut runs, mut others) = (0, 0);
     for i in 0..4_000 {
         let case = run_case(&mut file_prng(16, i));
-        let Ok(file) = read(&case.bytes) else { continue };
+        // not those at the limit of depth: both sides double at each level
+        let Ok(file) = read(&case.bytes, Settings { depth: 24, ..STANDARD }) else { continue };
         let bodies = file.procedures.iter().map(|p| without_contract(command_with_both_sides(&p.command)));
         let program = command_with_both_sides(&file.command);
         let words = file_words_with(&bodies.collect::<Vec<_>>(), &program, &[], &[], &flow_of(FlowRule::F10));

@@ -1,16 +1,10 @@
 //! Request [5], sentence by sentence, by the second implementation and by the fast one.
 
-use second::fast;
+use second::layout::settings::STANDARD;
 use second::layout::words::{bytes_of, pack};
 use second::naive::masks::with_words;
 use second::naive::read::read;
-use second::tool::calls::{Call, Given, Version, NAIVE};
-
-const FAST: Version = Version {
-    name: "fast",
-    check_with_masks: |bytes, masks| Some(fast::check_with_masks(bytes, masks, &mut fast::Work::new())),
-    put: |bytes, masks, place, new| Some(fast::put(bytes, masks, place, new, &mut fast::Work::new())),
-};
+use second::tool::calls::{Call, Given, FAST, NAIVE};
 
 fn words(text: &str) -> Vec<u32> {
     let word = |text: &str| {
@@ -31,7 +25,7 @@ fn file(text: &str) -> Vec<u8> {
 /// The answer of both versions, in the form of tests/calls.tsv, with so many numbers lent.
 fn answer(bytes: &[u8], lent: usize, call: &Call) -> String {
     let masks = (0..lent as u64).map(|i| !i).collect();
-    let given = Given { bytes: bytes.to_vec(), masks, call: call.clone() };
+    let given = Given { bytes: bytes.to_vec(), masks, settings: STANDARD, call: call.clone() };
     let [naive, fast] = [NAIVE, FAST].map(|version| given.answer(&version.call(&given).expect("linked")));
     assert_eq!(naive, fast, "{given:?}");
     naive
@@ -263,7 +257,7 @@ fn not_one_whole_command() {
     for (text, place, new) in rows {
         let text = format!("{text}{END}");
         let changed = with_words(&file(&text), place, &bytes_of(&words(new)));
-        assert!(read(&changed).is_ok(), "{text}");
+        assert!(read(&changed, STANDARD).is_ok(), "{text}");
         refused(&text, place, new);
     }
 }

@@ -8,6 +8,7 @@ use second::generate::plain::booleans::Stands;
 use second::generate::plain::truths::with_true;
 use second::generate::plain::{changed, not_dropped, tidied};
 use second::generate::prng::Prng;
+use second::layout::settings::STANDARD;
 use second::layout::syntax::*;
 use second::naive::implies::{implies, Verdict};
 use second::naive::judge::{check, line_of, Answer};
@@ -356,7 +357,7 @@ fn plain_forms() {
         assert_eq!(plain(&form), form);
         assert_eq!(plain(&with_true(&mut rng, &b)), form);
         for (left, right) in [(&b, &form), (&form, &b)] {
-            assert_ne!(implies(left, right), Verdict::Fails, "{b:?}");
+            assert_ne!(implies(left, right, STANDARD), Verdict::Fails, "{b:?}");
         }
     }
 }
@@ -384,7 +385,7 @@ fn no_counterexample_in_tidied_files() {
     for i in 0..300 {
         let mut rng = file_prng(19, i);
         let bytes = tidied(&mut rng);
-        let file = read(&bytes).expect("readable");
+        let file = read(&bytes, STANDARD).expect("readable");
         for _ in 0..10 {
             assert_ne!(try_pair(&mut rng, &file, 400).0, Found::Counterexample, "file {i}");
         }

@@ -2,6 +2,7 @@
 
 use second::benchmark::worst::KINDS;
 use second::fast;
+use second::layout::settings::STANDARD;
 use second::layout::words::{bytes_of, pack};
 use second::naive::judge::{self, check, line_of, postcondition, precondition};
 use second::naive::run::{run, ARRAY_VALUES, SCALARS};
@@ -144,8 +145,8 @@ fn modified() {
 #[test]
 fn parts() {
     let bytes = file(&format!("62:1 {COPY} 38:0 32:1 9:1 2:1 32:1 9:1 2:0 33:31"));
-    assert_eq!(precondition(&bytes), &bytes[48..60]);
-    assert_eq!(postcondition(&bytes), &bytes[60..72]);
+    assert_eq!(precondition(&bytes, STANDARD), &bytes[48..60]);
+    assert_eq!(postcondition(&bytes, STANDARD), &bytes[60..72]);
 }
 
 /// End, steps and the first two scalars, from x1 = 7.
@@ -154,8 +155,8 @@ fn ran(text: &str, budget: u64) -> (String, u64, [i64; 2]) {
     let (mut scalars, mut arrays) = (vec![0; SCALARS], vec![0; ARRAY_VALUES]);
     scalars[1] = 7;
     let (mut others, mut values) = (scalars.clone(), arrays.clone());
-    let outcome = run(&bytes, budget, &mut scalars, &mut arrays);
-    let packed = fast::run(&bytes, budget, &mut others, &mut values, &mut fast::Work::new());
+    let outcome = run(&bytes, budget, &mut scalars, &mut arrays, STANDARD);
+    let packed = fast::run(&bytes, budget, &mut others, &mut values, fast::STANDARD, &mut fast::Work::new());
     assert_eq!((packed >> 32, others, values), (outcome.steps, scalars.clone(), arrays), "{text}");
     (outcome.end_text(), outcome.steps, [scalars[0], scalars[1]])
 }

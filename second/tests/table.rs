@@ -1,7 +1,8 @@
 //! Document 01, "Table of files", and the limits that can be said in a line.
 
+use second::layout::settings::STANDARD;
 use second::layout::words::{bytes_of, constant_of, pack};
-use second::naive::judge::{check, postcondition, precondition};
+use second::naive::judge::{check, postcondition, precondition, program};
 use second::naive::run::{run, ARRAY_VALUES, SCALARS};
 
 fn file(words: &[(u32, u32)]) -> Vec<u8> {
@@ -35,13 +36,15 @@ fn checks() {
 #[test]
 fn parts_of_the_bytes() {
     let bytes = file(&SECOND);
-    assert_eq!(precondition(&bytes), &bytes[12..24]);
-    assert_eq!(postcondition(&bytes), &bytes[24..36]);
-    assert!(std::ptr::eq(precondition(&bytes).as_ptr(), bytes[12..].as_ptr()));
+    assert_eq!(program(&bytes, STANDARD), &bytes[4..12]);
+    assert_eq!(precondition(&bytes, STANDARD), &bytes[12..24]);
+    assert_eq!(postcondition(&bytes, STANDARD), &bytes[24..36]);
+    assert!(std::ptr::eq(precondition(&bytes, STANDARD).as_ptr(), bytes[12..].as_ptr()));
     let mut other = SECOND;
     other[5] = (2, 2);
-    assert!(precondition(&file(&other)).is_empty());
-    assert!(postcondition(&file(&other)).is_empty());
+    assert!(program(&file(&other), STANDARD).is_empty());
+    assert!(precondition(&file(&other), STANDARD).is_empty());
+    assert!(postcondition(&file(&other), STANDARD).is_empty());
 }
 
 /// `for` over skip, q scalar 0, m scalar 1: end, steps, q.
@@ -50,7 +53,7 @@ fn counted(m: i64, budget: u64) -> (String, u64, i64) {
     let mut scalars = vec![0; SCALARS];
     let mut arrays = vec![0; ARRAY_VALUES];
     scalars[1] = m;
-    let outcome = run(&bytes, budget, &mut scalars, &mut arrays);
+    let outcome = run(&bytes, budget, &mut scalars, &mut arrays, STANDARD);
     (outcome.end_text(), outcome.steps, scalars[0])
 }
 
@@ -74,12 +77,12 @@ fn lent_stores() {
     for (scalars, arrays) in [(31, 2_048), (33, 2_048), (32, 2_047), (32, 2_049), (0, 0)] {
         let mut scalars = vec![7; scalars];
         let mut arrays = vec![7; arrays];
-        let outcome = run(&bytes, 10, &mut scalars, &mut arrays);
+        let outcome = run(&bytes, 10, &mut scalars, &mut arrays, STANDARD);
         assert_eq!((outcome.end_text().as_str(), outcome.steps), ("refused 11 0", 0));
         assert!(scalars.iter().chain(&arrays).all(|v| *v == 7));
-        let outcome = run(&bytes, 1_000_001, &mut scalars, &mut arrays);
+        let outcome = run(&bytes, 1_000_001, &mut scalars, &mut arrays, STANDARD);
         assert_eq!(outcome.end_text(), "refused 10 0");
-        let outcome = run(&bytes[4..], 1_000_001, &mut scalars, &mut arrays);
+        let outcome = run(&bytes[4..], 1_000_001, &mut scalars, &mut arrays, STANDARD);
         assert_eq!(outcome.end_text(), "refused 2 0");
     }
 }

@@ -1,12 +1,15 @@
 //! `flowview` and `flowasm`: round trips, the marked word, the text itself, and the faults of a text.
 
 use second::generate::mutate::mutate;
+use second::generate::settings::settings;
 use second::generate::{file_prng, mixed};
+use second::layout::settings::{Settings, STANDARD};
 use second::layout::words::{bytes_of, pack, words_of, Refusal};
-use second::naive::judge::{check, Answer};
+use second::naive::judge::{check, check_settings, Answer};
 use second::naive::read::read;
 use second::tool::rows::bytes_of_hex;
 use second::view::assemble::assemble;
+use second::view::meaning::refusal_meaning;
 use second::view::show::NUMBERED;
 use second::view::{view, view_parts, walk};
 use std::process::Command;
@@ -44,17 +47,17 @@ fn shown(text: &str) -> Vec<(usize, String, bool)> {
 }
 
 /// The refused word and no other is marked; up to it, or to the end if the file reads, words have a meaning.
-fn marks(bytes: &[u8]) {
-    let text = view(bytes);
+fn marks(bytes: &[u8], settings: Settings) {
+    let text = view(bytes, settings);
     let lines = shown(&text);
     let marked: Vec<_> = lines.iter().filter(|line| line.2).collect();
-    let refusal = match check(bytes) {
-        Answer::Refused(refusal) if refusal.number > 1 => refusal,
+    let refusal = match check_settings(bytes, settings) {
+        Answer::Refused(refusal) if ![1, 19].contains(&refusal.number) => refusal,
         answer => {
             assert!(marked.is_empty());
             assert!(text.starts_with(&match answer {
                 Answer::Accepted(_) => format!("# {} words: {}\n", bytes.len() / 4, answer.line()),
-                Answer::Refused(_) => "# refused 1 0: ".to_string(),
+                Answer::Refused(_) => format!("# {}: ", answer.line()),
             }));
             return;
         }
@@ -69,17 +72,48 @@ fn marks(bytes: &[u8]) {
 }
 
 /// What `view` shows as readable is what `read` reads.
-fn walks(bytes: &[u8]) {
+fn walks(bytes: &[u8], settings: Settings) {
     let Ok(words) = words_of(bytes) else { return };
-    let stop = walk(&words).stop.map(|stop| stop.refusal);
-    let wanted: Option<Refusal> = read(bytes).err().filter(|refusal| refusal.number <= 6);
+    let stop = walk(&words, settings).stop.map(|stop| stop.refusal);
+    let wanted: Option<Refusal> = read(bytes, settings).err().filter(|refusal| refusal.number <= 6);
     assert_eq!(stop, wanted);
 }
 
+fn all_under(bytes: &[u8], settings: Settings) {
+    assert_eq!(assemble(&view(bytes, settings)).as_deref(), Ok(bytes));
+    marks(bytes, settings);
+    if settings.in_range() {
+        walks(bytes, settings);
+    }
+}
+
 fn all(bytes: &[u8]) {
-    assert_eq!(assemble(&view(bytes)).as_deref(), Ok(bytes));
-    marks(bytes);
-    walks(bytes);
+    all_under(bytes, STANDARD);
+}
+
+/// The same under settings, also outside their ranges (refusal 19).
+#[test]
+fn generated_files_under_settings() {
+    let mut outside = 0;
+    for (i, bytes) in generated().iter().enumerate() {
+        let settings = settings(&mut file_prng(23, i as u64), bytes);
+        all_under(bytes, settings);
+        outside += usize::from(!settings.in_range());
+    }
+    assert!(outside > 100, "{outside}");
+}
+
+/// The limits that a refusal names are those that were set.
+#[test]
+fn refusals_under_settings() {
+    let bytes = file(&[(63, 6), (26, 0), (9, 1), (32, 0), (32, 0), (33, 10)]);
+    let first = |settings: Settings| view_parts(&bytes, &NUMBERED, settings).lines().next().expect("a line").to_string();
+    let line = first(Settings { depth: 1, ..STANDARD });
+    assert_eq!(line, "# 24 bytes: refused 4 2: this word is deeper than 1");
+    let line = first(Settings { depth: 0, ..STANDARD });
+    let ranges = "comparisons 0 to 16, depth 1 to 256, members 0 to 128";
+    assert_eq!(line, format!("# 24 bytes: refused 19 0: a setting is outside its range: {ranges}"));
+    assert_eq!(refusal_meaning(9, STANDARD), "a condition of this rule is an implication over more than 10 comparisons");
 }
 
 #[test]
@@ -105,7 +139,7 @@ fn byte_counts_that_are_refused() {
     for length in [0, 1, 3, 7, 32_769, 32_770, 32_772, 40_000] {
         let bytes: Vec<u8> = (0..length).map(|i| (i * 7) as u8).collect();
         all(&bytes);
-        let first = view(&bytes).lines().next().expect("a line").to_string();
+        let first = view(&bytes, STANDARD).lines().next().expect("a line").to_string();
         assert!(first.ends_with(&format!("; this file has {length}")), "{first}");
     }
 }
@@ -131,7 +165,7 @@ fn the_text_of_a_small_file() {
 >    9 | 33:3                       # REFUSED 8: a condition of this rule fails; evidence: flow rule 3, scalar assignment: \
 P same as Q with the right side for the scalar
 ";
-    assert_eq!(view(&bytes), text);
+    assert_eq!(view(&bytes, STANDARD), text);
 }
 
 #[test]
@@ -147,7 +181,7 @@ expression (test)
      4 | 32:0
      5 | 33:5
 ";
-    assert_eq!(view(&bytes), text);
+    assert_eq!(view(&bytes, STANDARD), text);
 }
 
 #[test]
@@ -168,7 +202,7 @@ procedure 1
      9 | 33:31                      # evidence: flow rule 31, call: P same as the procedure's precondition, Q same as its \
 postcondition
 ";
-    assert_eq!(view(&bytes), text);
+    assert_eq!(view(&bytes, STANDARD), text);
 }
 
 #[test]
@@ -200,7 +234,7 @@ precondition
 postcondition
   true ⇒ x1
 ";
-    assert_eq!(view_parts(&assemble(text).expect("a text"), &NUMBERED), parts);
+    assert_eq!(view_parts(&assemble(text).expect("a text"), &NUMBERED, STANDARD), parts);
 }
 
 /// Every form of command but a call, and both kinds of array assignment.
@@ -227,16 +261,16 @@ precondition
 postcondition
   (empty)
 ";
-    assert_eq!(view_parts(&bytes, &NUMBERED), parts);
+    assert_eq!(view_parts(&bytes, &NUMBERED, STANDARD), parts);
 }
 
 /// The answer comes first, and the parts follow if the file reads.
 #[test]
 fn parts_of_generated_files() {
     for bytes in generated() {
-        let text = view_parts(&bytes, &NUMBERED);
+        let text = view_parts(&bytes, &NUMBERED, STANDARD);
         assert!(text.starts_with(&format!("# {} bytes: {}", bytes.len(), check(&bytes).line())));
-        assert_eq!(text.contains("\nprogram\n  "), read(&bytes).is_ok());
+        assert_eq!(text.contains("\nprogram\n  "), read(&bytes, STANDARD).is_ok());
     }
 }
 
@@ -305,7 +339,7 @@ fn the_programs() {
     std::fs::write(path("file"), &bytes).expect("a file");
     let viewed = Command::new(env!("CARGO_BIN_EXE_flowview")).arg(path("file")).output().expect("flowview");
     assert_eq!(viewed.status.code(), Some(1), "a refused file");
-    assert_eq!(viewed.stdout, view(&bytes).into_bytes());
+    assert_eq!(viewed.stdout, view(&bytes, STANDARD).into_bytes());
     std::fs::write(path("text"), &viewed.stdout).expect("a text");
     let flowasm = |arguments: &[&str]| {
         let paths = arguments.iter().map(|name| path(name));

@@ -1,5 +1,6 @@
 //! All rows of the outside vectors in ../tests, or in the folder SECOND_VECTORS if it is given.
 
+use second::layout::settings::STANDARD;
 use second::naive::judge::check;
 use second::naive::run::{run, SCALARS};
 use second::tool::calls::{compare_rows, NAIVE};
@@ -46,7 +47,7 @@ fn run_rows() {
         let changes = fields.get(6).copied().unwrap_or("");
         let mut store = old.clone();
         let (scalars, arrays) = store.split_at_mut(SCALARS);
-        let outcome = run(&bytes, budget, scalars, arrays);
+        let outcome = run(&bytes, budget, scalars, arrays, STANDARD);
         let given = format!("{} {} [{}]", outcome.end_text(), outcome.steps, changes_of(&old, &store));
         let wanted = format!("{} {} [{changes}]", fields[2], fields[3]);
         if given == wanted {
@@ -66,7 +67,7 @@ fn call_rows() {
     let (compared, differ) = compare_rows(&text, &NAIVE).expect("rows of calls");
     println!("calls.tsv: {compared} rows, {} differ", differ.len());
     assert!(differ.is_empty(), "{}", differ.join("\n"));
-    assert!(compared > 50);
+    assert!(compared > 100);
 }
 
 fn whole_files(sub: &str) {

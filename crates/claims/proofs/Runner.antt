@@ -26,7 +26,7 @@ of-run budget (stops u due e) = executes-number budget (stops u due e)
 
 -- a refusal at reading is none of a run
 not-of-run : (k : ℕ) → ReadingNumber k → (12 ≤ k) × (k ≤ 15) → ⊥
-not-of-run k h x = elim (h .1) [ inl l ↦ omega (arith, l, x .0) | inr e ↦ omega (arith, e, x .1) ]
+not-of-run k h x = elim (h .1) [ inl l ↦ omega (arith, l, x .0) | inr l ↦ omega (arith, l, x .1) ]
 
 module _ (limits : Limits) (bytes : List ℕ) (budget : ℕ) (m : Lent) where
   ran : (f : File) → Starts limits bytes budget m f → OfRun (runOf limits bytes budget m .answer)

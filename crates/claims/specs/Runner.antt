@@ -28,7 +28,7 @@ OfRun done = Unit {0}
 OfRun (refused k p) = (12 ≤ k) × (k ≤ 15)
 
 pub record Runner (limits : Limits) (bytes : List ℕ) (budget : ℕ) (m : Lent) : Type 0 where
-  -- 1 to 7 and 16, then 10, then 11: no step, and the store as it was lent
+  -- 19, 1 to 7 and 16, then 10, then 11: no step, and the store as it was lent
   pub not-read : (k p : ℕ) → fileOf limits bytes ≡ fault k p → runOf limits bytes budget m ≡ notRun k p m
   pub over-budget : (f : File) (p : ℕ) → fileOf limits bytes ≡ read f p → 1000000 < budget →
       runOf limits bytes budget m ≡ notRun 10 0 m

@@ -1,13 +1,14 @@
--- The starred rows of document 01's "Table of files", and the least and the greatest payload of each case of request
--- [4] of document 02.
+-- The starred rows of document 01's "Table of files", the least and the greatest payload of each case of request [4] of document 02, and
+-- files at the ends of settings (request [6]).
 -- Trusted. Assumes nothing.
 --     bytesOf                        the bytes of words that are written as kind and payload
---     TableRow                       a file with its verdict; a constant's payload with its integer; a run of a `for` over skip
+--     TableRow                       a file with its verdict; one under settings; a constant's payload with its integer; a run of a `for` over skip
 --     storeWith, copying, skipped    a store and files of the rows
 --     ConstantIs, RanAs              what a constant is worth, and how a run ends
 --     Right, AllRight                a row, and each of many, is as the definitions say
 --     starredRows                    the rows of document 01
 --     payloadRows                    those of request [4]
+--     implied, settingsRows          a file with an implication over one comparison, of depth 3, with sets of one member; those of request [6]
 use mathlib.Core.Path.{_≡_}
 use mathlib.Core.List.{List, [], _∷_}
 use Prim.Native.Nat.{ℕ, _+_, _*_, _/_, _%_}
@@ -15,7 +16,7 @@ use lib.IntN.{ℤ, pos, negsuc}
 use lib.ListN.{getD, replicate}
 use Rattle.language.specs.Syntax.{Arithmetic, Expr}
 use Rattle.language.specs.Store.{value}
-use Rattle.rules.specs.Context.{standard}
+use Rattle.rules.specs.Context.{Limits, standard, settingsOf}
 use Rattle.rules.specs.Judge.{Verdict, accepted, refused}
 use Rattle.layout.specs.Bytes.{wordsOf, payloads}
 use Rattle.layout.specs.Reading.{Reading, read, fault}
@@ -35,6 +36,7 @@ bytesOf (w ∷ l) =
 -- with q in scalar 0
 pub data TableRow : Type 0 where
   file : List (ℕ × ℕ) → Verdict → TableRow
+  under : Limits → List (ℕ × ℕ) → Verdict → TableRow
   constant : ℕ → ℤ → TableRow
   forSkip : ℤ → ℕ → Answer → ℕ → ℤ → TableRow
 
@@ -60,6 +62,7 @@ RanAs r a n q = (r .answer ≡ a) × (r .steps ≡ n) × (getD (r .store .scalar
 
 abbrev pub Right : TableRow → Type 0
 Right (file l v) = verdictOf standard (bytesOf l) ≡ v
+Right (under limits l v) = verdictOf limits (bytesOf l) ≡ v
 Right (constant p z) = ConstantIs (expression (wordsOf (bytesOf ((1, p) ∷ []))) 1 Arithmetic 0) z
 Right (forSkip m budget a n q) = RanAs (runOf standard (bytesOf skipped) budget (storeWith m)) a n q
 
@@ -88,3 +91,24 @@ unfoldable pub payloadRows : List TableRow
 payloadRows =
     constant 0 (pos 0) ∷ constant 33554431 (pos 33554431)
     ∷ constant 33554432 (negsuc 33554431) ∷ constant 67108863 (negsuc 0) ∷ []
+
+-- skip, from x0 < 0 ⇒ x9 to false ⇒ x9: false implies x0 < 0
+abbrev pub implied : List (ℕ × ℕ)
+implied =
+    (63, 16) ∷ (24, 0) ∷ (32, 1) ∷ (8, 1) ∷ (2, 0) ∷ (1, 0) ∷ (2, 9) ∷ (32, 1) ∷ (9, 0) ∷ (2, 9) ∷ (33, 7) ∷ (32, 1) ∷ (9, 0) ∷ (2, 9)
+    ∷ (34, 18) ∷ (33, 1) ∷ []
+
+unfoldable pub settingsRows : List TableRow
+settingsRows =
+    under (settingsOf 17 128 64) [] (refused 19 0)
+    ∷ under (settingsOf 10 0 64) [] (refused 19 0)
+    ∷ under (settingsOf 10 257 64) implied (refused 19 0)
+    ∷ under (settingsOf 10 128 129) implied (refused 19 0)
+    ∷ under (settingsOf 0 1 0) [] (refused 1 0)
+    ∷ under (settingsOf 0 1 0) ((63, 5) ∷ (24, 0) ∷ (32, 0) ∷ (32, 0) ∷ (33, 10) ∷ []) (accepted 1)
+    ∷ under (settingsOf 0 3 1) implied (refused 9 14)
+    ∷ under (settingsOf 1 2 1) implied (refused 4 4)
+    ∷ under (settingsOf 1 3 0) implied (refused 5 2)
+    ∷ under (settingsOf 1 3 1) implied (accepted 3)
+    ∷ under (settingsOf 16 256 128) implied (accepted 3)
+    ∷ []

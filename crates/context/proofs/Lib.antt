@@ -1,3 +1,3 @@
 -- Laws of contexts.
---     Limits    the limits of a context with procedures
+--     Limits    the limits of a context with procedures, and settings
 pub mod Limits

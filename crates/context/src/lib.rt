@@ -1,4 +1,5 @@
 // What a file is read and judged under, and what a call answers where it refuses.
+pub mod settings; // settings.rt: limits as settings
 
 // The context: the most comparisons of an implication, the most depth, the most members of a set (document 01, "Limits"); and
 // how many procedures of the file may be called (document 02, request [3]), 0 while it is read.

@@ -1,4 +1,4 @@
--- The order of the runner's refusals (document 01, "Runner": it reads as 1 to 7, then 10, 11, and runs the command). At
+-- The order of the runner's refusals (document 01, "Runner": it reads as 19 and 1 to 7, then 10, 11, and runs the command). At
 -- those refusals no step is reported and the store is as it was lent.
 -- Assumes nothing.
 --     not-read-is, over-budget-is, ill-sized-is, run-is    the answer, by what holds of bytes, budget and store
@@ -16,9 +16,9 @@ use Rattle.execution.specs.Lent.{Lent}
 use Rattle.execution.specs.Run.{run}
 use Rattle.execution.specs.Ran.{Ran, notRun, ranOf, wellSized, bodyPlace, runFile, runOf}
 
--- 1 to 7, then 10, then 11: no step is run, and the store is as it was lent; then the command is run
+-- 19 and 1 to 7, then 10, then 11: no step is run, and the store is as it was lent; then the command is run
 module _ (limits : Limits) (bytes : List ℕ) (budget : ℕ) (m : Lent) where
-  -- 1 to 7
+  -- 19 and 1 to 7
   pub not-read-is : (k p : ℕ) → fileOf limits bytes ≡ fault k p → runOf limits bytes budget m ≡ notRun k p m
   unfolding runOf
   not-read-is k p e = rw (e, runOf)

@@ -1,4 +1,4 @@
--- What the bytes of a file give: a program whose identifiers are below 32, or a refusal from 1 to 7, or 16.
+-- What the bytes of a file give: a program whose identifiers are below 32, or a refusal: 1 to 7, 16 or 19.
 -- Assumes nothing.
 --     expression-small, command-small    what fits the layout's ranges
 --     file-words                         a file that is read, by its words
@@ -17,7 +17,7 @@ use lib.Dec.{eqb, ltb}
 use Rattle.language.specs.Syntax.{Sort, Expr, constant, scalar, operation, select, compare, truth, and, or, neg}
 use Rattle.language.specs.Syntax.{array, zeros, update, toScalar, toArray}
 use Rattle.language.specs.Syntax.{Command, skip, sequence, assert, assign, ifElse, while, for, call}
-use Rattle.rules.specs.Context.{Limits, Procedure, Context, alone, itemAt, bodyOf}
+use Rattle.rules.specs.Context.{Limits, withinRanges, Procedure, Context, alone, itemAt, bodyOf}
 use Rattle.layout.specs.Bytes.{wordsOf, wordCount, numberAt, payloads}
 use Rattle.layout.specs.Reading.{Reading, read, fault, onRead, firstPlace}
 use Rattle.layout.specs.Program.{Program, procedureOf, after, afterAll}
@@ -25,9 +25,10 @@ use Rattle.layout.specs.Call.{wrongCall}
 use Rattle.layout.specs.For.{unsteadyAt}
 use Rattle.layout.specs.Spelling.{FitsExpression, FitsCommand}
 use Rattle.layout.specs.FileWords.{ProgramsStand}
-use Rattle.layout.specs.File.{File, parts, steadyFile, callsTested, finish, badLength, wordsRead, fileOf}
+use Rattle.layout.specs.File.{File, parts, steadyFile, callsTested, finish, badLength, wordsRead, bytesRead, fileOf}
 use Rattle.layout.proofs.WholeFile.{parts-fault, file-stood}
 use Rattle.layout.proofs.Resolved.{item-last}
+use Rattle.layout.proofs.Settings.{settings-read}
 use Rattle.execution.proofs.Small.{SmallExpression, SmallAssignment, SmallCommand}
 
 expression-small : {k : Sort} (e : Expr k) (d : ℕ) → FitsExpression e d → SmallExpression e
@@ -90,8 +91,8 @@ programs-small Γ file (g ∷ l) f at p b h =
 module _ (limits : Limits) (bytes : List ℕ) where
   -- what was read was read from words
   pub file-words : (f : File) (p : ℕ) → fileOf limits bytes ≡ read f p → wordsRead limits (wordsOf bytes) ≡ read f p
-  unfolding fileOf
-  file-words f p = go (badLength bytes)
+  unfolding bytesRead
+  file-words f p e = go (badLength bytes) (settings-read limits bytes f p e .was-read)
     where
       go : (t : Bool) → elim t [ true ↦ fault 1 0 | false ↦ wordsRead limits (wordsOf bytes) ] ≡ read f p →
           wordsRead limits (wordsOf bytes) ≡ read f p
@@ -103,9 +104,9 @@ module _ (limits : Limits) (bytes : List ℕ) where
       let h = file-stood limits (wordsOf bytes) f p (file-words f p e) .stands .programs in
       programs-small (alone limits) (wordsOf bytes) (f .procedures) (f .main) _ _ no-bodies h
 
--- a refusal from 1 to 7, or 16
+-- 1 to 7, 16 or 19
 abbrev pub ReadingNumber : ℕ → Type 0
-ReadingNumber n = (1 ≤ n) × ((n ≤ 7) ⊎ (n ≡ 16))
+ReadingNumber n = (1 ≤ n) × ((n ≤ 7) ⊎ (16 ≤ n))
 
 abbrev Numbered : Reading File → Type 0
 Numbered (read f p) = Unit {0}
@@ -134,7 +135,7 @@ module _ (limits : Limits) (file : List ℕ) where
     where
       go : (o : Option ℕ) → Numbered (elim o [ none ↦ steadyFile limits file f p | some at ↦ fault 16 at ])
       go none = steady-numbered f p
-      go (some at) = (omega arith, inr refl)
+      go (some at) = (omega arith, inr (omega arith))
 
   finish-numbered : (f : File) (p : ℕ) → Numbered (finish limits file f p)
   unfolding finish
@@ -163,13 +164,21 @@ module _ (limits : Limits) (file : List ℕ) where
       go false e = (omega arith, inl (omega arith))
 
 module _ (limits : Limits) (bytes : List ℕ) where
-  file-numbered : Numbered (fileOf limits bytes)
-  unfolding fileOf
-  file-numbered = go (badLength bytes)
+  bytes-numbered : Numbered (bytesRead limits bytes)
+  unfolding bytesRead
+  bytes-numbered = go (badLength bytes)
     where
       go : (t : Bool) → Numbered (elim t [ true ↦ fault 1 0 | false ↦ wordsRead limits (wordsOf bytes) ])
       go true = (omega arith, inl (omega arith))
       go false = words-numbered limits (wordsOf bytes)
+
+  file-numbered : Numbered (fileOf limits bytes)
+  unfolding fileOf
+  file-numbered = go (withinRanges limits)
+    where
+      go : (t : Bool) → Numbered (elim t [ true ↦ bytesRead limits bytes | false ↦ fault 19 0 ])
+      go true = bytes-numbered
+      go false = (omega arith, inr (omega arith))
 
   pub file-refused : (n p : ℕ) → fileOf limits bytes ≡ fault n p → ReadingNumber n
   file-refused n p e = subst Numbered e file-numbered

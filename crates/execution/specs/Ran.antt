@@ -1,4 +1,4 @@
--- The runner's answer on bytes (document 01, "Runner" and "Judging order" 1 to 7 and 10 to 15; document 02, request [3]).
+-- The runner's answer on bytes (document 01, "Runner" and "Judging order" 1 to 7 and 10 to 15; document 02, requests [3] and [6]).
 -- Trusted. Assumes nothing.
 --     Answer, Ran       ended or refused; with the steps finished and the store afterwards
 --     notRun, ranOf     of a refusal before the run; of a run on a budget
@@ -27,7 +27,7 @@ pub record Ran : Type 0 where
   pub steps : ℕ
   pub store : Lent
 
--- refusals 1 to 7, 16, 10 and 11
+-- refusals 19, 1 to 7, 16, 10 and 11
 abbrev pub notRun : ℕ → ℕ → Lent → Ran
 notRun k p m = record { answer = refused k p; steps = 0; store = m }
 

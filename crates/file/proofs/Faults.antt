@@ -1,8 +1,8 @@
--- Refusals 1 to 7 and 16 are at a place inside the file or at its end (document 01, "Judging order").
+-- Refusals 1 to 7, 16 and 19 are at a place inside the file or at its end (document 01, "Judging order").
 -- Assumes nothing.
---     FaultBy                    a refusal's number, and a place among so many words or at their end
---     words-fault, file-fault    of words; of bytes
---     few-words                  a file whose byte count is good has at most 8,192 words
+--     FaultBy                                 a refusal's number, up to 19, and a place among so many words or at their end
+--     words-fault, bytes-fault, file-fault    of words; of bytes; of bytes under settings
+--     few-words                               a file whose byte count is good has at most 8,192 words
 use mathlib.Core.Path.{_≡_, refl, sym, subst}
 use mathlib.Core.Bool.{Bool, true, false}
 use mathlib.Core.List.{List, [], _∷_}
@@ -11,13 +11,13 @@ use Prim.Native.Nat.{ℕ, zero, suc, _+_, _*_, _<_, _≤_}
 use native.Mathlib.Omega.{arith}
 use borrow.Author.Tests.{eqb-true, ltb-true}
 use lib.Dec.{eqb, ltb}
-use Rattle.rules.specs.Context.{Limits, alone}
+use Rattle.rules.specs.Context.{Limits, withinRanges, alone}
 use Rattle.layout.specs.Bytes.{wordsOf, wordCount, numberAt, payloads}
 use Rattle.layout.specs.Reading.{Reading, read, fault, onRead, firstPlace}
 use Rattle.layout.specs.Program.{afterAll}
 use Rattle.layout.specs.Call.{wrongCall}
 use Rattle.layout.specs.For.{unsteadyAt}
-use Rattle.layout.specs.File.{File, parts, steadyFile, callsTested, finish, wordsRead, badLength, fileOf}
+use Rattle.layout.specs.File.{File, parts, steadyFile, callsTested, finish, wordsRead, badLength, bytesRead, fileOf}
 use Rattle.layout.proofs.WholeFile.{parts-fault}
 use Rattle.words.proofs.Loading.{words-length}
 use Rattle.words.proofs.Lengths.{bad-file, good-file, good-length}
@@ -25,7 +25,7 @@ use Rattle.words.proofs.Lengths.{bad-file, good-file, good-length}
 -- of a refusal: its number, and a place among n words or at their end
 abbrev pub FaultBy : ℕ → Reading File → Type 0
 FaultBy n (read f p) = Unit {0}
-FaultBy n (fault k p) = (k ≤ 16) × (p ≤ n)
+FaultBy n (fault k p) = (k ≤ 19) × (p ≤ n)
 
 -- n places from `at` on
 first-inside : (t : ℕ → Bool) (n at p : ℕ) → firstPlace t n at ≡ some p → p < at + n
@@ -96,13 +96,21 @@ few-words bytes h =
     omega arith
 
 module _ (limits : Limits) (bytes : List ℕ) where
-  pub file-fault : FaultBy 8192 (fileOf limits bytes)
-  file-fault = go (badLength bytes) refl
+  pub bytes-fault : FaultBy 8192 (bytesRead limits bytes)
+  bytes-fault = go (badLength bytes) refl
     where
-      go : (t : Bool) → badLength bytes ≡ t → FaultBy 8192 (fileOf limits bytes)
+      go : (t : Bool) → badLength bytes ≡ t → FaultBy 8192 (bytesRead limits bytes)
       go true t =
           subst (λ (x : Reading File). FaultBy 8192 x) (sym (bad-file limits bytes t)) (omega arith, omega arith)
       go false t =
           subst (λ (x : Reading File). FaultBy 8192 x) (sym (good-file limits bytes t))
           (small-fault (wordCount (wordsOf bytes)) 8192 (wordsRead limits (wordsOf bytes)) (few-words bytes t)
           (words-fault limits (wordsOf bytes)))
+
+  pub file-fault : FaultBy 8192 (fileOf limits bytes)
+  unfolding fileOf
+  file-fault = go (withinRanges limits)
+    where
+      go : (t : Bool) → FaultBy 8192 (elim t [ true ↦ bytesRead limits bytes | false ↦ fault 19 0 ])
+      go true = bytes-fault
+      go false = (omega arith, omega arith)

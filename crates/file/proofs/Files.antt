@@ -19,7 +19,7 @@ use Rattle.layout.specs.Bytes.{wordsOf, wordCount}
 use Rattle.layout.specs.Reading.{Reading, read, fault, firstPlace}
 use Rattle.layout.specs.Program.{Program}
 use Rattle.layout.specs.Call.{wrongCall}
-use Rattle.layout.specs.File.{File, badLength, wordsRead, fileOf}
+use Rattle.layout.specs.File.{File, badLength, wordsRead, bytesRead}
 use Rattle.layout.specs.FileWords.{FileStands}
 use Rattle.words.specs.Load.{Loaded}
 use Rattle.words.proofs.Loading.{words-length, loaded-words}
@@ -255,8 +255,8 @@ pub record Words (bytes : List ℕ) (Γ : Context) (s : Places) (words table : L
   pub size : length (take (length bytes / 4) words) ≤ 8192
   pub ends-of : EndsOf (take (length bytes / 4) words) table
   pub was-read : Layout.Found s ≡ placesOf (wordsRead (limitsOf Γ) (take (length bytes / 4) words))
-  pub of-file : wordsRead (limitsOf Γ) (take (length bytes / 4) words) ≡ fileOf (limitsOf Γ) bytes
-  pub known : (f : File) (p : ℕ) → fileOf (limitsOf Γ) bytes ≡ read f p →
+  pub of-file : wordsRead (limitsOf Γ) (take (length bytes / 4) words) ≡ bytesRead (limitsOf Γ) bytes
+  pub known : (f : File) (p : ℕ) → bytesRead (limitsOf Γ) bytes ≡ read f p →
       KnownAt (limitsOf Γ) (take (length bytes / 4) words) table f
 
 pub file-words : {bytes words table : List ℕ} {Γ : Context} {r : Layout} {s : Places} →
@@ -265,7 +265,7 @@ file-words {bytes} {words} {table} {Γ} {r} {s} f e =
     let w = f .loaded s e in
     let long : length (take (length bytes / 4) words) ≡ length bytes / 4 = ap length w ∙ words-length bytes in
     let small = f .size s e in
-    let same : wordsRead (limitsOf Γ) (take (length bytes / 4) words) ≡ fileOf (limitsOf Γ) bytes =
+    let same : wordsRead (limitsOf Γ) (take (length bytes / 4) words) ≡ bytesRead (limitsOf Γ) bytes =
     ap (wordsRead (limitsOf Γ)) w ∙ sym (f .from-words s e) in
     record {
       count = sym long;

@@ -6,7 +6,6 @@
 --                                                    refusals 2 to 7 and 16, by what the code finds
 --     words-back                                     what 2 to 7 and 16 let pass, 2 to 6 do
 --     starts-listed, lent-starts                     the starts of the programs, in a list; in the part that was lent for them
---     standard-context                               document 01's limits, in code
 use mathlib.Core.Path.{_≡_, refl, sym, ap, _∙_}
 use mathlib.Core.Bool.{Bool, true, false}
 use mathlib.Core.List.{List, [], _∷_, _++_}
@@ -16,7 +15,7 @@ use native.Mathlib.Omega.{arith}
 use borrow.Author.Tests.{eqb-true}
 use lib.ListN.{length, getD, take, length-take}
 use lib.Seq.{getD-append-add, take-append-le, length-take-le}
-use Rattle.rules.specs.Context.{Limits, standard}
+use Rattle.rules.specs.Context.{Limits}
 use Rattle.layout.specs.Bytes.{wordCount}
 use Rattle.layout.specs.Reading.{Reading, read, fault, onRead, firstPlace}
 use Rattle.layout.specs.Program.{Program}
@@ -25,7 +24,6 @@ use Rattle.layout.specs.For.{unsteadyAt}
 use Rattle.layout.specs.File.{File, parts, steadyFile, callsTested, wordsRead}
 use Rattle.layout.specs.FileWords.{FileStands}
 use Rattle.layout.proofs.WholeFile.{parts-stood, parts-inside, file-stood}
-use Rattle.context.specs.Contexts.{limitsOf}
 use Rattle.context.specs.declared.Refusal.{Refusal}
 use Rattle.reader.specs.File.{placesOf, startsFrom, startsOf, ended, headed, readOf}
 use Rattle.reader.specs.Program.{places}
@@ -136,7 +134,3 @@ lent-starts w lent left rest f h e =
     (ap (λ i. getD (take (tableAt w) lent ++ (left ++ rest)) (i + j) 0) (sym n)
     ∙ getD-append-add (take (tableAt w) lent) (left ++ rest) j 0))
     (take-append-le (length (startsOf f)) left rest k ∙ e)
-
-pub standard-context : limitsOf (record { comparisons = 10; depth = 128; members = 64; procedures = 0 }) ≡ standard
-unfolding standard
-standard-context = refl

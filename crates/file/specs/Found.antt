@@ -1,6 +1,6 @@
 -- What refusals 1 to 7 and 16 leave of a file: its words, their table and the places of its parts (document 01, "Judging order";
 -- document 02, request [3]).
--- Working: `steady-tabled`, `refused-tabled` and `loaded-file` of proofs/Files tie it to the layout's `wordsRead` and `fileOf`.
+-- Working: `steady-tabled`, `refused-tabled` and `loaded-file` of proofs/Files tie it to the layout's `wordsRead` and `bytesRead`.
 -- Assumes nothing.
 --     TableRoom, Found     room for the table of some words; what refusals 2 to 6 leave of words that they let pass
 --     CallsRight, Called   the same with refusal 16; refusals 2 to 6 and 16
@@ -17,7 +17,7 @@ use lib.ListN.{length, take}
 use Rattle.rules.specs.Context.{Limits, alone}
 use Rattle.layout.specs.Bytes.{wordsOf, wordCount}
 use Rattle.layout.specs.Reading.{read, fault, firstPlace}
-use Rattle.layout.specs.File.{File, badLength, wordsRead, fileOf}
+use Rattle.layout.specs.File.{File, badLength, wordsRead, bytesRead}
 use Rattle.layout.specs.Before.{contextBefore}
 use Rattle.ends.specs.Ends.{EndsOf}
 use Rattle.ends.specs.Blocks.{tableAt}
@@ -75,11 +75,11 @@ pub record CanLoad (bytes words table : List ℕ) : Type 0 where
 
 -- the words stand in front of the room that was lent for them
 pub record FileRead (bytes : List ℕ) (Γ : Context) (r : Layout) (words table : List ℕ) : Type 0 where
-  pub layout : r ≡ placesOf (fileOf (limitsOf Γ) bytes)
+  pub layout : r ≡ placesOf (bytesRead (limitsOf Γ) bytes)
   pub size : (s : Places) → r ≡ Layout.Found s → length bytes ≤ 32768
   pub from-words : (s : Places) → r ≡ Layout.Found s →
-      fileOf (limitsOf Γ) bytes ≡ wordsRead (limitsOf Γ) (wordsOf bytes)
+      bytesRead (limitsOf Γ) bytes ≡ wordsRead (limitsOf Γ) (wordsOf bytes)
   pub loaded : (s : Places) → r ≡ Layout.Found s → take (length bytes / 4) words ≡ wordsOf bytes
   pub inside : (s : Places) → r ≡ Layout.Found s → length bytes / 4 ≤ length words
   pub ends-of : (s : Places) → r ≡ Layout.Found s → EndsOf (wordsOf bytes) table
-  pub known : (f : File) (p : ℕ) → fileOf (limitsOf Γ) bytes ≡ read f p → KnownAt (limitsOf Γ) (wordsOf bytes) table f
+  pub known : (f : File) (p : ℕ) → bytesRead (limitsOf Γ) bytes ≡ read f p → KnownAt (limitsOf Γ) (wordsOf bytes) table f

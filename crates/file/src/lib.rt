@@ -14,22 +14,7 @@ use scan::steady::Steadiness;
 use scan::steady::first_unsteady;
 use words::load::bad_length;
 use words::load::load;
-ghost use mathlib.Core.Path.{_≡_};
-ghost use Rattle.rules.specs.Context.{standard};
-ghost use Rattle.context.specs.Contexts.{limitsOf};
 ghost use Rattle.file.specs.Found.{Found, CallsRight, Called, TableRoom, TableMade, Tabled, CanLoad, FileRead};
-
-// Document 01's limits.
-pub fn standard_context() -> Context
-    ensures { λ r. ⌜ limitsOf r ≡ standard ⌝ }
-{
-    Context {
-        comparisons: 10,
-        depth: 128,
-        members: 64,
-        procedures: 0,
-    }
-}
 
 // The table of a file: the ends of all that starts in its words, the masks of its procedures, and then those of its blocks, in which
 // a call counts what its procedure modifies.

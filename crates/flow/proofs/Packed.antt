@@ -1,15 +1,16 @@
 -- The numbers of a verdict are small, so the answer for C has room for them (document 01, "Judging order").
 -- Assumes nothing.
 --     SmallBy, verdict-small             the numbers of a verdict
---     FewBy, small-few                   the same with 17 and 18
 --     answer-small, answer-packed        the numbers of the answer; the number for C
+--     same-checked                       what is promised under the same limits
 --     accepted-verdict, was-accepted, was-refused
 --                                        the verdict, by the check's answer
+--     checked-small, checked-packed      the check's answer for C
 use mathlib.Core.Path.{_≡_, refl, sym, _∙_, ap, subst}
 use mathlib.Core.List.{List}
 use Prim.Native.Nat.{ℕ, _≤_}
 use native.Mathlib.Omega.{arith}
-use Rattle.rules.specs.Context.{Limits, alone, standard}
+use Rattle.rules.specs.Context.{Limits, alone}
 use Rattle.rules.specs.Judge as judge
 use Rattle.layout.specs.Bytes.{wordsOf}
 use Rattle.layout.specs.Reading.{Reading, read, fault}
@@ -29,7 +30,7 @@ use Rattle.flow.proofs.Refusals.{programs-inside}
 -- ---- refusals 8 and 9, and the count
 abbrev pub SmallBy : ℕ → judge.Verdict → Type 0
 SmallBy n (judge.accepted m) = m ≤ n
-SmallBy n (judge.refused k i) = (k ≤ 16) × (i ≤ n)
+SmallBy n (judge.refused k i) = (k ≤ 19) × (i ≤ n)
 
 module _ (limits : Limits) (bytes : List ℕ) where
   read-small : (f : File) (p : ℕ) → fileOf limits bytes ≡ read f p → (v : judge.Verdict) →
@@ -56,20 +57,11 @@ module _ (limits : Limits) (bytes : List ℕ) where
       go (fault n p) e h = h
 
 -- ---- the answer
--- 18 is the last number of a refusal
-abbrev pub FewBy : judge.Verdict → Type 0
-FewBy (judge.accepted m) = m ≤ 8192
-FewBy (judge.refused k i) = (k ≤ 18) × (i ≤ 8192)
-
-pub small-few : (v : judge.Verdict) → SmallBy 8192 v → FewBy v
-small-few (judge.accepted m) h = h
-small-few (judge.refused k i) h = (omega (arith, h .0), h .1)
-
-answer-few : (v : judge.Verdict) → FewBy v → SmallAnswer (answerOf v)
+answer-few : (v : judge.Verdict) → SmallBy 8192 v → SmallAnswer (answerOf v)
 answer-few (judge.accepted m) h = h
 answer-few (judge.refused k i) h = h
 
-pub answer-small : (v : judge.Verdict) {r : Verdict} → FewBy v → r ≡ answerOf v → SmallAnswer r
+pub answer-small : (v : judge.Verdict) {r : Verdict} → SmallBy 8192 v → r ≡ answerOf v → SmallAnswer r
 answer-small v h e = subst SmallAnswer (sym e) (answer-few v h)
 
 answer-number : (v : judge.Verdict) → packedAnswer (answerOf v) ≡ packed v
@@ -80,6 +72,10 @@ pub answer-packed : (v : judge.Verdict) {r : Verdict} {n : ℕ} → r ≡ answer
 answer-packed v e h = h ∙ ap packedAnswer e ∙ answer-number v
 
 -- ---- the verdict, by the check's answer
+-- under the same limits
+pub same-checked : {l k : Limits} {bytes : List ℕ} {r : Verdict} → l ≡ k → Checked l bytes r → Checked k bytes r
+same-checked {bytes = bytes} {r} e h = subst (λ x. Checked x bytes r) e h
+
 pub accepted-verdict : (v : judge.Verdict) (n : ℕ) → Accepted n ≡ answerOf v → v ≡ judge.accepted n
 accepted-verdict (judge.accepted m) n e = cc
 accepted-verdict (judge.refused k i) n e = absurd (let z : _≡_ {A = ℕ} 0 1 = cc in omega arith)
@@ -88,9 +84,16 @@ refused-verdict : (v : judge.Verdict) (x : Refusal) → Refused x ≡ answerOf v
 refused-verdict (judge.accepted m) x e = absurd (let z : _≡_ {A = ℕ} 0 1 = cc in omega arith)
 refused-verdict (judge.refused m j) x e = cc
 
-module _ {bytes : List ℕ} {r : Verdict} (h : Checked bytes r) where
-  pub was-accepted : (n : ℕ) → r ≡ Accepted n → verdictOf standard bytes ≡ judge.accepted n
-  was-accepted n e = accepted-verdict (verdictOf standard bytes) n (sym e ∙ h .answer)
+module _ {limits : Limits} {bytes : List ℕ} {r : Verdict} (h : Checked limits bytes r) where
+  pub was-accepted : (n : ℕ) → r ≡ Accepted n → verdictOf limits bytes ≡ judge.accepted n
+  was-accepted n e = accepted-verdict (verdictOf limits bytes) n (sym e ∙ h .answer)
 
-  pub was-refused : (x : Refusal) → r ≡ Refused x → verdictOf standard bytes ≡ judge.refused (x .number) (x .place)
-  was-refused x e = refused-verdict (verdictOf standard bytes) x (sym e ∙ h .answer)
+  pub was-refused : (x : Refusal) → r ≡ Refused x → verdictOf limits bytes ≡ judge.refused (x .number) (x .place)
+  was-refused x e = refused-verdict (verdictOf limits bytes) x (sym e ∙ h .answer)
+
+  -- the number for C
+  pub checked-small : SmallAnswer r
+  checked-small = answer-small (verdictOf limits bytes) (verdict-small limits bytes) (h .answer)
+
+  pub checked-packed : {n : ℕ} → n ≡ packedAnswer r → n ≡ packed (verdictOf limits bytes)
+  checked-packed k = answer-packed (verdictOf limits bytes) (h .answer) k

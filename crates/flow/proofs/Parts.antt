@@ -18,7 +18,7 @@ use Rattle.layout.specs.Bytes.{wordsOf, wordCount}
 use Rattle.layout.specs.Reading.{Reading, read, fault}
 use Rattle.layout.specs.EvidenceWords.{commandPart, setPart}
 use Rattle.layout.specs.Program.{Program, after}
-use Rattle.layout.specs.File.{File, badLength, fileOf}
+use Rattle.layout.specs.File.{File, badLength, bytesRead, fileOf}
 use Rattle.layout.specs.FileWords.{ProgramStands, ProgramsStand}
 use Rattle.layout.specs.Verdict.{judged, verdictOf, bytesBetween, partOf, precondition, postcondition}
 use Rattle.layout.specs.Verdict.{packedPlaces, programPlaces, preconditionPlaces, postconditionPlaces}
@@ -32,6 +32,7 @@ use Rattle.reader.specs.declared.Places.{Places}
 use Rattle.outcomes.specs.Outcome.{withPlaces, outcomeOf}
 use Rattle.outcomes.specs.declared.Outcome.{Outcome}
 use Rattle.outcomes.specs.declared.Outcome.the-variants.{Accepted, Refused}
+use Rattle.layout.proofs.Settings.{settings-read}
 use Rattle.words.proofs.Lengths.{bad-file, good-file, good-length}
 
 -- a file that was read from bytes
@@ -76,10 +77,13 @@ module _ (limits : Limits) (bytes : List ℕ) where
   pub read-bytes : (f : File) (p : ℕ) → fileOf limits bytes ≡ read f p → FileOf limits bytes f p
   read-bytes f p e = go (badLength bytes) refl
     where
+      was-read : bytesRead limits bytes ≡ read f p
+      was-read = settings-read limits bytes f p e .was-read
+
       go : (t : Bool) → badLength bytes ≡ t → FileOf limits bytes f p
-      go true t = absurd (let k = bad-file limits bytes t in let z : _≡_ {A = ℕ} 0 1 = cc in omega arith)
+      go true t = absurd (let k = sym (bad-file limits bytes t) ∙ was-read in let z : _≡_ {A = ℕ} 0 1 = cc in omega arith)
       go false t =
-          file-of f p (good-length bytes t) (file-stood limits (wordsOf bytes) f p (sym (good-file limits bytes t) ∙ e))
+          file-of f p (good-length bytes t) (file-stood limits (wordsOf bytes) f p (sym (good-file limits bytes t) ∙ was-read))
 
   pub record AcceptedAt (n : ℕ) (s : Places) : Type 0 where
     pub file : File

@@ -17,7 +17,7 @@ abbrev pub packedAnswer : Verdict → ℕ
 packedAnswer (Accepted n) = n
 packedAnswer (Refused x) = x .number * 65536 + x .place
 
--- 18 is the last number of a refusal by these calls
+-- 19 is the last number of a refusal by these calls
 abbrev pub SmallAnswer : Verdict → Type 0
 SmallAnswer (Accepted n) = n ≤ 8192
-SmallAnswer (Refused x) = (x .number ≤ 18) × (x .place ≤ 8192)
+SmallAnswer (Refused x) = (x .number ≤ 19) × (x .place ≤ 8192)

@@ -24,7 +24,7 @@ use Rattle.rules.specs.Context.{Limits, Context, alone}
 use Rattle.rules.specs.Evidence.{flow, implication, precondition, Standing, Tree, by, assertion, command, members}
 use Rattle.rules.specs.Evidence.{child, done, _&_, FlowEvidence, SetEvidence, PreEvidence}
 use Rattle.rules.specs.Judge.{Verdict, accepted, refused, oneMore, _also_, judge}
-use Rattle.rules.proofs.Holds.{tally, Everywhere, Holding, pre-holds, set-holds, flow-holds}
+use Rattle.rules.proofs.Holds.{tally, anywhere, Holding, pre-holds, set-holds, flow-holds}
 use Rattle.layout.specs.EvidenceWords.{Part, joined, EachFits, spelledTree, FitsTree}
 use Rattle.layout.specs.Program.{Program, after}
 use Rattle.layout.specs.File.{File}
@@ -159,26 +159,17 @@ counting = record {
         record { counted = λ k z. let u : suc a ≡ k = cc in omega (arith, x, u) }
     passed (refused k i) m h = refused-counts k i (suc m)
 
-anywhere : {s : Standing} (t : Tree s) → Everywhere (λ i. Unit {0}) t
-anywhere (by r i t) = (tt, anywhere t)
-anywhere (assertion φ) = tt
-anywhere (command c) = tt
-anywhere (members p) = tt
-anywhere (child k) = anywhere k
-anywhere done = tt
-anywhere (x & t) = (anywhere x, anywhere t)
-
 module _ (Γ : Context) where
   pub pre-counts : (k : PreEvidence) (φ : Expr Boolean) (c : Command) (φ′ : Expr Boolean) →
       Counts (judge Γ k φ c φ′) (tally k)
-  pre-counts k φ c φ′ = pre-holds counting Γ k φ c φ′ (anywhere k)
+  pre-counts k φ c φ′ = pre-holds counting Γ k φ c φ′ (anywhere (λ i. tt) k)
 
   pub set-counts : (k : SetEvidence) (p q : Members) → Counts (judge Γ k p q) (tally k)
-  set-counts k p q = set-holds counting Γ k p q (anywhere k)
+  set-counts k p q = set-holds counting Γ k p q (anywhere (λ i. tt) k)
 
   pub flow-counts : (k : FlowEvidence) (p : Members) (c : Command) (q : Members) →
       Counts (judge Γ k p c q) (tally k)
-  flow-counts k p c q = flow-holds counting Γ k p c q (anywhere k)
+  flow-counts k p c q = flow-holds counting Γ k p c q (anywhere (λ i. tt) k)
 
 -- ---- the same by the words of the file
 same-kind : (n : ℕ) (w : Word) → n / payloads ≡ kindOf w → isEvidence n ≡ isEvidenceWord w

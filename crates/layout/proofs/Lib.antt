@@ -14,9 +14,12 @@
 --     Faults             where readings end
 --     WholeFile          a whole file
 --     Resolved           calls that hold the bodies of their procedures
+--     FileNodes          what each word of a file that was read is the first of
+--     Fors               each word of kind 31 of a file that was read is the first of a `for`
 --     Before             the context of a program that follows procedures
 --     Range              the words of evidence and of a file are in range
 --     Counted            the count of evidence words
+--     Settings           settings within their ranges
 pub mod Constant
 pub mod Words
 pub mod Stands
@@ -30,6 +33,9 @@ pub mod BackEvidence
 pub mod Faults
 pub mod WholeFile
 pub mod Resolved
+pub mod FileNodes
+pub mod Fors
 pub mod Before
 pub mod Range
 pub mod Counted
+pub mod Settings

@@ -1,4 +1,4 @@
--- A whole file (document 01, "Layout" and "Judging order" 1 to 7; document 02, request [3]): 63:n, a table of procedures if
+-- A whole file (document 01, "Layout" and "Judging order" 1 to 7; document 02, requests [3] and [6]): 63:n, a table of procedures if
 -- there are any, and the main program.
 -- Trusted. Assumes nothing.
 --     File                               the procedures and the main program
@@ -6,14 +6,15 @@
 --     steadyFile, callsTested, finish
 --                                        refusal 7; 16, then 7; 6, then 16 and 7
 --     wordsRead                          refusals 2 to 7 and 16, of words
---     badLength, fileOf                  refusal 1; 1 to 7 and 16, of bytes
+--     badLength, bytesRead               refusal 1; 1 to 7 and 16, of bytes
+--     fileOf                             refusal 19; then these
 use mathlib.Core.Bool.{Bool, true, false, not, _&&_, _||_, cond}
 use mathlib.Core.List.{List, [], _∷_}
 use mathlib.Core.Option.{Option, none, some}
 use Prim.Native.Nat.{ℕ, zero, suc, _+_, _*_, _%_}
 use lib.Dec.{eqb, ltb, leb}
 use lib.ListN.{length}
-use Rattle.rules.specs.Context.{Limits, Context, alone}
+use Rattle.rules.specs.Context.{Limits, withinRanges, Context, alone}
 use Rattle.layout.specs.Bytes.{wordsOf, wordCount, numberAt, kindAt, payloadAt, payloads}
 use Rattle.layout.specs.Reading.{Reading, read, fault, Reader, onRead, allowed, firstPlace}
 use Rattle.layout.specs.Program.{Program, program, after, afterAll}
@@ -75,5 +76,9 @@ wordsRead limits file =
 abbrev pub badLength : List ℕ → Bool
 badLength bytes = eqb (length bytes) 0 || (ltb 32768 (length bytes) || not (eqb (length bytes % 4) 0))
 
+unfoldable pub bytesRead : Limits → List ℕ → Reading File
+bytesRead limits bytes = elim (badLength bytes) [ true ↦ fault 1 0 | false ↦ wordsRead limits (wordsOf bytes) ]
+
+-- refusal 19: a setting is outside its range; then 1 to 7 and 16
 unfoldable pub fileOf : Limits → List ℕ → Reading File
-fileOf limits bytes = elim (badLength bytes) [ true ↦ fault 1 0 | false ↦ wordsRead limits (wordsOf bytes) ]
+fileOf limits bytes = elim (withinRanges limits) [ true ↦ bytesRead limits bytes | false ↦ fault 19 0 ]

@@ -18,7 +18,7 @@ abbrev pub steady : ℕ → ℕ → Command → Bool
 steady q m c = not (eqb q m) && (not (modifies c (scalarOf q)) && not (modifies c (scalarOf m)))
 
 -- no file is accepted by the second case: at each word of kind 31 of a file that was read a `for` can be read again, as
--- `file-fors` of scan/proofs/Fors says
+-- `file-fors` of proofs/Fors says
 abbrev pub unsteady : Reading Command → Bool
 unsteady (read c p) = onFor c false λ q m c₁. not (steady q m c₁)
 unsteady (fault n p) = false

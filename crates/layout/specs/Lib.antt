@@ -11,11 +11,11 @@
 --     Program         a command with its contract and evidence
 --     Call            refusal 16
 --     For             refusal 7
---     File            refusals 1 to 7 and 16: a file as trees
+--     File            refusals 19, 1 to 7 and 16: a file as trees
 --     Before          the context of a program that follows procedures
 --     FileWords       how a whole file stands by its words
 --     Counted         the count of evidence words
---     Verdict         refusals 1 to 9 and 16: the answer, and the parts of an accepted file
+--     Verdict         refusals 19, 1 to 9 and 16: the answer, and the parts of an accepted file
 pub mod Bytes
 pub mod Constant
 pub mod Reading

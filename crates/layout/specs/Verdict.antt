@@ -1,7 +1,7 @@
--- The answer of the check on bytes (document 01, "Judging order" 1 to 9; document 02, request [3]), and the parts of an accepted file.
+-- The answer of the check on bytes (document 01, "Judging order" 1 to 9; document 02, requests [3] and [6]), and the parts of an accepted file.
 -- Trusted. Assumes nothing.
 --     judgeProgram, judgePrograms            refusals 8 and 9 of a program; of procedures and the main program, in file order
---     judged, verdictOf                      of a file that was read; 1 to 9 and 16 of bytes
+--     judged, verdictOf                      of a file that was read; 19, 1 to 9 and 16 of bytes
 --     bytesBetween, partOf                   the bytes of the words between two places; a part of an accepted file
 --     precondition, postcondition            that part of the caller's bytes; empty if the file is refused
 --     packedPlaces                           two places as one number

@@ -15,7 +15,7 @@ use Rattle.laws.proofs.Bools.{clash}
 use Rattle.layout.specs.Bytes.{wordsOf, wordCount, numberAt, payloads}
 use Rattle.rules.specs.Context.{Limits}
 use Rattle.layout.specs.Reading.{read, fault, onRead}
-use Rattle.layout.specs.File.{File, parts, finish, badLength, wordsRead, fileOf}
+use Rattle.layout.specs.File.{File, parts, finish, badLength, wordsRead, bytesRead}
 use Rattle.words.specs.Load.{wordAt}
 use Rattle.words.proofs.Loading.{words-length, words-at}
 use Rattle.words.proofs.Lengths.{bad-file, good-file}
@@ -70,7 +70,7 @@ module _ (bytes : List ℕ) (good : badLength bytes ≡ false) where
 no-file : {A : Type 0} {n p q : ℕ} {f : File} → fault n p ≡ read f q → A
 no-file e = absurd (let z : _≡_ {A = ℕ} 0 1 = cc in omega arith)
 
-module _ (limits : Limits) (bytes : List ℕ) {f : File} {p : ℕ} (e : fileOf limits bytes ≡ read f p) where
+module _ (limits : Limits) (bytes : List ℕ) {f : File} {p : ℕ} (e : bytesRead limits bytes ≡ read f p) where
   pub read-good : badLength bytes ≡ false
   read-good = go (badLength bytes) refl
     where

@@ -1,31 +1,47 @@
 -- What is claimed of the lent numbers holds.
 -- Assumes nothing.
---     lent-numbers    the claim
+--     outside-lent, few-lent, enough-lent    refusals 19 and 17, and neither
+--     lent-numbers                           the claim
 use mathlib.Core.Path.{_≡_, refl, ap, _∙_}
 use mathlib.Core.Bool.{Bool, true, false}
 use mathlib.Core.List.{List}
 use Prim.Native.Nat.{ℕ, _≤_}
 use native.Mathlib.Omega.{arith}
 use lib.ListN.{length, getD}
-use Rattle.rules.specs.Context.{Limits}
+use Rattle.rules.specs.Context.{Limits, withinRanges}
 use Rattle.layout.specs.Bytes.{wordsOf, wordCount}
 use Rattle.layout.specs.Reading.{Reading, read, fault}
-use Rattle.layout.specs.File.{File, fileOf}
+use Rattle.layout.specs.File.{File, bytesRead}
 use Rattle.masks.specs.WithMasks.{fewNumbers, readLent, storedIf}
 use Rattle.masks.specs.LentNumbers.{LentNumbers}
 use Rattle.masks.proofs.FewNumbers.{read-enough}
 use Rattle.masks.proofs.StoredList.{stored-length, stored-mask, stored-past}
 
+module _ (limits : Limits) (bytes : List ℕ) (n : ℕ) where
+  pub outside-lent : withinRanges limits ≡ false → readLent limits bytes n ≡ fault 19 0
+  unfolding readLent
+  outside-lent h = rw (h, readLent) refl
+
+  pub few-lent : withinRanges limits ≡ true → fewNumbers bytes n ≡ true → readLent limits bytes n ≡ fault 17 0
+  unfolding readLent
+  few-lent h k = rw (h, readLent) (rw k refl)
+
+  pub enough-lent : withinRanges limits ≡ true → fewNumbers bytes n ≡ false → readLent limits bytes n ≡ bytesRead limits bytes
+  unfolding readLent
+  enough-lent h k = rw (h, readLent) (rw k refl)
+
 module _ (limits : Limits) (bytes lent : List ℕ) where
   -- where the file is read, there are as many numbers as words
   lent-enough : (f : File) (p : ℕ) → readLent limits bytes (length lent) ≡ read f p → wordCount (wordsOf bytes) ≤ length lent
   unfolding readLent
-  lent-enough f p e = go (fewNumbers bytes (length lent)) refl e
+  lent-enough f p e = go (withinRanges limits) (fewNumbers bytes (length lent)) refl e
     where
-      go : (b : Bool) → fewNumbers bytes (length lent) ≡ b → elim b [ true ↦ fault 17 0 | false ↦ fileOf limits bytes ] ≡ read f p →
+      go : (a b : Bool) → fewNumbers bytes (length lent) ≡ b →
+          elim a [ true ↦ elim b [ true ↦ fault 17 0 | false ↦ bytesRead limits bytes ] | false ↦ fault 19 0 ] ≡ read f p →
           wordCount (wordsOf bytes) ≤ length lent
-      go true h k = absurd (let z : _≡_ {A = ℕ} 0 1 = cc in omega arith)
-      go false h k = read-enough limits bytes k (length lent) h
+      go false b h k = absurd (let z : _≡_ {A = ℕ} 0 1 = cc in omega arith)
+      go true true h k = absurd (let z : _≡_ {A = ℕ} 0 1 = cc in omega arith)
+      go true false h k = read-enough limits bytes k (length lent) h
 
   abbrev After : Reading File → List ℕ
   After x = storedIf limits (wordsOf bytes) x lent

@@ -8,6 +8,7 @@
 --     Stored     the masks that are filled for a file that was read are those of its words
 --     FewNumbers    refusal 17
 --     LentNumbers    what is claimed of the lent numbers
+--     Raised     the masks under raised limits
 pub mod Asked
 pub mod Joined
 pub mod Filling
@@ -17,3 +18,4 @@ pub mod StoredList
 pub mod Stored
 pub mod FewNumbers
 pub mod LentNumbers
+pub mod Raised

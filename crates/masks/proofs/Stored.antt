@@ -21,6 +21,7 @@ use Rattle.layout.specs.Nodes.{countBeside, counts, countOf, expressionNode, co
 use Rattle.layout.specs.File.{File}
 use Rattle.layout.proofs.Nodes.{opened}
 use Rattle.layout.proofs.Forms.{sort-kind, low-kind}
+use Rattle.layout.proofs.FileNodes.{NoNode, WordAt, of-expression, of-command, of-set, of-none, file-words}
 use Rattle.ends.specs.Mask.{bit, slot}
 use Rattle.ends.specs.Blocks.{calledMask, anyIn, assigns, marksIn, Marks}
 use Rattle.ends.specs.Ends.{EndsOf, EndsListed}
@@ -31,7 +32,6 @@ use Rattle.ends.proofs.Sizes.{lt-or-le, sizes-at}
 use Rattle.ends.proofs.Marks.{unwritten-above, no-bit, marks-range}
 use Rattle.scan.specs.Steady.{fileContext, MaskedFile}
 use Rattle.scan.proofs.Trees.{marked-command, masks-called, unmarked-expression, unmarked-set, modified-tree}
-use Rattle.scan.proofs.FileNodes.{NoNode, WordAt, of-expression, of-command, of-set, of-none, file-words}
 use Rattle.masks.specs.Masks.{bitsOf, maskRead, maskAt, stored}
 use Rattle.masks.specs.Filled.{OtherKind, RangeMarks, CanStore, Filled, MasksOf}
 use Rattle.masks.proofs.Numbers.{number-bits}
@@ -112,7 +112,9 @@ module _ (file ends : List ℕ) (limits : Limits) (f : File) (e : EndsListed fil
 
   quiet : (at : ℕ) → at < wordCount file → OtherKind (kindAt file at) → RangeMarks file ends at at 0
   quiet at l o = record {
-    marks = λ x. no-bit (slot x) ∙ sym (word-quiet l all o (file-words file ends limits f k .each at (omega arith) l) x) ∙ all .marks x;
+    marks = λ x.
+        no-bit (slot x) ∙ sym (word-quiet l all o (file-words file limits f (k .stands) (k .called) .each at (omega arith) l) x)
+        ∙ all .marks x;
   }
     where
       all : RangeMarks file ends at at (marksIn (calledMask file ends) file (endAt ends at - at) at 0)
@@ -125,7 +127,7 @@ module _ (file ends : List ℕ) (limits : Limits) (f : File) (e : EndsListed fil
     number-at : (i : ℕ) → getD after i 0 ≡ getD (stored limits file f before) i 0
     number-at i = elim (lt-or-le i (wordCount file)) [
       | inl l ↦
-          word-mask l (h .small i l) (h .marks i l) (file-words file ends limits f k .each i (omega arith) l)
+          word-mask l (h .small i l) (h .marks i l) (file-words file limits f (k .stands) (k .called) .each i (omega arith) l)
           ∙ sym (stored-mask limits file f before i l)
       | inr l ↦ h .kept i l ∙ sym (stored-past limits file f before i l)
     ]

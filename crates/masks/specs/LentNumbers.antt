@@ -1,6 +1,6 @@
 -- What request [5] of document 02 says of the lent numbers, claimed of the definitions.
 -- Trusted. Assumes nothing.
---     LentNumbers    a call refused at reading or as 17 changes none; where the file is read, each word has its mask, and those past the
+--     LentNumbers    a call refused at reading or as 17 or 19 changes none; where the file is read, each word has its mask, and those past the
 --                    words stay; there are as many as before
 use mathlib.Core.Path.{_≡_}
 use mathlib.Core.List.{List}

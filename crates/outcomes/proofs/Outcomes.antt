@@ -20,7 +20,7 @@ use Rattle.rules.specs.Context.{Limits}
 use Rattle.rules.specs.Judge as judge
 use Rattle.layout.specs.Bytes.{wordsOf, wordCount}
 use Rattle.layout.specs.Reading.{Reading, read, fault}
-use Rattle.layout.specs.File.{File, fileOf, wordsRead}
+use Rattle.layout.specs.File.{File, bytesRead, wordsRead}
 use Rattle.layout.specs.Verdict.{judged}
 use Rattle.context.specs.Contexts.{limitsOf}
 use Rattle.context.specs.declared.Context.{Context}
@@ -145,7 +145,7 @@ module _ {context : Context} {bytes words table : List ℕ} {r : Layout} (f : Fi
 
   pub refused-outcome : {x : Refusal} (lent : List ℕ) → r ≡ Layout.Refused x → OutcomeDone (limitsOf context) bytes lent (Refused x) lent
   refused-outcome {x} lent e =
-      let h = refused-file (fileOf (limitsOf context) bytes) x (sym e ∙ f .layout) in
+      let h = refused-file (bytesRead (limitsOf context) bytes) x (sym e ∙ f .layout) in
       record {
         outcome = sym (ap (outcomeOf (limitsOf context)) h);
         masks = sym (ap (λ y. storedWhere (limitsOf context) (wordsOf bytes) y lent) h ∙ same (ltb (length lent) (wordCount (wordsOf bytes))));

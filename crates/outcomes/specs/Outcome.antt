@@ -17,7 +17,7 @@ use Rattle.rules.specs.Context.{Limits}
 use Rattle.rules.specs.Judge.{Verdict, accepted, refused}
 use Rattle.layout.specs.Bytes.{wordsOf, wordCount}
 use Rattle.layout.specs.Reading.{Reading, read, fault}
-use Rattle.layout.specs.File.{File, badLength, wordsRead, fileOf}
+use Rattle.layout.specs.File.{File, badLength, wordsRead, bytesRead}
 use Rattle.layout.specs.Verdict.{judged}
 use Rattle.masks.specs.WithMasks.{storedIf}
 use Rattle.context.specs.Contexts.{refusal}
@@ -46,8 +46,8 @@ pub record WordsDone (limits : Limits) (file lent : List ℕ) (r : Outcome) (lef
   pub masks : left ≡ storedWhere limits file (wordsRead limits file) lent
 
 pub record OutcomeDone (limits : Limits) (bytes lent : List ℕ) (r : Outcome) (left : List ℕ) : Type 0 where
-  pub outcome : r ≡ outcomeOf limits (fileOf limits bytes)
-  pub masks : left ≡ storedWhere limits (wordsOf bytes) (fileOf limits bytes) lent
+  pub outcome : r ≡ outcomeOf limits (bytesRead limits bytes)
+  pub masks : left ≡ storedWhere limits (wordsOf bytes) (bytesRead limits bytes) lent
 
 pub record WithinLimits (x : Context) : Type 0 where
   pub few : x .comparisons ≤ 16

@@ -11,14 +11,14 @@ use Prim.Native.Nat.{ℕ, _/_, _≤_}
 use native.Mathlib.Omega.{arith}
 use lib.ListN.{length, take}
 use Rattle.layout.specs.Bytes.{wordsOf}
-use Rattle.layout.specs.File.{badLength, fileOf, wordsRead}
+use Rattle.layout.specs.File.{badLength, bytesRead, wordsRead}
 use Rattle.words.proofs.Loading.{words-length, loaded-words}
 use Rattle.words.specs.Load.{Loaded}
 use Rattle.words.proofs.Lengths.{good-length, good-file, bad-file}
 use Rattle.scan.specs.ForsMask.{ForsFound}
 use Rattle.scan.specs.declared.for_mask.Fors.{Fors}
 use Rattle.masks.specs.WithMasks.{fewNumbers}
-use Rattle.context.specs.Contexts.{limitsOf, refusal}
+use Rattle.context.specs.Contexts.{limitsOf, Settable, refusal}
 use Rattle.context.specs.declared.Context.{Context}
 use Rattle.context.specs.declared.Refusal.{Refusal}
 use Rattle.reader.specs.declared.Places.{Places}
@@ -55,7 +55,7 @@ module _ {Γ : Context} {bytes : List ℕ} (lent : List ℕ) {words table : List
   pub read-right : CallsRight w Γ s table
   read-right = subst (λ l. CallsRight l Γ s table) (sym (c .walk .rooms .loaded)) (c .right)
 
-  from-words : fileOf (limitsOf Γ) bytes ≡ wordsRead (limitsOf Γ) (wordsOf bytes)
+  from-words : bytesRead (limitsOf Γ) bytes ≡ wordsRead (limitsOf Γ) (wordsOf bytes)
   from-words = good-file (limitsOf Γ) bytes (c .walk .good)
 
   module _ {filled after : List ℕ} {r : Layout} (k : StartsKept w table filled) (t : Steadied w Γ s r filled after) where
@@ -68,7 +68,13 @@ module _ {Γ : Context} {bytes : List ℕ} (lent : List ℕ) {words table : List
         let x = found-read (wordsRead (limitsOf Γ) (wordsOf bytes)) z (sym e ∙ steadied .layout) in
         let y = same-file (steadied .marked) (x .was-read) in
         record {
-          old = record { contents = x .file; end = x .end; was-read = from-words ∙ x .was-read; enough = c .enough };
+          old = record {
+            contents = x .file;
+            end = x .end;
+            was-read = from-words ∙ x .was-read;
+            settable = c .settable;
+            enough = c .enough;
+          };
           rooms = record { loaded = c .walk .rooms .loaded; inside = c .walk .rooms .inside; wide = omega (arith, c .walk .rooms .wide, n) };
           marked = steadied .marked;
           masked = steadied-again steadied .masked (x .file) (x .end) (x .was-read);
@@ -88,20 +94,22 @@ module _ {Γ : Context} {bytes : List ℕ} (lent : List ℕ) {words table : List
 
     pub unsteady-put : {x : Refusal} → r ≡ Layout.Refused x → PutDone (limitsOf Γ) bytes lent place new (Refused x) bytes lent
     unsteady-put {x} e =
-        unread-put (limitsOf Γ) bytes lent place new (c .enough)
+        unread-put (limitsOf Γ) bytes lent place new (c .settable) (c .enough)
         (from-words ∙ refused-read (wordsRead (limitsOf Γ) (wordsOf bytes)) x (sym e ∙ steadied .layout))
 
 -- ---- refusal 1, and 2 to 6 and 16
-module _ (Γ : Context) {bytes : List ℕ} (lent : List ℕ) (place : ℕ) (new : List ℕ) (enough : fewNumbers bytes (length lent) ≡ false) where
+module _ (Γ : Context) {bytes : List ℕ} (lent : List ℕ) (place : ℕ) (new : List ℕ) (settable : Settable Γ)
+    (enough : fewNumbers bytes (length lent) ≡ false) where
   pub bad-put : {r : Replaced} → badLength bytes ≡ true → r ≡ Refused (refusal 1 0) →
       PutDone (limitsOf Γ) bytes lent place new r bytes lent
   bad-put h e =
       subst (λ r. PutDone (limitsOf Γ) bytes lent place new r bytes lent) (sym e)
-      (unread-put (limitsOf Γ) bytes lent place new enough (bad-file (limitsOf Γ) bytes h))
+      (unread-put (limitsOf Γ) bytes lent place new settable enough (bad-file (limitsOf Γ) bytes h))
 
   pub called-put : {table : List ℕ} {r : Layout} {x : Refusal} → badLength bytes ≡ false → Called (wordsOf bytes) Γ r table →
       r ≡ Layout.Refused x → PutDone (limitsOf Γ) bytes lent place new (Refused x) bytes lent
-  called-put {x = x} good k e = unread-put (limitsOf Γ) bytes lent place new enough (good-file (limitsOf Γ) bytes good ∙ k .refused x e)
+  called-put {x = x} good k e =
+      unread-put (limitsOf Γ) bytes lent place new settable enough (good-file (limitsOf Γ) bytes good ∙ k .refused x e)
 
 -- the words that were loaded, in their room
 pub loaded-rooms : {bytes words table after : List ℕ} {n : ℕ} → CanLoad bytes words table → badLength bytes ≡ false →

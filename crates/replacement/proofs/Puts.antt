@@ -1,7 +1,8 @@
 -- The workbench call by its steps.
 -- Assumes nothing.
---     refused-put, few-put, unread-put       a refusal changes nothing; 17; the file's own
---     refused-read                           what was not read
+--     refused-put, outside-put, few-put, unread-put
+--                                            a refusal changes nothing; 19; 17; the file's own
+--     same-put, refused-read                 under the same limits; what was not read
 --     part-put, old-put, changed-unread      18: the new bytes are no words; the old command; the changed file is not read
 --     done                                   the new command stands in the file
 --     changed-words, changed-length, changed-file, new-simple
@@ -22,11 +23,11 @@ use borrow.Author.Tests.{eq-eqb, ne-eqb}
 use lib.Dec.{eqb}
 use borrow.Rule.Slice.PartMut.{midOf, putMid}
 use lib.ListN.{length, getD, take}
-use Rattle.rules.specs.Context.{Limits, alone}
+use Rattle.rules.specs.Context.{Limits, withinRanges, alone}
 use Rattle.layout.specs.Bytes.{wordsOf}
 use Rattle.layout.specs.Reading.{Reading, read, fault}
 use Rattle.layout.specs.Read.{command}
-use Rattle.layout.specs.File.{File, badLength, fileOf, wordsRead}
+use Rattle.layout.specs.File.{File, badLength, bytesRead, wordsRead}
 use Rattle.words.proofs.Loading.{words-length}
 use Rattle.words.specs.Load.{Loaded}
 use Rattle.words.proofs.Lengths.{good-length, good-file}
@@ -37,6 +38,7 @@ use Rattle.masks.specs.Masks.{commandAt, stored}
 use Rattle.masks.specs.WithMasks.{fewNumbers, readLent, storedIf}
 use Rattle.masks.specs.Filled.{CanStore, Filled}
 use Rattle.masks.proofs.FewNumbers.{good-whole, read-good, read-enough}
+use Rattle.masks.proofs.LentNumbers.{outside-lent, few-lent, enough-lent}
 use Rattle.masks.proofs.Stored.{filled-stored}
 use Rattle.masks.proofs.Stored as stored-masks
 use Rattle.context.specs.Contexts.{limitsOf, refusal}
@@ -71,6 +73,11 @@ and-none : (a : Bool) {b : Bool} → b ≡ false → (a && b) ≡ false
 and-none true h = h
 and-none false h = refl
 
+-- under the same limits
+pub same-put : {l k : Limits} {bytes lent new left numbers : List ℕ} {place : ℕ} {r : Replaced} → l ≡ k →
+    PutDone l bytes lent place new r left numbers → PutDone k bytes lent place new r left numbers
+same-put {bytes = bytes} {lent} {new} {left} {numbers} {place} {r} e d = subst (λ x. PutDone x bytes lent place new r left numbers) e d
+
 -- what was not read
 pub refused-read : (x : Reading File) (y : Refusal) → Layout.Refused y ≡ placesOf x → x ≡ fault (y .number) (y .place)
 refused-read (read f p) y e = absurd (let z : _≡_ {A = ℕ} 0 1 = cc in omega arith)
@@ -88,24 +95,32 @@ module _ (limits : Limits) (bytes lent : List ℕ) (place : ℕ) (new : List ℕ
     masks = sym (ap (λ x. storedIf limits (wordsOf (changed bytes place new)) x lent) e);
   }
 
-  pub few-put : {r : Replaced} → fewNumbers bytes (length lent) ≡ true → r ≡ Refused (refusal 17 0) →
+  -- what the file itself is refused for
+  lent-put : {n p : ℕ} {r : Replaced} → readLent limits bytes (length lent) ≡ fault n p → r ≡ Refused (refusal n p) →
       PutDone limits bytes lent place new r bytes lent
-  unfolding readPut readLent
-  few-put h e = refused-put (rw (h, readLent) refl) e
+  unfolding readPut
+  lent-put h e = refused-put (rw h refl) e
 
-  pub unread-put : {n p : ℕ} → fewNumbers bytes (length lent) ≡ false → fileOf limits bytes ≡ fault n p →
+  pub outside-put : {r : Replaced} → withinRanges limits ≡ false → r ≡ Refused (refusal 19 0) →
+      PutDone limits bytes lent place new r bytes lent
+  outside-put h e = lent-put (outside-lent limits bytes (length lent) h) e
+
+  pub few-put : {r : Replaced} → withinRanges limits ≡ true → fewNumbers bytes (length lent) ≡ true → r ≡ Refused (refusal 17 0) →
+      PutDone limits bytes lent place new r bytes lent
+  few-put w h e = lent-put (few-lent limits bytes (length lent) w h) e
+
+  pub unread-put : {n p : ℕ} → withinRanges limits ≡ true → fewNumbers bytes (length lent) ≡ false → bytesRead limits bytes ≡ fault n p →
       PutDone limits bytes lent place new (Refused (refusal n p)) bytes lent
-  unfolding readPut readLent
-  unread-put h e = refused-put (rw (h, readLent) (rw e refl)) refl
+  unread-put w h e = lent-put (enough-lent limits bytes (length lent) w h ∙ e) refl
 
   module _ (o : OldRead limits bytes (length lent)) where
     -- what comes of it, by the test of both commands
     abbrev tested : Bool → Reading File
-    tested b = elim b [ true ↦ orUnread (fileOf limits (changed bytes place new)) | false ↦ fault 18 0 ]
+    tested b = elim b [ true ↦ orUnread (bytesRead limits (changed bytes place new)) | false ↦ fault 18 0 ]
 
     said-by : said ≡ tested (replaceable limits bytes (o .contents) place new)
-    unfolding readPut readLent
-    said-by = rw (o .enough, readLent) (rw (o .was-read) refl)
+    unfolding readPut
+    said-by = rw (enough-lent limits bytes (length lent) (o .settable) (o .enough) ∙ o .was-read) refl
 
     not-replaceable : {r : Replaced} → replaceable limits bytes (o .contents) place new ≡ false → r ≡ Refused (refusal 18 0) →
         PutDone limits bytes lent place new r bytes lent
@@ -131,7 +146,7 @@ module _ (limits : Limits) (bytes lent : List ℕ) (place : ℕ) (new : List ℕ
     new-not h = not-replaceable (and-none (eqb (length new % 4) 0) (and-none oldSimple h))
 
     -- whatever is said of the commands
-    pub changed-unread : {r : Replaced} {n p : ℕ} → fileOf limits (changed bytes place new) ≡ fault n p → r ≡ Refused (refusal 18 0) →
+    pub changed-unread : {r : Replaced} {n p : ℕ} → bytesRead limits (changed bytes place new) ≡ fault n p → r ≡ Refused (refusal 18 0) →
         PutDone limits bytes lent place new r bytes lent
     changed-unread {n = n} {p} h e = refused-put (said-by ∙ go (replaceable limits bytes (o .contents) place new)) e
       where
@@ -144,7 +159,7 @@ module _ (limits : Limits) (bytes lent : List ℕ) (place : ℕ) (new : List ℕ
     replaceable-both a b c = rw (eq-eqb (length new % 4) 0 a) (rw b c)
 
     pub done : {f : File} {p : ℕ} {left numbers : List ℕ} → replaceable limits bytes (o .contents) place new ≡ true →
-        fileOf limits (changed bytes place new) ≡ read f p → left ≡ changed bytes place new →
+        bytesRead limits (changed bytes place new) ≡ read f p → left ≡ changed bytes place new →
         numbers ≡ stored limits (wordsOf (changed bytes place new)) f lent →
         PutDone limits bytes lent place new Done left numbers
     done {f} {p} h e a b =
@@ -167,7 +182,7 @@ module _ {limits : Limits} {bytes : List ℕ} {n place : ℕ} {new : List ℕ} (
   changed-length = spliced-length bytes (4 * place) new (s .within)
 
   -- its byte count is that of the file
-  pub changed-file : fileOf limits (changed bytes place new) ≡ wordsRead limits (wordsOf (changed bytes place new))
+  pub changed-file : bytesRead limits (changed bytes place new) ≡ wordsRead limits (wordsOf (changed bytes place new))
   changed-file = good-file limits (changed bytes place new) (same-count (changed bytes place new) bytes changed-length ∙ good)
     where
       same-count : (l m : List ℕ) → length l ≡ length m → badLength l ≡ badLength m

@@ -1,8 +1,8 @@
--- The workbench call (document 02, request [5]): another skip, assert or assignment of equal length in the place of one such command.
+-- The workbench call (document 02, requests [5] and [6]): another skip, assert or assignment of equal length in the place of one such command.
 -- Trusted. Assumes nothing.
 --     changed                the file with the new bytes in the place of as many
 --     replaceable            the command at the place and the new one are as described
---     orUnread, readPut      refusals 1, 2, 17, 3 to 7 and 16 of the file; then 18; else the changed file
+--     orUnread, readPut      refusals 19, 1, 2, 17, 3 to 7 and 16 of the file; then 18; else the changed file
 --     answerOf, fileAfter    the answer; the file afterwards
 --     PutDone                the answer, the file and the lent numbers afterwards
 use mathlib.Core.Path.{_≡_}
@@ -15,7 +15,7 @@ use Rattle.rules.specs.Context.{Limits, alone}
 use Rattle.layout.specs.Bytes.{wordsOf}
 use Rattle.layout.specs.Reading.{Reading, read, fault, onRead}
 use Rattle.layout.specs.Read.{command}
-use Rattle.layout.specs.File.{File, fileOf}
+use Rattle.layout.specs.File.{File, bytesRead}
 use Rattle.masks.specs.Masks.{commandAt}
 use Rattle.masks.specs.WithMasks.{readLent, storedIf}
 use Rattle.context.specs.Contexts.{refusal}
@@ -45,7 +45,7 @@ orUnread (fault n p) = fault 18 0
 unfoldable pub readPut : Limits → List ℕ → ℕ → ℕ → List ℕ → Reading File
 readPut limits bytes n place new = onRead (readLent limits bytes n) λ f p.
     elim (replaceable limits bytes f place new) [
-      | true ↦ orUnread (fileOf limits (changed bytes place new))
+      | true ↦ orUnread (bytesRead limits (changed bytes place new))
       | false ↦ fault 18 0
     ]
 

@@ -1,7 +1,7 @@
--- What the steps of the workbench call ask for.
+-- What the steps of the workbench call ask for, after refusal 19.
 -- Working: `can-replace` of proofs/PutReads, `can-change` and `can-finish` of proofs/Puts say that what is read meets them, `finish-done` that
 -- `PutDone` follows. Assumes nothing.
---     OldRead       a file was read, and enough numbers are lent
+--     OldRead       a file was read under settings in range, and enough numbers are lent
 --     Simple        at the place stands a skip, an assert or an assignment as long as the new bytes
 --     CanChange     the words of the file are changed
 --     CanFinish     the new command is one, the changed file was read, and its table is there
@@ -13,18 +13,18 @@ use mathlib.Core.Bool.{Bool, true, false}
 use mathlib.Core.List.{List}
 use Prim.Native.Nat.{ℕ, _+_, _*_, _/_, _%_, _≤_}
 use lib.ListN.{length}
-use Rattle.rules.specs.Context.{Limits, alone}
+use Rattle.rules.specs.Context.{Limits, withinRanges, alone}
 use Rattle.layout.specs.Bytes.{wordsOf}
 use Rattle.layout.specs.Reading.{read}
 use Rattle.layout.specs.Read.{command}
-use Rattle.layout.specs.File.{File, fileOf, wordsRead}
+use Rattle.layout.specs.File.{File, bytesRead, wordsRead}
 use Rattle.ends.specs.Ends.{EndsListed}
 use Rattle.scan.specs.Steady.{MaskedFile}
 use Rattle.scan.specs.ForsMask.{ForsFound}
 use Rattle.scan.specs.declared.for_mask.Fors.{Fors}
 use Rattle.masks.specs.Masks.{commandAt}
 use Rattle.masks.specs.WithMasks.{fewNumbers}
-use Rattle.context.specs.Contexts.{limitsOf}
+use Rattle.context.specs.Contexts.{limitsOf, Settable}
 use Rattle.context.specs.declared.Context.{Context}
 use Rattle.reader.specs.File.{placesOf}
 use Rattle.reader.specs.declared.Places.{Places}
@@ -42,7 +42,8 @@ module _ (limits : Limits) (bytes : List ℕ) (n : ℕ) where
   pub record OldRead : Type 0 where
     pub contents : File
     pub end : ℕ
-    pub was-read : fileOf limits bytes ≡ read contents end
+    pub was-read : bytesRead limits bytes ≡ read contents end
+    pub settable : withinRanges limits ≡ true
     pub enough : fewNumbers bytes n ≡ false
 
   module _ (place : ℕ) (new : List ℕ) where
@@ -70,6 +71,7 @@ module _ (limits : Limits) (bytes : List ℕ) (n : ℕ) where
 -- s are the places of the file's parts; `both`: refusals 2 to 6 and 16 let the changed words pass too
 module _ (Γ : Context) (bytes : List ℕ) (n place : ℕ) (new words table : List ℕ) (s : Places) (both : Bool) where
   pub record CanRead : Type 0 where
+    pub settable : Settable Γ
     pub enough : fewNumbers bytes n ≡ false
     pub walk : CanWalk bytes words table
     pub right : CallsRight (wordsOf bytes) Γ s table

@@ -1,6 +1,6 @@
 -- What holds of every verdict, from what holds of a word's own and of its children's in order.
 -- Assumes nothing.
---     tally, Everywhere                  the count of evidence words; a statement about the place of each
+--     tally, Everywhere, anywhere        the count of evidence words; a statement about the place of each; one that holds of any place
 --     Holding                            what is asked of a statement about verdicts with a number
 --     pre-holds, set-holds, flow-holds   it holds of the verdict of evidence, with its count
 use mathlib.Core.Path.{_≡_, refl, ap, subst, sym}
@@ -69,6 +69,15 @@ Everywhere H (members p) = Unit {0}
 Everywhere H (child k) = Everywhere H k
 Everywhere H done = Unit {0}
 Everywhere H (x & t) = Everywhere H x × Everywhere H t
+
+pub anywhere : {H : ℕ → Type 0} → ((i : ℕ) → H i) → {s : Standing} (t : Tree s) → Everywhere H t
+anywhere h (by r i t) = (h i, anywhere h t)
+anywhere h (assertion φ) = tt
+anywhere h (command c) = tt
+anywhere h (members p) = tt
+anywhere h (child k) = anywhere h k
+anywhere h done = tt
+anywhere h (x & t) = (anywhere h x, anywhere h t)
 
 -- P holds of no evidence, of evidence after other evidence, and of a word at a place of which H holds
 pub record Holding (H : ℕ → Type 0) (P : Verdict → ℕ → Type 0) : Type 0 where

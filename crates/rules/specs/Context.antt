@@ -1,13 +1,17 @@
--- The limits of document 01, and what a program is read and judged under (document 02, request [3]).
+-- The limits of document 01, which a caller may set (document 02, request [6]), and what a program is read and judged under (request [3]).
 -- Trusted. Assumes nothing.
 --     Limits, standard      the most comparisons of an implication, the most depth, the most members of a set; document 01's
+--     settingsOf            those of three numbers, in this order
+--     withinRanges          each is in the range that it may be set to
 --     Procedure, Context    a body with its contract; the limits, and the procedures that may be called
 --     alone                 with no procedure
 --     itemAt                what stands at a place of a list
 --     bodyOf, called        the body of a procedure; a call of procedure p, with its body
+use mathlib.Core.Bool.{Bool, _&&_}
 use mathlib.Core.List.{List, [], _∷_}
 use mathlib.Core.Option.{Option, none, some}
 use Prim.Native.Nat.{ℕ, zero, suc}
+use lib.Dec.{leb}
 use Rattle.language.specs.Syntax.{Command, skip, call}
 use Rattle.rules.specs.Assertion.{Members}
 
@@ -18,6 +22,14 @@ pub record Limits : Type 0 where
 
 unfoldable pub standard : Limits
 standard = record { comparisons = 10; depth = 128; members = 64 }
+
+abbrev pub settingsOf : ℕ → ℕ → ℕ → Limits
+settingsOf comparisons depth members = record { comparisons = comparisons; depth = depth; members = members }
+
+-- comparisons 0 to 16, depth 1 to 256, members 0 to 128
+unfoldable pub withinRanges : Limits → Bool
+withinRanges limits =
+    leb (limits .comparisons) 16 && (leb 1 (limits .depth) && (leb (limits .depth) 256 && leb (limits .members) 128))
 
 pub record Procedure : Type 0 where
   pub body : Command

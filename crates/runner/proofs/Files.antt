@@ -2,8 +2,10 @@
 -- Assumes nothing.
 --     refused-file-by           1 to 7 and 16
 --     can-run-file, ran-file    the words of a file that they let pass; its run
---     run-of                    the definition's answer on bytes, with demand 2 and request [1]
+--     run-of                    the definition's answer on bytes, with demand 2 and requests [1] and [6]
+--     outside-run               19
 use mathlib.Core.Path.{_≡_, refl, sym, ap, subst, _∙_}
+use mathlib.Core.Bool.{true, false}
 use mathlib.Core.List.{List}
 use Prim.Native.Nat.{ℕ, _+_, _*_, _/_, _%_}
 use native.Mathlib.Omega.{arith}
@@ -11,13 +13,16 @@ use lib.ListN.{length, take, getD, length-take}
 use lib.Seq.{getD-take}
 use Rattle.language.specs.Syntax.{Command}
 use Rattle.rules.specs.Context as rules
+use Rattle.rules.specs.Context.{withinRanges}
 use Rattle.layout.specs.Bytes.{payloadAt, payloads}
 use Rattle.layout.specs.Reading.{Reading, read, fault}
-use Rattle.layout.specs.File.{File, wordsRead, fileOf}
+use Rattle.layout.specs.File.{File, wordsRead, bytesRead, fileOf}
+use Rattle.layout.proofs.Settings.{in-ranges, out-of-ranges}
 use Rattle.execution.specs.Lent.{Lent}
 use Rattle.execution.specs.Ran.{bodyPlace, runOf}
 use Rattle.claims.proofs.Runner.{runner}
 use Rattle.claims.proofs.AsBefore.{unchanged}
+use Rattle.claims.proofs.Settings.{old-answers, run-raised}
 use Rattle.context.specs.Contexts.{limitsOf}
 use Rattle.context.specs.declared.Context.{Context}
 use Rattle.context.specs.declared.Refusal.{Refusal}
@@ -41,9 +46,9 @@ never z = absurd (omega arith)
 module _ {context : Context} {bytes words table : List ℕ} {r : Layout} (f : FileRead bytes context r words table) where
   pub refused-file-by : (budget : ℕ) (m : Lent) {x : Refusal} {q : Ran} → r ≡ Layout.Refused x →
       q ≡ refusedAt (x .number) (x .place) →
-      RanBy (fileOf (limitsOf context) bytes) budget m q m
+      RanBy (bytesRead (limitsOf context) bytes) budget m q m
   refused-file-by budget m {x} e h =
-      let y = refused-file (fileOf (limitsOf context) bytes) x (sym e ∙ f .layout) in
+      let y = refused-file (bytesRead (limitsOf context) bytes) x (sym e ∙ f .layout) in
       record { is = ap (λ z. ranAt z m) h ∙ ap (λ z. ranBy z budget m) (sym y) }
 
   module _ {s : Places} (e : r ≡ Layout.Found s) where
@@ -120,7 +125,7 @@ module _ {context : Context} {bytes words table : List ℕ} {r : Layout} (f : Fi
     can-run-file = record { tree = found .file .main .command; past = main .past; there = placed }
 
     pub ran-file : {budget : ℕ} {m m′ : Lent} {q : Ran} → RanFile words table (s .start) budget m q m′ →
-        RanBy (fileOf (limitsOf context) bytes) budget m q m′
+        RanBy (bytesRead (limitsOf context) bytes) budget m q m′
     ran-file {budget} {m} h = record {
       is = h .is (found .file) (main .past) placed refl starts
           ∙ ap (λ z. ranBy z budget m) (sym (found .was-read) ∙ file-words f e .of-file);
@@ -134,16 +139,31 @@ unfolding runOf
 by-reading (read f p) limits bytes e budget m = sym (rw (e, runOf) refl)
 by-reading (fault k p) limits bytes e budget m = sym (rw (e, runOf) refl)
 
-pub run-of : {limits : rules.Limits} → limits ≡ rules.standard → {bytes : List ℕ} {budget : ℕ} {m m′ : Lent} {r : Ran} →
-    RanBy (fileOf limits bytes) budget m r m′ → RunOf bytes budget m r m′
-run-of {limits} l {bytes} {budget} {m} {m′} {r} f =
-    let e : ranAt r m′ ≡ runOf rules.standard bytes budget m =
-    f .is ∙ by-reading _ limits bytes refl budget m ∙ ap (λ z. runOf z bytes budget m) l in
-    record {
-      answer = ap (λ x. x .answer) e;
-      steps = ap (λ x. x .steps) e;
-      scalars-left = ap (λ x. x .store .scalars) e;
-      values-left = ap (λ x. x .store .values) e;
-      exact = runner rules.standard bytes budget m;
-      as-before = unchanged rules.standard bytes budget m;
-    }
+-- what was said of the definition is promised
+ran-of : (limits : rules.Limits) {bytes : List ℕ} {budget : ℕ} {m m′ : Lent} {r : Ran} → ranAt r m′ ≡ runOf limits bytes budget m →
+    RunOf limits bytes budget m r m′
+ran-of limits {bytes} {budget} {m} e = record {
+  answer = ap (λ x. x .answer) e;
+  steps = ap (λ x. x .steps) e;
+  scalars-left = ap (λ x. x .store .scalars) e;
+  values-left = ap (λ x. x .store .values) e;
+  exact = runner limits bytes budget m;
+  as-before = unchanged limits bytes budget m;
+  old-answers = old-answers bytes;
+  raised = run-raised limits bytes budget m;
+}
+
+pub run-of : {low : rules.Limits} (limits : rules.Limits) → low ≡ limits → withinRanges limits ≡ true → {bytes : List ℕ} {budget : ℕ}
+    {m m′ : Lent} {r : Ran} → RanBy (bytesRead low bytes) budget m r m′ → RunOf limits bytes budget m r m′
+run-of limits l w {bytes} {budget} {m} f =
+    ran-of limits
+    (f .is ∙ ap (λ z. ranBy (bytesRead z bytes) budget m) l ∙ ap (λ z. ranBy z budget m) (sym (in-ranges limits bytes w))
+    ∙ by-reading (fileOf limits bytes) limits bytes refl budget m)
+
+-- 19
+pub outside-run : (limits : rules.Limits) → withinRanges limits ≡ false → (bytes : List ℕ) (budget : ℕ) (m : Lent) {r : Ran} →
+    r ≡ refusedAt 19 0 → RunOf limits bytes budget m r m
+outside-run limits w bytes budget m {r} e =
+    ran-of limits
+    (ap (λ z. ranAt z m) e ∙ ap (λ z. ranBy z budget m) (sym (out-of-ranges limits bytes w))
+    ∙ by-reading (fileOf limits bytes) limits bytes refl budget m)

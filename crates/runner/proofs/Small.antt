@@ -7,10 +7,11 @@ use mathlib.Core.Bool.{Bool, true, false}
 use mathlib.Core.List.{List}
 use Prim.Native.Nat.{ℕ, _+_, _*_, _≤_}
 use native.Mathlib.Omega.{arith}
-use Rattle.rules.specs.Context.{Limits, standard}
+use Rattle.rules.specs.Context.{Limits}
 use Rattle.layout.specs.Bytes.{wordsOf}
 use Rattle.layout.specs.Reading.{read}
-use Rattle.layout.specs.File.{File, badLength, fileOf}
+use Rattle.layout.specs.File.{File, badLength, bytesRead, fileOf}
+use Rattle.layout.proofs.Settings.{settings-read}
 use Rattle.execution.specs.Lent.{Lent}
 use Rattle.execution.specs.Run.{End, ended, stopped, run}
 use Rattle.execution.specs.Ran as definition
@@ -35,11 +36,14 @@ module _ (limits : Limits) (bytes : List ℕ) where
       Bounded 8192 budget (run (bodyPlace f) (f .main .command) (f .main .start) budget m)
   run-small f p e budget m = go (badLength bytes) refl
     where
+      was-read : bytesRead limits bytes ≡ read f p
+      was-read = settings-read limits bytes f p e .was-read
+
       go : (t : Bool) → badLength bytes ≡ t →
           Bounded 8192 budget (run (bodyPlace f) (f .main .command) (f .main .start) budget m)
-      go true t = let h = sym (bad-file limits bytes t) ∙ e in never (cc)
+      go true t = let h = sym (bad-file limits bytes t) ∙ was-read in never (cc)
       go false t =
-          let h = sym (good-file limits bytes t) ∙ e in
+          let h = sym (good-file limits bytes t) ∙ was-read in
           let l = few-words bytes t in
           let Γ = whole limits f in
           let x = main-body limits (wordsOf bytes) f p h in
@@ -63,16 +67,16 @@ small-ran limits bytes budget m = go (judged limits bytes budget m)
     go (is-run {f} {p} e l h) =
         ran-small budget (run (bodyPlace f) (f .main .command) (f .main .start) budget m) l (run-small limits bytes f p e budget m)
 
-module _ {bytes : List ℕ} {budget : ℕ} {m m′ : Lent} {r : Ran} (f : RunOf bytes budget m r m′) where
+module _ {limits : Limits} {bytes : List ℕ} {budget : ℕ} {m m′ : Lent} {r : Ran} (f : RunOf limits bytes budget m r m′) where
   pub can-pack : CanPack r
   can-pack =
-      let x = small-ran standard bytes budget m in
+      let x = small-ran limits bytes budget m in
       record {
         few = subst (λ n. n ≤ 1000000) (sym (f .steps)) (x .few);
         near = subst SmallAnswer (sym (f .answer)) (x .near);
       }
 
-  pub packed-run : {n : ℕ} → ((m : Lent) → n ≡ packedRan (ranAt r m)) → PackedRun bytes budget m n m′
+  pub packed-run : {n : ℕ} → ((m : Lent) → n ≡ packedRan (ranAt r m)) → PackedRun limits bytes budget m n m′
   packed-run h = record {
     answer = h m′ ∙ ap₂ (λ k a. k * 4294967296 + codeOf a) (f .steps) (f .answer);
     scalars-left = f .scalars-left;

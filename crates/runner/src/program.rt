@@ -1,4 +1,4 @@
-// Refusals 1 to 7, 16 and 10 to 15 (document 01, "Judging order"; document 02, request [3]), in order.
+// Refusals 1 to 7, 16 and 10 to 15 (document 01, "Judging order"; document 02, request [3]), in order, under settings in range.
 use super::Answer;
 use super::Ran;
 use context::Context;
@@ -10,14 +10,14 @@ use reader::Layout;
 use run::command::run_command;
 use words::numbers::wide;
 ghost use mathlib.Core.Path.{_≡_};
-ghost use Rattle.layout.specs.File.{fileOf};
+ghost use Rattle.layout.specs.File.{bytesRead};
 ghost use Rattle.context.specs.Contexts.{limitsOf};
 ghost use Rattle.execution.specs.Lent.{lent};
 ghost use Rattle.heads.specs.Stands.{CommandStands};
 ghost use Rattle.runner.specs.Running.{refusedAt, CanReport, ReportsEnd, CanRunCopied, RanFile, RanBy};
 
 // A refusal before the run: no step is finished.
-fn refused(number: u32, place: usize) -> Ran
+pub(crate) fn refused(number: u32, place: usize) -> Ran
     ensures { λ r. ⌜ r ≡ refusedAt number place ⌝ }
 {
     Ran {
@@ -117,7 +117,7 @@ pub(crate) fn run_bytes(
     values: &mut [i64],
     budget: usize,
 ) -> Ran
-    ensures { λ r. ⌜ RanBy (fileOf (limitsOf context) (now (file .entry))) budget
+    ensures { λ r. ⌜ RanBy (bytesRead (limitsOf context) (now (file .entry))) budget
         (lent (now (scalars .entry)) (now (values .entry))) r (lent (now (scalars .exit)) (now (values .exit))) ⌝ }
 {
     let mut words = [0u32; 8192];

@@ -8,8 +8,6 @@
 --     ProcedureMasks    the masks of procedures as they are filled
 --     Procedures    what the list of ends has of the procedures
 --     WrongCalls    refusal 16
---     FileNodes     what each word of a file that was read is the first of
---     Fors          each word of kind 31 of a file that was read is the first of a `for`
 --     Tests         the test of a place and the scan for the first
 --     ForMasks      the scalars that `for`s count with, as they are collected
 --     StillSteady   refusal 7 where a command is put in the place of another
@@ -22,8 +20,6 @@ pub mod FilePrograms
 pub mod ProcedureMasks
 pub mod Procedures
 pub mod WrongCalls
-pub mod FileNodes
-pub mod Fors
 pub mod Tests
 pub mod ForMasks
 pub mod StillSteady

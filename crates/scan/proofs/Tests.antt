@@ -32,9 +32,9 @@ use Rattle.layout.specs.Standing.{PartStands}
 use Rattle.layout.specs.For.{steady, unsteady, unsteadyAt}
 use Rattle.layout.specs.File.{File}
 use Rattle.layout.specs.Nodes.{commandNode}
-use Rattle.layout.proofs.Back.{command-stands}
 use Rattle.layout.proofs.Stands.{rest, less-fit}
-use Rattle.layout.proofs.Nodes.{content-at, node-deeper, node-inside}
+use Rattle.layout.proofs.Nodes.{content-at, node-inside}
+use Rattle.layout.proofs.Fors.{ForStands, for-read, file-fors}
 use Rattle.words.specs.Load.{lesser}
 use Rattle.words.proofs.Loading.{lesser-first}
 use Rattle.ends.specs.Ends.{EndsListed}
@@ -52,7 +52,6 @@ use Rattle.scan.specs.declared.steady.Steadiness.the-variants.{Steady, A
 use Rattle.scan.proofs.First.{first-start, first-here, first-next, first-end}
 use Rattle.scan.proofs.Passing.{first-passed}
 use Rattle.scan.proofs.Trees.{marked-command, masks-called}
-use Rattle.scan.proofs.Fors.{ForStands, file-fors}
 
 -- a `for` over q up to m with body c stands at the place, under the context with all procedures
 record Over (file : List ℕ) (Δ : Context) (at q m : ℕ) (c : Command) : Type 0 where
@@ -93,22 +92,15 @@ module _ (file ends : List ℕ) (at : ℕ) where
       resolved = x .resolved;
     }
 
-    read-for : (x : ForStands file Δ at) →
-        command Δ file (Δ .limits .depth) at ≡ read (for (x .q) (x .m) (x .body)) (x .past)
-    read-for x =
-        let c = for (x .q) (x .m) (x .body) in
-        let fit = node-deeper (suc (x .levels)) (Δ .limits .depth) (x .within) (commandNode Δ c) (x .stands .fit) in
-        command-stands file Δ (Δ .limits .depth) c at (x .past) (record { stand = x .stands .stand; fit = fit }) .back
-
   tested-for : at < wordCount file → kindAt file at ≡ 31 → (b : Bool) →
       ((Δ : Context) → Masks file ends Δ → (q m : ℕ) (c : Command) → Over file Δ at q m c → b ≡ not (steady q m c)) →
       Tested file ends at b
   tested-for l h b f = record {
     place = λ limits g k.
         let Δ = fileContext limits g in
-        let x = file-fors file ends limits g k at l h in
+        let x = file-fors file limits g (k .stands) (k .called) at l h in
         f Δ (k .masks) (x .q) (x .m) (x .body) (over Δ x)
-        ∙ sym (is-for Δ h ∙ ap unsteady (read-for Δ x) ∙ for-steady (x .q) (x .m) (x .body) (x .past));
+        ∙ sym (is-for Δ h ∙ ap unsteady (for-read file Δ x) ∙ for-steady (x .q) (x .m) (x .body) (x .past));
   }
 
   module _ {Δ : Context} {q m : ℕ} {c : Command} (o : Over file Δ at q m c) where
@@ -180,13 +172,13 @@ module _ (file ends : List ℕ) (at : ℕ) where
       && (not (bodyAssigns file ends at (payloadAt file at % 32)) && not (bodyAssigns file ends at (payloadAt file at / 32 % 32))))
   unsteady-words limits f k e l h =
       let Δ = fileContext limits f in
-      let x = file-fors file ends limits f k at l h in
+      let x = file-fors file limits f (k .stands) (k .called) at l h in
       let q = x .q in
       let m = x .m in
       let c = x .body in
       let o = over file ends at Δ x in
       let second : payloadAt file at / 32 % 32 ≡ m = omega (arith, second-number file ends at o, o .second-low) in
-      is-for file ends at Δ h ∙ ap unsteady (read-for file ends at Δ x) ∙ for-steady q m c (x .past)
+      is-for file ends at Δ h ∙ ap unsteady (for-read file Δ x) ∙ for-steady q m c (x .past)
       ∙ sym
       (ap₂ (λ i j. not (not (eqb i j) && (not (bodyAssigns file ends at i) && not (bodyAssigns file ends at j))))
       (first-number file ends at o) second

@@ -20,11 +20,11 @@ use Rattle.layout.specs.Nodes.{expressionNode, commandNode, setNode, headOf, ki
 use Rattle.layout.specs.File.{File}
 use Rattle.layout.proofs.Nodes.{opened}
 use Rattle.layout.proofs.Forms.{sort-kind, low-kind}
+use Rattle.layout.proofs.FileNodes.{WordAt, of-expression, of-command, of-set, of-none, file-words}
 use Rattle.ends.specs.Ends.{EndsListed}
 use Rattle.ends.proofs.Table.{node-listed}
 use Rattle.ends.specs.Places.{endAt}
 use Rattle.scan.specs.Steady.{fileContext}
-use Rattle.scan.proofs.FileNodes.{WordAt, of-expression, of-command, of-set, of-none, file-words}
 use Rattle.masks.specs.Masks.{commandAt}
 use Rattle.masks.proofs.Commands.{NoneRead, no-command, none-past, command-read}
 use Rattle.masks.specs.Filled.{OtherKind}
@@ -91,10 +91,11 @@ module _ {file ends : List ℕ} (e : EndsListed file ends) {at : ℕ} (l : at < 
 
   pub simple-other : isSimpleKind (kindAt file at) ≡ false → SimpleAt file ends at to false
   simple-other h = record {
-    is = λ limits f k. word-said limits f h (file-words file ends limits f k .each at (omega arith) l);
+    is = λ limits f k. word-said limits f h (file-words file limits f (k .stands) (k .called) .each at (omega arith) l);
   }
 
   pub simple-here : {p : ℕ} → isSimpleKind (kindAt file at) ≡ true → p ≡ endAt ends at → SimpleAt file ends at to (eqb p to)
   simple-here h g = record {
-    is = λ limits f k. ap (λ i. eqb i to) g ∙ word-said limits f h (file-words file ends limits f k .each at (omega arith) l);
+    is = λ limits f k.
+        ap (λ i. eqb i to) g ∙ word-said limits f h (file-words file limits f (k .stands) (k .called) .each at (omega arith) l);
   }

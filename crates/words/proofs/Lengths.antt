@@ -14,18 +14,18 @@ use lib.ListN.{length, take, length-take}
 use Rattle.rules.specs.Context.{Limits}
 use Rattle.layout.specs.Bytes.{wordsOf}
 use Rattle.layout.specs.Reading.{fault}
-use Rattle.layout.specs.File.{badLength, fileOf, wordsRead}
+use Rattle.layout.specs.File.{badLength, bytesRead, wordsRead}
 use Rattle.words.specs.Load.{Loaded}
 use Rattle.words.proofs.Loading.{words-length, loaded-words}
 
 module _ (limits : Limits) (bytes : List ℕ) where
-  pub bad-file : badLength bytes ≡ true → fileOf limits bytes ≡ fault 1 0
-  unfolding fileOf
-  bad-file h = rw (h, fileOf) refl
+  pub bad-file : badLength bytes ≡ true → bytesRead limits bytes ≡ fault 1 0
+  unfolding bytesRead
+  bad-file h = rw (h, bytesRead) refl
 
-  pub good-file : badLength bytes ≡ false → fileOf limits bytes ≡ wordsRead limits (wordsOf bytes)
-  unfolding fileOf
-  good-file h = rw (h, fileOf) refl
+  pub good-file : badLength bytes ≡ false → bytesRead limits bytes ≡ wordsRead limits (wordsOf bytes)
+  unfolding bytesRead
+  good-file h = rw (h, bytesRead) refl
 
 pub good-length : (bytes : List ℕ) → badLength bytes ≡ false → length bytes ≤ 32768
 good-length bytes h = go (eqb (length bytes) 0) (ltb 32768 (length bytes)) refl h

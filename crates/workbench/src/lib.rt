@@ -1,4 +1,4 @@
-// The workbench call (document 02, request [5]): another skip, assert or assignment of equal length in the place of one, and the masks of
+// The workbench call (document 02, requests [5] and [6]): another skip, assert or assignment of equal length in the place of one, and the masks of
 // the changed file.
 use changed_file::old::Old;
 use changed_file::old::is_known;
@@ -7,6 +7,9 @@ use changed_file::read_mended;
 use changed_file::table::fill_marked;
 use changed_file::table::read_marked;
 use context::Context;
+use context::settings::Settings;
+use context::settings::are_within_ranges;
+use context::settings::context_under;
 use file::read_table;
 use masks::fill;
 use masks::lent::few_numbers;
@@ -24,7 +27,8 @@ use words::load::bad_length;
 use words::load::load;
 ghost use Prim.Native.Nat.{_+_, _*_, _/_, _<_, _≤_};
 ghost use lib.ListN.{length};
-ghost use Rattle.context.specs.Contexts.{limitsOf};
+ghost use Rattle.context.specs.Settings.{limitsGiven};
+ghost use Rattle.context.specs.Contexts.{limitsOf, Settable};
 ghost use Rattle.changed_file.specs.Changed.{ChangedKnown};
 ghost use Rattle.replacement.specs.Put.{PutDone};
 ghost use Rattle.replacement.specs.Steps.{CanRead, CanReplace, CanChange, CanSettle, CanFinish};
@@ -187,7 +191,7 @@ fn put_in(
     place: usize,
     new: &[u8],
 ) -> Replaced
-    requires { ⌜ CanLoad (now file) (now words) (now table) ⌝ }
+    requires { ⌜ CanLoad (now file) (now words) (now table) × Settable context ⌝ }
     ensures { λ r. ⌜ PutDone (limitsOf context) (now (file .entry)) (now (masks .entry)) place (now (new .entry)) r (now (file .exit)) (now (masks .exit)) ⌝ }
 {
     if few_numbers(file, masks.len()) {
@@ -223,7 +227,7 @@ fn put_256(
     place: usize,
     new: &[u8],
 ) -> Replaced
-    requires { ⌜ length (now file) ≤ 4 * 256 ⌝ }
+    requires { ⌜ (length (now file) ≤ 4 * 256) × Settable context ⌝ }
     ensures { λ r. ⌜ PutDone (limitsOf context) (now (file .entry)) (now (masks .entry)) place (now (new .entry)) r (now (file .exit)) (now (masks .exit)) ⌝ }
 {
     let mut words = [0u32; 256];
@@ -239,7 +243,7 @@ fn put_512(
     place: usize,
     new: &[u8],
 ) -> Replaced
-    requires { ⌜ length (now file) ≤ 4 * 512 ⌝ }
+    requires { ⌜ (length (now file) ≤ 4 * 512) × Settable context ⌝ }
     ensures { λ r. ⌜ PutDone (limitsOf context) (now (file .entry)) (now (masks .entry)) place (now (new .entry)) r (now (file .exit)) (now (masks .exit)) ⌝ }
 {
     let mut words = [0u32; 512];
@@ -255,7 +259,7 @@ fn put_1024(
     place: usize,
     new: &[u8],
 ) -> Replaced
-    requires { ⌜ length (now file) ≤ 4 * 1024 ⌝ }
+    requires { ⌜ (length (now file) ≤ 4 * 1024) × Settable context ⌝ }
     ensures { λ r. ⌜ PutDone (limitsOf context) (now (file .entry)) (now (masks .entry)) place (now (new .entry)) r (now (file .exit)) (now (masks .exit)) ⌝ }
 {
     let mut words = [0u32; 1024];
@@ -271,7 +275,7 @@ fn put_2048(
     place: usize,
     new: &[u8],
 ) -> Replaced
-    requires { ⌜ length (now file) ≤ 4 * 2048 ⌝ }
+    requires { ⌜ (length (now file) ≤ 4 * 2048) × Settable context ⌝ }
     ensures { λ r. ⌜ PutDone (limitsOf context) (now (file .entry)) (now (masks .entry)) place (now (new .entry)) r (now (file .exit)) (now (masks .exit)) ⌝ }
 {
     let mut words = [0u32; 2048];
@@ -287,7 +291,7 @@ fn put_4096(
     place: usize,
     new: &[u8],
 ) -> Replaced
-    requires { ⌜ length (now file) ≤ 4 * 4096 ⌝ }
+    requires { ⌜ (length (now file) ≤ 4 * 4096) × Settable context ⌝ }
     ensures { λ r. ⌜ PutDone (limitsOf context) (now (file .entry)) (now (masks .entry)) place (now (new .entry)) r (now (file .exit)) (now (masks .exit)) ⌝ }
 {
     let mut words = [0u32; 4096];
@@ -303,6 +307,7 @@ fn put_8192(
     place: usize,
     new: &[u8],
 ) -> Replaced
+    requires { ⌜ Settable context ⌝ }
     ensures { λ r. ⌜ PutDone (limitsOf context) (now (file .entry)) (now (masks .entry)) place (now (new .entry)) r (now (file .exit)) (now (masks .exit)) ⌝ }
 {
     let mut words = [0u32; 8192];
@@ -310,15 +315,16 @@ fn put_8192(
     put_in(&mut words, &mut table, context, file, masks, place, new)
 }
 
-// The workbench call. Clearing room for 8,192 words would be most of a small file's cost, so a file gets the least of these rooms that it
-// fits, as in the check.
-pub fn put(
+// The same in room by the size of the file. Clearing room for 8,192 words would be most of a small file's cost, so a file gets the least of
+// these rooms that it fits, as in the check.
+fn put_by_size(
     context: Context,
     file: &mut [u8],
     masks: &mut [u64],
     place: usize,
     new: &[u8],
 ) -> Replaced
+    requires { ⌜ Settable context ⌝ }
     ensures { λ r. ⌜ PutDone (limitsOf context) (now (file .entry)) (now (masks .entry)) place (now (new .entry)) r (now (file .exit)) (now (masks .exit)) ⌝ }
 {
     let n = file.len();
@@ -338,4 +344,21 @@ pub fn put(
         return put_4096(context, file, masks, place, new);
     }
     put_8192(context, file, masks, place, new)
+}
+
+// The workbench call: 19, and then the rest.
+pub fn put(
+    settings: Settings,
+    file: &mut [u8],
+    masks: &mut [u64],
+    place: usize,
+    new: &[u8],
+) -> Replaced
+    ensures { λ r. ⌜ PutDone (limitsGiven settings) (now (file .entry)) (now (masks .entry)) place (now (new .entry)) r
+        (now (file .exit)) (now (masks .exit)) ⌝ }
+{
+    if !are_within_ranges(settings) {
+        return refused(19);
+    }
+    put_by_size(context_under(settings), file, masks, place, new)
 }

@@ -8,8 +8,8 @@ const LONG: Duration = Duration::from_millis(400);
 const OFTEN: u32 = 5;
 
 /// The least nanoseconds of one call of each, separated by spaces.
-pub fn best(mut calls: [&mut dyn FnMut() -> u64; 3]) -> String {
-    let mut least = [Duration::MAX; 3];
+pub fn best<const N: usize>(mut calls: [&mut dyn FnMut() -> u64; N]) -> String {
+    let mut least = [Duration::MAX; N];
     let (start, mut rounds) = (Instant::now(), 0);
     while rounds < OFTEN || start.elapsed() < LONG {
         for (call, least) in calls.iter_mut().zip(&mut least) {

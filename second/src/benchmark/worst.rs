@@ -9,8 +9,8 @@ use crate::layout::write::{self, file_words, file_words_with};
 pub struct Kind {
     pub name: &'static str,
     pub tries: &'static str,
-    make: fn(u32) -> Vec<u32>,
-    most: u32,
+    pub(super) make: fn(u32) -> Vec<u32>,
+    pub(super) most: u32,
 }
 
 pub const KINDS: [Kind; 11] = [
@@ -59,12 +59,12 @@ pub fn without_assignments(bytes: &[u8]) -> Vec<u8> {
     bytes_of(&words)
 }
 
-fn number(n: u32) -> Arith {
+pub(super) fn number(n: u32) -> Arith {
     Arith::Constant(i64::from(n))
 }
 
 /// A balanced tree over leaves from..to.
-fn tree<T>(from: u32, to: u32, leaf: &dyn Fn(u32) -> T, join: &dyn Fn(T, T) -> T) -> T {
+pub(super) fn tree<T>(from: u32, to: u32, leaf: &dyn Fn(u32) -> T, join: &dyn Fn(T, T) -> T) -> T {
     if to - from <= 1 {
         return leaf(from);
     }
@@ -72,22 +72,30 @@ fn tree<T>(from: u32, to: u32, leaf: &dyn Fn(u32) -> T, join: &dyn Fn(T, T) -> T
     join(tree(from, middle, leaf, join), tree(middle, to, leaf, join))
 }
 
-/// Never true: ors of c ∧ ¬c, over ten comparisons c.
-fn never(pairs: u32) -> Bool {
+/// The comparisons of the document's most in an implication.
+const TEN: u32 = 10;
+
+/// Never true: ors of c ∧ ¬c, over so many comparisons c.
+pub(super) fn never(comparisons: u32, pairs: u32) -> Bool {
     let pair = |i: u32| {
-        let c = compare(Comparison::Less, Arith::Scalar(0), number(i % 10));
+        let c = compare(Comparison::Less, Arith::Scalar(0), number(i % comparisons));
         and(c.clone(), not(c))
     };
     tree(0, pairs, &pair, &or)
 }
 
 /// x + (x + (.. + n)), of 2 × length + 1 words.
-fn sum(length: u32, n: u32) -> Arith {
+pub(super) fn sum(length: u32, n: u32) -> Arith {
     (0..length).fold(number(n), |e, _| operate(Operator::Plus, Arith::Scalar(0), e))
 }
 
-/// Half of the file is the antecedent, half are ifs; rules 7, 6 and 15 at an if, 8, 10 and 14 at a leaf.
+/// Half of the file is the antecedent, half are ifs.
 fn shared(ifs: u32) -> Vec<u32> {
+    shared_by(never(TEN, 2 * ifs), ifs)
+}
+
+/// An antecedent that is never true; rules 7, 6 and 15 at an if, 8, 10 and 14 at a leaf.
+pub(super) fn shared_by(phi: Bool, ifs: u32) -> Vec<u32> {
     let nothing = |_| skip();
     let choose = |a, b| if_else(always(), a, b);
     let leaf = |_| {
@@ -103,35 +111,47 @@ fn shared(ifs: u32) -> Vec<u32> {
     };
     let c = tree(0, ifs + 1, &nothing, &choose);
     let evidence = tree(0, ifs + 1, &leaf, &node);
-    file_words(&c, &[], &[member(never(2 * ifs), Arith::Scalar(0))], &evidence)
+    file_words(&c, &[], &[member(phi, Arith::Scalar(0))], &evidence)
+}
+
+fn members(count: u32) -> Vec<u32> {
+    members_of(count, &never(TEN, 14))
 }
 
 /// Rule 14: each antecedent implies false.
-fn members(count: u32) -> Vec<u32> {
-    let post: Set = (0..count).map(|_| member(never(14), Arith::Scalar(0))).collect();
+pub(super) fn members_of(count: u32, phi: &Bool) -> Vec<u32> {
+    let post: Set = (0..count).map(|_| member(phi.clone(), Arith::Scalar(0))).collect();
     let set = implication_of(ImplicationRule::S14);
     let evidence = flow_of(FlowRule::F8 { m: Set::new(), flow: flow_of(FlowRule::F10), set });
     file_words(&skip(), &[], &post, &evidence)
 }
 
-/// Rule 28, again and again, then 29.
 fn chain(length: u32) -> Vec<u32> {
+    chain_of(length, &or(never(TEN, 7), always()))
+}
+
+/// Rule 28, again and again, then 29.
+pub(super) fn chain_of(length: u32, phi1: &Bool) -> Vec<u32> {
     let mut evidence = before_of(BeforeRule::B28 { phi1: always(), inner: before_of(BeforeRule::B29) });
     for _ in 0..length {
-        evidence = before_of(BeforeRule::B28 { phi1: or(never(7), always()), inner: evidence });
+        evidence = before_of(BeforeRule::B28 { phi1: phi1.clone(), inner: evidence });
     }
     let set = [member(always(), number(5))];
     file_words(&skip(), &set, &set, &flow_of(FlowRule::F11 { before: evidence }))
 }
 
-/// Rule 13 of flow at each while of a nest: P has the members of Q in reverse.
 fn sets(count: u32) -> Vec<u32> {
-    let mut p: Set = (1..count).map(|n| member(always(), sum(28, n))).collect();
+    sets_of(count, 28, 120)
+}
+
+/// Rule 13 of flow at each while of a nest: P has the members of Q, each a sum of this length, in reverse.
+pub(super) fn sets_of(count: u32, length: u32, whiles: u32) -> Vec<u32> {
+    let mut p: Set = (1..count).map(|n| member(always(), sum(length, n))).collect();
     p.push(Member { phi: always(), e: Expression::Bool(always()) });
     let q: Set = p.iter().rev().cloned().collect();
     let mut c = skip();
     let mut evidence = flow_of(FlowRule::F1);
-    for _ in 0..120 {
+    for _ in 0..whiles {
         c = command(Form::While(always(), Box::new(c)));
         evidence = flow_of(FlowRule::F13 { body: evidence });
     }
@@ -151,18 +171,25 @@ fn modified(leaves: u32) -> Vec<u32> {
     file_words(&c, &set, &set, &tree(0, leaves, &leaf, &node))
 }
 
-/// Rule 3: P has what Q's members become, in reverse.
 fn replace(count: u32) -> Vec<u32> {
-    let right = sum(56, 3);
+    replace_by(count, sum(56, 3))
+}
+
+/// Rule 3: P has what Q's members become, in reverse.
+pub(super) fn replace_by(count: u32, right: Arith) -> Vec<u32> {
     let with = |e: Arith, n| member(always(), operate(Operator::Plus, e, number(n)));
     let p: Set = (0..count).rev().map(|n| with(right.clone(), n)).collect();
     let q: Set = (0..count).map(|n| with(Arith::Scalar(1), n)).collect();
     file_words(&command(Form::AssignScalar(1, right)), &p, &q, &flow_of(FlowRule::F3))
 }
 
-/// Rule 1: members of depth 128 in both parts.
 fn deep(count: u32) -> Vec<u32> {
-    let nots = (0..126).fold(always(), |e, _| not(e));
+    deep_to(128, count)
+}
+
+/// Rule 1: members of this depth in both parts.
+pub(super) fn deep_to(depth: u32, count: u32) -> Vec<u32> {
+    let nots = (0..depth - 2).fold(always(), |e, _| not(e));
     let one = Member { phi: nots.clone(), e: Expression::Bool(nots) };
     let set: Set = (0..count).map(|_| one.clone()).collect();
     file_words(&skip(), &set, &set, &flow_of(FlowRule::F1))
@@ -226,9 +253,14 @@ fn plain(ifs: u32) -> Vec<u32> {
 /// Request [2], rule 1: the antecedents alone tell the members apart, each in a chain of trues; P is the reverse of Q, nested to the other
 /// side.
 fn plain_sets(count: u32) -> Vec<u32> {
+    plain_sets_of(count, 29)
+}
+
+/// The same with chains of this length.
+pub(super) fn plain_sets_of(count: u32, length: u32) -> Vec<u32> {
     let one = |n: u32, right| {
         let phi = compare(Comparison::Less, Arith::Scalar(0), number(n));
-        member(chain_of_trues(29, phi, right), Arith::Scalar(1))
+        member(chain_of_trues(length, phi, right), Arith::Scalar(1))
     };
     let p: Set = (0..count).rev().map(|n| one(n, n % 2 == 0)).collect();
     let q: Set = (0..count).map(|n| one(n, n % 2 == 1)).collect();
@@ -258,37 +290,42 @@ fn from_set_to_set(from: u32, to: u32, set: &dyn Fn(u32) -> Set) -> Box<Flow> {
 
 /// Files that take much stack: evidence as deep as may be, and under it a rule that walks an expression as deep as may be.
 pub fn deepest() -> Vec<Vec<u8>> {
-    const DEEP: u32 = 125;
-    let nots = (0..DEEP).fold(Bool::Truth(true), |e, _| not(e));
-    let left = (0..DEEP).fold(always(), |e, _| and(e, always()));
-    let right = (0..DEEP).fold(always(), |e, _| or(always(), e));
-    let mut files: Vec<Vec<u8>> = [&nots, &left, &right].map(|phi| implied_below(phi)).into();
+    deepest_to(128)
+}
+
+/// The same where this is the most depth.
+pub fn deepest_to(depth: u32) -> Vec<Vec<u8>> {
+    let most = depth - 3;
+    let nots = (0..most).fold(Bool::Truth(true), |e, _| not(e));
+    let left = (0..most).fold(always(), |e, _| and(e, always()));
+    let right = (0..most).fold(always(), |e, _| or(always(), e));
+    let mut files: Vec<Vec<u8>> = [&nots, &left, &right].map(|phi| implied_below(depth, phi)).into();
     let x = || Arith::Scalar(1);
-    let plus_left = (0..DEEP).fold(x(), |e, _| operate(Operator::Plus, e, x()));
-    let plus_right = (0..DEEP).fold(x(), |e, _| operate(Operator::Plus, x(), e));
+    let plus_left = (0..most).fold(x(), |e, _| operate(Operator::Plus, e, x()));
+    let plus_right = (0..most).fold(x(), |e, _| operate(Operator::Plus, x(), e));
     let update = |e: Array| Array::Update(Box::new(e), Box::new(x()), Box::new(x()));
-    let updates = (0..DEEP).fold(Array::Identifier(0), |e, _| update(e));
+    let updates = (0..most).fold(Array::Identifier(0), |e, _| update(e));
     let select = |e: Arith| Arith::Select(Box::new(Array::Identifier(0)), Box::new(e));
-    let selects = (0..DEEP).fold(x(), |e, _| select(e));
-    files.extend([plus_left, plus_right, selects].map(|e| replaced_below(Expression::Arith(e))));
-    files.push(replaced_below(Expression::Array(updates)));
-    files.extend([nots, left, right].map(|e| replaced_below(Expression::Bool(e))));
+    let selects = (0..most).fold(x(), |e, _| select(e));
+    files.extend([plus_left, plus_right, selects].map(|e| replaced_below(depth, Expression::Arith(e))));
+    files.push(replaced_below(depth, Expression::Array(updates)));
+    files.extend([nots, left, right].map(|e| replaced_below(depth, Expression::Bool(e))));
     let never = || Bool::Truth(false);
     let ways: [fn(Bool, Bool) -> Bool; 5] = [|e, _| not(e), or, |e, f| or(f, e), and, |e, f| and(f, e)];
     for way in ways {
-        let deep = |last| (0..DEEP).fold(last, |e, _| way(e, never()));
-        files.push(compared_below(deep(and(always(), never())), deep(never())));
+        let deep = |last| (0..most).fold(last, |e, _| way(e, never()));
+        files.push(compared_below(depth, deep(and(always(), never())), deep(never())));
     }
     files
 }
 
 /// Rule 13 of flow again and again, then rule 1: antecedents that are equal once a "true and" is dropped below.
-fn compared_below(phi: Bool, psi: Bool) -> Vec<u8> {
+fn compared_below(depth: u32, phi: Bool, psi: Bool) -> Vec<u8> {
     let test = Member { phi: always(), e: Expression::Bool(always()) };
     let [p, q] = [phi, psi].map(|phi| [test.clone(), member(phi, number(5))]);
     let mut c = skip();
     let mut evidence = flow_of(FlowRule::F1);
-    for _ in 0..125 {
+    for _ in 0..depth - 3 {
         c = command(Form::While(always(), Box::new(c)));
         evidence = flow_of(FlowRule::F13 { body: evidence });
     }
@@ -296,9 +333,9 @@ fn compared_below(phi: Bool, psi: Bool) -> Vec<u8> {
 }
 
 /// Rule 28 again and again, then rule 21, whose condition has the antecedent of Q.
-fn implied_below(phi: &Bool) -> Vec<u8> {
+fn implied_below(depth: u32, phi: &Bool) -> Vec<u8> {
     let mut evidence = before_of(BeforeRule::B21 { phi0: always(), body: before_of(BeforeRule::B22) });
-    for _ in 0..120 {
+    for _ in 0..depth - 8 {
         evidence = before_of(BeforeRule::B28 { phi1: always(), inner: evidence });
     }
     let c = command(Form::While(Bool::Truth(false), Box::new(skip())));
@@ -308,12 +345,12 @@ fn implied_below(phi: &Bool) -> Vec<u8> {
 }
 
 /// Rule 13 of flow again and again, then rule 3 for x := x.
-fn replaced_below(e: Expression) -> Vec<u8> {
+fn replaced_below(depth: u32, e: Expression) -> Vec<u8> {
     let test = Member { phi: always(), e: Expression::Bool(always()) };
     let set = [test, Member { phi: always(), e }];
     let mut c = command(Form::AssignScalar(1, Arith::Scalar(1)));
     let mut evidence = flow_of(FlowRule::F3);
-    for _ in 0..125 {
+    for _ in 0..depth - 3 {
         c = command(Form::While(always(), Box::new(c)));
         evidence = flow_of(FlowRule::F13 { body: evidence });
     }

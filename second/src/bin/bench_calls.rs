@@ -6,6 +6,7 @@
 mod first;
 
 use second::fast::{self, Work};
+use second::layout::settings::STANDARD;
 use second::layout::words::{bytes_of, MOST_BYTES};
 use second::naive::judge::line_of;
 use second::tool::{self, Fault};
@@ -19,8 +20,8 @@ const NOT_LINKED: &str = "built without the feature `first`";
 
 fn check_with_masks(version: &str, bytes: &[u8], masks: &mut [u64]) -> Result<String, Fault> {
     let packed = match version {
-        "proved" => first::check_with_masks(bytes, masks).expect(NOT_LINKED),
-        "fast" => fast::check_with_masks(bytes, masks, &mut WORK.lock().expect("one thread")),
+        "proved" => first::check_with_masks(bytes, masks, STANDARD).expect(NOT_LINKED),
+        "fast" => fast::check_with_masks(bytes, masks, fast::STANDARD, &mut WORK.lock().expect("one thread")),
         _ => return Err(Fault::Usage),
     };
     Ok(line_of(packed))
@@ -32,7 +33,7 @@ fn word(text: &String) -> Result<u32, Fault> {
 }
 
 fn put(bytes: &mut [u8], masks: &mut [u64], place: usize, new: &[u32]) -> String {
-    match first::put(bytes, masks, place, &bytes_of(new)).expect(NOT_LINKED) {
+    match first::put(bytes, masks, place, &bytes_of(new), STANDARD).expect(NOT_LINKED) {
         0 => "put".to_string(),
         packed => line_of(packed),
     }

@@ -8,7 +8,8 @@ mod first;
 use second::benchmark::programs;
 use second::benchmark::times::best;
 use second::fast::{self, Work};
-use second::naive::run::{self, End, ARRAY_VALUES, MOST_BUDGET, SCALARS};
+use second::layout::settings::STANDARD;
+use second::naive::run::{self, ARRAY_VALUES, MOST_BUDGET, SCALARS};
 use second::tool::{self, Fault};
 use std::io::Write;
 use std::sync::Mutex;
@@ -19,20 +20,15 @@ static WORK: Mutex<Work> = Mutex::new(Work::new());
 struct Store([i64; SCALARS], [i64; ARRAY_VALUES]);
 
 fn proved(bytes: &[u8], store: &mut Store) -> u64 {
-    first::run(bytes, MOST_BUDGET, &mut store.0, &mut store.1).expect("built without the feature `first`")
+    first::run(bytes, MOST_BUDGET, &mut store.0, &mut store.1, STANDARD).expect("built without the feature `first`")
 }
 
 fn fast(bytes: &[u8], store: &mut Store) -> u64 {
-    fast::run(bytes, MOST_BUDGET, &mut store.0, &mut store.1, &mut WORK.lock().expect("one thread"))
+    fast::run(bytes, MOST_BUDGET, &mut store.0, &mut store.1, fast::STANDARD, &mut WORK.lock().expect("one thread"))
 }
 
 fn second(bytes: &[u8], store: &mut Store) -> u64 {
-    let outcome = run::run(bytes, MOST_BUDGET, &mut store.0, &mut store.1);
-    let code = match outcome.end {
-        End::Ended => 0,
-        End::Refused(r) => u64::from(r.number) << 16 | r.place as u64,
-    };
-    outcome.steps << 32 | code
+    run::run(bytes, MOST_BUDGET, &mut store.0, &mut store.1, STANDARD).packed()
 }
 
 /// The answer of a run in a fresh store, and a sum over the store that it leaves.

@@ -1,51 +1,41 @@
-//! `compare_calls SEED COUNT [ROWS]`: makes COUNT files with a replacement for a command of each, and compares the check with masks and
-//! the workbench call of the second implementation with those of the fast version and of the first, if one is linked (feature `first`,
-//! see build.rs): the answer, every mask and every byte of the file afterwards; and that of each version the check with masks answers
+//! `compare_calls SEED COUNT [ROWS]`: makes COUNT files with a replacement for a command of each, and settings, and compares the check with
+//! masks and the workbench call of the second implementation with those of the fast version and of the first, if one is linked (feature
+//! `first`, see build.rs): the answer, every mask and every byte of the file afterwards; and that of each version the check with masks answers
 //! as the check does, but for 17. ROWS is a file in the form of tests/calls.tsv, which each version is compared with. Exit status 1 on
 //! a difference.
 
-#[path = "first/check.rs"]
-mod check;
 #[path = "first/calls.rs"]
 mod first;
+#[path = "first/run.rs"]
+mod run;
+#[path = "first/settings.rs"]
+mod settings;
 
-use second::fast;
 use second::generate::file_prng;
 use second::generate::put_cases::put_case;
-use second::naive::judge::{self, line_of};
-use second::tool::calls::{compare_rows, Call, Given, Left, Version, NAIVE};
+use second::naive::judge::line_of;
+use second::tool::calls::{compare_rows, Call, Given, Left, Version, FAST, NAIVE};
 use second::tool::rows::hex_of;
 use second::tool::{self, Fault};
 use std::collections::BTreeMap;
 use std::io::Write;
-use std::sync::Mutex;
 
-static WORK: Mutex<fast::Work> = Mutex::new(fast::Work::new());
-
-const FAST: Version = Version {
-    name: "fast",
-    check_with_masks: |bytes, masks| Some(fast::check_with_masks(bytes, masks, &mut WORK.lock().expect("one thread"))),
-    put: |bytes, masks, place, new| Some(fast::put(bytes, masks, place, new, &mut WORK.lock().expect("one thread"))),
+const FIRST: Version = Version {
+    name: "first",
+    check: settings::check_settings,
+    check_with_masks: first::check_with_masks,
+    put: first::put,
+    run: run::run,
 };
 
-const FIRST: Version = Version { name: "first", check_with_masks: first::check_with_masks, put: first::put };
-
-/// Each version with its check without masks.
-type Check = fn(&[u8]) -> Option<u32>;
-const CHECKS: [(Version, Check); 3] = [
-    (NAIVE, |bytes| Some(judge::check(bytes).packed())),
-    (FAST, |bytes| Some(fast::check(bytes, &mut WORK.lock().expect("one thread")))),
-    (FIRST, check::check),
-];
-
 /// The refusal of too few numbers.
-const TOO_FEW: u32 = 17 * 65_536;
+const TOO_FEW: u64 = 17 * 65_536;
 
 struct Comparison<'a> {
     out: &'a mut dyn Write,
     compared: u64,
     differences: u64,
-    answers: BTreeMap<(&'static str, u32), u64>,
+    answers: BTreeMap<(&'static str, u64), u64>,
 }
 
 impl Comparison<'_> {
@@ -70,10 +60,11 @@ impl Comparison<'_> {
         if matches!(given.call, Call::Put(..)) || want.packed == TOO_FEW {
             return Ok(());
         }
-        for (version, check) in CHECKS {
-            let (Some(with), Some(without)) = (version.call(given), check(&given.bytes)) else { continue };
-            if with.packed != without {
-                let (with, without) = (line_of(with.packed), line_of(without));
+        for version in [NAIVE, FAST, FIRST] {
+            let without = (version.check)(&given.bytes, given.settings);
+            let (Some(with), Some(without)) = (version.call(given), without) else { continue };
+            if with.packed != u64::from(without) {
+                let (with, without) = (line_of(with.packed as u32), line_of(without));
                 self.differ(name, given, &[version.name, &with, "without masks", &without])?;
             }
         }
@@ -82,11 +73,7 @@ impl Comparison<'_> {
 
     fn differ(&mut self, name: &str, given: &Given, said: &[&str]) -> Result<(), Fault> {
         self.differences += 1;
-        let call = match &given.call {
-            Call::Masks => format!("masks lent={}", given.masks.len()),
-            Call::Put(place, new) => format!("put lent={} place={place} new={}", given.masks.len(), hex_of(new)),
-        };
-        writeln!(self.out, "{name}: {call}\t{}\n  {}", hex_of(&given.bytes), said.join(" "))?;
+        writeln!(self.out, "{name}: {}\t{}\n  {}", given.text(), hex_of(&given.bytes), said.join(" "))?;
         Ok(())
     }
 
@@ -94,14 +81,14 @@ impl Comparison<'_> {
     fn generated(&mut self, seed: u64, i: u64) -> Result<(), Fault> {
         let case = put_case(&mut file_prng(seed, i));
         let name = format!("seed {seed}, case {i}");
-        let mut given = Given { bytes: case.bytes, masks: case.lent, call: Call::Masks };
+        let mut given = Given { bytes: case.bytes, masks: case.lent, settings: case.settings, call: Call::Masks };
         self.call(&name, &given)?;
         given.call = Call::Put(case.place, case.new);
         self.call(&name, &given)
     }
 
     fn rows(&mut self, text: &str) -> Result<(), Fault> {
-        for (version, _) in CHECKS {
+        for version in [NAIVE, FAST, FIRST] {
             let (compared, differences) = compare_rows(text, &version)?;
             self.compared += compared;
             self.differences += differences.len() as u64;

@@ -1,8 +1,10 @@
 //! `rows SEED COUNT check|runs`: generated files as rows in the form of the
-//! vectors' check.txt or runs.txt, with the second implementation's answers.
+//! vectors' check.txt or runs.txt, with the second implementation's answers
+//! under the old settings.
 
 use second::generate::run_cases::run_case;
 use second::generate::{file_prng, mixed};
+use second::layout::settings::STANDARD;
 use second::naive::judge::check;
 use second::naive::run::{run, SCALARS};
 use second::tool::rows::{changes_of, hex_of};
@@ -28,7 +30,7 @@ fn program(arguments: &[String], out: &mut dyn Write) -> Result<u8, Fault> {
             let case = run_case(&mut file_prng(seed, i));
             let mut store = case.store.clone();
             let (scalars, arrays) = store.split_at_mut(SCALARS);
-            let outcome = run(&case.bytes, case.budget, scalars, arrays);
+            let outcome = run(&case.bytes, case.budget, scalars, arrays, STANDARD);
             let lent = changes_of(&vec![0; case.store.len()], &case.store);
             let changes = changes_of(&case.store, &store);
             format!(

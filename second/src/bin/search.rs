@@ -5,6 +5,7 @@
 //! or 9, to show that the search can find something. Exit status 1 if an
 //! accepted file has a counterexample.
 
+use second::layout::settings::STANDARD;
 use second::compare::pairs::{try_pair, Found};
 use second::generate::mutate::mutate;
 use second::generate::nearly::nearly;
@@ -47,7 +48,7 @@ fn is_wanted(bytes: &[u8], refused: bool) -> bool {
 
 /// Pairs of stores for a file, up to a counterexample; one of an accepted file is written, after `name`.
 fn try_file(rng: &mut Prng, bytes: &[u8], pairs: u64, name: Option<&str>, out: &mut dyn Write) -> Result<Counts, Fault> {
-    let file = read(bytes).expect("readable");
+    let file = read(bytes, STANDARD).expect("readable");
     let mut counts = [0; 6];
     for _ in 0..pairs {
         let (found, stores) = try_pair(rng, &file, BOUND);

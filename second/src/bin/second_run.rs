@@ -1,5 +1,5 @@
-//! `second_run BUDGET [STORE]`: the file on standard input, the store as `index=value,...` (see tool/rows.rs). Writes the end,
-//! the steps and the changes, separated by tabs.
+//! `second_run [SETTINGS] BUDGET [STORE]`: the file on standard input, the store as `index=value,...` (see tool/rows.rs), settings as
+//! `--depth 256` (request [6]; the old ones if none are given). Writes the end, the steps and the changes, separated by tabs.
 
 use second::naive::run::{run, SCALARS};
 use second::tool::rows::{changes_of, store_of};
@@ -7,10 +7,11 @@ use second::tool::{self, Fault};
 use std::io::Write;
 
 fn main() {
-    tool::run(env!("CARGO_BIN_NAME"), "BUDGET [INDEX=VALUE,...] < FILE", program)
+    tool::run(env!("CARGO_BIN_NAME"), &format!("{} BUDGET [INDEX=VALUE,...] < FILE", tool::SETTINGS), program)
 }
 
 fn program(arguments: &[String], out: &mut dyn Write) -> Result<u8, Fault> {
+    let (settings, arguments) = tool::settings(arguments)?;
     let (budget, store) = match arguments {
         [budget] => (budget, ""),
         [budget, store] => (budget, store.as_str()),
@@ -20,7 +21,7 @@ fn program(arguments: &[String], out: &mut dyn Write) -> Result<u8, Fault> {
     let bytes = tool::read_input()?;
     let mut store = old.clone();
     let (scalars, arrays) = store.split_at_mut(SCALARS);
-    let outcome = run(&bytes, budget, scalars, arrays);
+    let outcome = run(&bytes, budget, scalars, arrays, settings);
     writeln!(out, "{}\t{}\t{}", outcome.end_text(), outcome.steps, changes_of(&old, &store))?;
     Ok(0)
 }

@@ -1,6 +1,7 @@
 //! Certificates of `examples/` as trees: the text and the file of one, and short ways to write the trees.
 
 use crate::generate::plain::booleans::{Booleans, Stands};
+use crate::layout::settings::STANDARD;
 use crate::layout::syntax::*;
 use crate::layout::words::bytes_of;
 use crate::layout::write::file_words_with;
@@ -29,7 +30,7 @@ impl Example {
     }
 
     pub fn text(&self) -> String {
-        let file = read(&self.bytes()).expect("an example reads");
+        let file = read(&self.bytes(), STANDARD).expect("an example reads");
         let mut head = String::new();
         for line in self.about.lines() {
             head.push_str(&format!("# {line}\n"));
@@ -49,7 +50,7 @@ impl Example {
 
 /// The certificate with every antecedent and every carried assertion plain; consequents and commands are as they were.
 pub fn tidied(example: Example) -> Example {
-    let mut file = read(&example.bytes()).expect("an example reads");
+    let mut file = read(&example.bytes(), STANDARD).expect("an example reads");
     let mut change = |stands, b: &mut Bool| {
         if matches!(stands, Stands::Antecedent | Stands::Without) {
             *b = plain(b);

@@ -2,8 +2,6 @@
 //! carries; and the sizes of "Runner".
 
 pub const MOST_WORDS: usize = 8_192;
-pub const MOST_DEPTH: u32 = 128;
-pub const MOST_MEMBERS: u32 = 64;
 pub const MOST_PROCEDURES: usize = 16;
 
 pub const SCALARS: usize = 32;

@@ -1,5 +1,5 @@
 //! Fast: the check, the runner and the calls of request [5] again, plain and for speed, from document 01 and requests [3], [1], [2],
-//! [4] and [5]: what one writes where nothing has to be proved. Nothing is allocated or cleared: the caller lends the arrays. A part of
+//! [4], [5] and [6]: what one writes where nothing has to be proved. Nothing is allocated or cleared: the caller lends the arrays. A part of
 //! the file is its place among the words, a goal is such places, and each part's end and identifiers, and each boolean's plain form, are
 //! worked out once, while it is read.
 //!
@@ -16,13 +16,16 @@ mod pre;
 mod read;
 mod run;
 mod sets;
+mod settings;
 
 pub use masks::{check_with_masks, put};
 pub use run::run;
+pub use settings::{Settings, STANDARD};
 
 use layout::{MOST_PROCEDURES, MOST_WORDS};
 use plain::Plain;
 use read::File;
+use settings::Limits;
 
 /// A refusal: number × 65,536 + place. As wide as what a part's reading gives, so that a result is handed back in registers.
 type Refused = u64;
@@ -130,6 +133,8 @@ struct Judge<'a> {
     /// At a command's place, what it modifies: as reading found it, or the stored masks.
     modified: &'a [u64],
     numbers: &'a mut [u8; MOST_WORDS],
+    /// The most comparisons of an implication.
+    comparisons: usize,
 }
 
 /// A goal judged.
@@ -146,23 +151,29 @@ fn need(condition: bool, place: usize) -> Judged {
 
 /// The check on bytes: the count of evidence words if accepted, else number × 65,536 + place.
 pub fn check(bytes: &[u8], work: &mut Work) -> u32 {
-    match read::read(bytes, &mut work.parts) {
-        Ok(file) => {
-            let Work { parts, numbers } = work;
-            Judge { parts, modified: &parts.identifiers, numbers }.file(&file)
-        }
+    check_settings(bytes, STANDARD, work)
+}
+
+/// The same under settings.
+pub fn check_settings(bytes: &[u8], settings: Settings, work: &mut Work) -> u32 {
+    match settings.limits().and_then(|limits| check_within(bytes, limits, work)) {
+        Ok(count) => count,
         Err(refused) => refused as u32,
     }
 }
 
+fn check_within(bytes: &[u8], limits: Limits, work: &mut Work) -> Result<u32, Refused> {
+    let file = read::read(bytes, limits, &mut work.parts)?;
+    let Work { parts, numbers } = work;
+    Judge { parts, modified: &parts.identifiers, numbers, comparisons: limits.comparisons }.file(&file)
+}
+
 impl Judge<'_> {
     /// The evidence of each procedure, then that of the main program.
-    fn file(&mut self, file: &File) -> u32 {
+    fn file(&mut self, file: &File) -> Result<u32, Refused> {
         let procedures = &self.parts.procedures[..file.procedures];
         let mut all = procedures.iter().chain(std::iter::once(&file.main));
-        match all.try_for_each(|part| self.flow(part.pre, part.command, part.post, part.evidence)) {
-            Ok(()) => file.count,
-            Err(refused) => refused as u32,
-        }
+        all.try_for_each(|part| self.flow(part.pre, part.command, part.post, part.evidence))?;
+        Ok(file.count)
     }
 }

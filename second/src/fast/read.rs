@@ -1,9 +1,10 @@
-//! Refusals 1 to 7 and 16. Each part that is read leaves its end and its identifiers, a boolean its plain form too; refusals 16
-//! and 7 are seen on the way and said last. A body calls only procedures before it, so what a call modifies is known when the call
-//! is read.
+//! Refusals 1 to 7 and 16. The depth that was set is counted down: each part is read within so many levels. Each part that is read leaves
+//! its end and its identifiers, a boolean its plain form too; refusals 16 and 7 are seen on the way and said last. A body calls only
+//! procedures before it, so what a call modifies is known when the call is read.
 
 use super::layout::*;
 use super::plain::Plain;
+use super::settings::Limits;
 use super::{refusal, Four, Parts, Refused};
 
 /// A file that was read: the count of its procedures, the places of the main program's parts, and the count of all evidence words.
@@ -17,6 +18,8 @@ struct Reader<'a> {
     parts: &'a mut Parts,
     words: usize,
     at: usize,
+    /// The most members of a set.
+    members: u32,
     count: u32,
     /// The procedures that were read: those that may be called here.
     callable: usize,
@@ -29,9 +32,9 @@ struct Reader<'a> {
 /// The identifiers of what was read.
 type Read = Result<u64, Refused>;
 
-pub fn read(bytes: &[u8], parts: &mut Parts) -> Result<File, Refused> {
+pub fn read(bytes: &[u8], limits: Limits, parts: &mut Parts) -> Result<File, Refused> {
     let words = read_words(bytes, parts)?;
-    read_parts(words, parts)
+    read_parts(words, limits, parts)
 }
 
 /// Refusals 1 and 2; the words are then in their array, and this is their count.
@@ -50,9 +53,9 @@ pub fn read_words(bytes: &[u8], parts: &mut Parts) -> Result<usize, Refused> {
 }
 
 /// Refusals 3 to 7 and 16 of so many words in their array.
-pub fn read_parts(words: usize, parts: &mut Parts) -> Result<File, Refused> {
-    let mut reader = Reader::from(1, words, parts);
-    let file = reader.file()?;
+pub fn read_parts(words: usize, limits: Limits, parts: &mut Parts) -> Result<File, Refused> {
+    let mut reader = Reader::from(1, words, limits.members, parts);
+    let file = reader.file(limits.depth)?;
     if reader.at < words {
         return Err(refusal(6, reader.at));
     }
@@ -65,25 +68,26 @@ pub fn read_parts(words: usize, parts: &mut Parts) -> Result<File, Refused> {
     Ok(file)
 }
 
-/// Whether the words from a place to an end are one whole command without calls, at this depth; what is known of them is then stored.
-pub fn read_command(place: usize, end: usize, depth: u32, parts: &mut Parts) -> bool {
-    let mut reader = Reader::from(place, end, parts);
-    reader.command(depth).is_ok() && reader.at == end
+/// Whether the words from a place to an end are one whole command without calls, within so many levels; what is known of them is then
+/// stored. A command has no set in it.
+pub fn read_command(place: usize, end: usize, levels: u32, parts: &mut Parts) -> bool {
+    let mut reader = Reader::from(place, end, 0, parts);
+    reader.command(levels).is_ok() && reader.at == end
 }
 
 impl<'a> Reader<'a> {
     /// Of the words from a place to an end.
-    fn from(at: usize, words: usize, parts: &'a mut Parts) -> Reader<'a> {
-        Reader { parts, words, at, count: 0, callable: 0, bad_call: usize::MAX, bad_for: usize::MAX }
+    fn from(at: usize, words: usize, members: u32, parts: &'a mut Parts) -> Reader<'a> {
+        Reader { parts, words, at, members, count: 0, callable: 0, bad_call: usize::MAX, bad_for: usize::MAX }
     }
 
-    fn file(&mut self) -> Result<File, Refused> {
+    fn file(&mut self, levels: u32) -> Result<File, Refused> {
         let procedures = self.table();
         while self.callable < procedures {
-            self.parts.procedures[self.callable] = self.four()?;
+            self.parts.procedures[self.callable] = self.four(levels)?;
             self.callable += 1;
         }
-        let main = self.four()?;
+        let main = self.four(levels)?;
         Ok(File { procedures, main, count: self.count })
     }
 
@@ -101,26 +105,26 @@ impl<'a> Reader<'a> {
         }
     }
 
-    fn four(&mut self) -> Result<Four, Refused> {
+    fn four(&mut self, levels: u32) -> Result<Four, Refused> {
         let command = self.at;
-        self.command(1)?;
+        self.command(levels)?;
         let pre = self.at;
-        self.set(1)?;
+        self.set(levels)?;
         let post = self.at;
-        self.set(1)?;
+        self.set(levels)?;
         let evidence = self.at;
-        self.evidence(FLOW, 1)?;
+        self.evidence(FLOW, levels)?;
         Ok(Four { command, pre, post, evidence })
     }
 
     /// The word that is due: refusals 3 and 4.
     #[inline(always)]
-    fn due(&mut self, depth: u32) -> Result<(usize, u32), Refused> {
+    fn due(&mut self, levels: u32) -> Result<(usize, u32), Refused> {
         let place = self.at;
         if place >= self.words {
             return Err(refusal(3, self.words));
         }
-        if depth > MOST_DEPTH {
+        if levels == 0 {
             return Err(refusal(4, place));
         }
         self.at = place + 1;
@@ -134,39 +138,39 @@ impl<'a> Reader<'a> {
         Ok(identifiers)
     }
 
-    fn arithmetic(&mut self, depth: u32) -> Read {
-        let (place, word) = self.due(depth)?;
-        self.arithmetic_from(place, word, depth)
+    fn arithmetic(&mut self, levels: u32) -> Read {
+        let (place, word) = self.due(levels)?;
+        self.arithmetic_from(place, word, levels)
     }
 
-    fn arithmetic_from(&mut self, place: usize, word: u32, depth: u32) -> Read {
+    fn arithmetic_from(&mut self, place: usize, word: u32, levels: u32) -> Read {
         let identifiers = match (kind(word), payload(word)) {
             (CONSTANT, _) => 0,
             (SCALAR, p @ 0..=31) => 1 << p,
-            (OPERATOR, 0..=2) => self.arithmetic(depth + 1)? | self.arithmetic(depth + 1)?,
-            (SELECT, 0) => self.array(depth + 1)? | self.arithmetic(depth + 1)?,
+            (OPERATOR, 0..=2) => self.arithmetic(levels - 1)? | self.arithmetic(levels - 1)?,
+            (SELECT, 0) => self.array(levels - 1)? | self.arithmetic(levels - 1)?,
             _ => return Err(refusal(5, place)),
         };
         self.done(place, identifiers)
     }
 
-    fn boolean(&mut self, depth: u32) -> Read {
-        let (place, word) = self.due(depth)?;
-        self.boolean_from(place, word, depth)
+    fn boolean(&mut self, levels: u32) -> Read {
+        let (place, word) = self.due(levels)?;
+        self.boolean_from(place, word, levels)
     }
 
-    fn boolean_from(&mut self, place: usize, word: u32, depth: u32) -> Read {
+    fn boolean_from(&mut self, place: usize, word: u32, levels: u32) -> Read {
         self.parts.plain[place] = Plain::written(place);
         let identifiers = match (kind(word), payload(word)) {
-            (COMPARISON, 0..=2) => self.arithmetic(depth + 1)? | self.arithmetic(depth + 1)?,
+            (COMPARISON, 0..=2) => self.arithmetic(levels - 1)? | self.arithmetic(levels - 1)?,
             (TRUTH, 0..=1) => 0,
             (AND | OR, 0) => {
-                let both = self.boolean(depth + 1)? | self.boolean(depth + 1)?;
+                let both = self.boolean(levels - 1)? | self.boolean(levels - 1)?;
                 self.parts.drop_in_pair(place);
                 both
             }
             (NOT, 0) => {
-                let one = self.boolean(depth + 1)?;
+                let one = self.boolean(levels - 1)?;
                 self.parts.drop_in_not(place);
                 one
             }
@@ -175,36 +179,36 @@ impl<'a> Reader<'a> {
         self.done(place, identifiers)
     }
 
-    fn array(&mut self, depth: u32) -> Read {
-        let (place, word) = self.due(depth)?;
-        self.array_from(place, word, depth)
+    fn array(&mut self, levels: u32) -> Read {
+        let (place, word) = self.due(levels)?;
+        self.array_from(place, word, levels)
     }
 
-    fn array_from(&mut self, place: usize, word: u32, depth: u32) -> Read {
+    fn array_from(&mut self, place: usize, word: u32, levels: u32) -> Read {
         let identifiers = match (kind(word), payload(word)) {
             (ARRAY, p @ 0..=31) => 1 << (32 + p),
             (ZERO, 0) => 0,
             (UPDATE, 0) => {
-                self.array(depth + 1)? | self.arithmetic(depth + 1)? | self.arithmetic(depth + 1)?
+                self.array(levels - 1)? | self.arithmetic(levels - 1)? | self.arithmetic(levels - 1)?
             }
             _ => return Err(refusal(5, place)),
         };
         self.done(place, identifiers)
     }
 
-    fn expression(&mut self, depth: u32) -> Read {
-        let (place, word) = self.due(depth)?;
+    fn expression(&mut self, levels: u32) -> Read {
+        let (place, word) = self.due(levels)?;
         match kind(word) {
-            COMPARISON..=NOT => self.boolean_from(place, word, depth),
-            ARRAY..=UPDATE => self.array_from(place, word, depth),
-            _ => self.arithmetic_from(place, word, depth),
+            COMPARISON..=NOT => self.boolean_from(place, word, levels),
+            ARRAY..=UPDATE => self.array_from(place, word, levels),
+            _ => self.arithmetic_from(place, word, levels),
         }
     }
 
     /// The identifiers are those that the command modifies.
-    fn command(&mut self, depth: u32) -> Read {
-        let (place, word) = self.due(depth)?;
-        let below = depth + 1;
+    fn command(&mut self, levels: u32) -> Read {
+        let (place, word) = self.due(levels)?;
+        let below = levels - 1;
         let modified = match (kind(word), payload(word)) {
             (SKIP, 0) => 0,
             (SEQUENCE, 0) => self.command(below)? | self.command(below)?,
@@ -227,8 +231,8 @@ impl<'a> Reader<'a> {
     }
 
     /// The body of a `for`: refusal 7 is kept for later.
-    fn body(&mut self, place: usize, q: u32, m: u32, depth: u32) -> Read {
-        let modified = self.command(depth)?;
+    fn body(&mut self, place: usize, q: u32, m: u32, levels: u32) -> Read {
+        let modified = self.command(levels)?;
         if q == m || modified & (1 << q | 1 << m) != 0 {
             self.bad_for = self.bad_for.min(place);
         }
@@ -244,20 +248,20 @@ impl<'a> Reader<'a> {
         0
     }
 
-    fn set(&mut self, depth: u32) -> Read {
-        let (place, word) = self.due(depth)?;
-        if kind(word) != SET || payload(word) > MOST_MEMBERS {
+    fn set(&mut self, levels: u32) -> Read {
+        let (place, word) = self.due(levels)?;
+        if kind(word) != SET || payload(word) > self.members {
             return Err(refusal(5, place));
         }
         let mut identifiers = 0;
         for _ in 0..payload(word) {
-            identifiers |= self.boolean(depth + 1)? | self.expression(depth + 1)?;
+            identifiers |= self.boolean(levels - 1)? | self.expression(levels - 1)?;
         }
         self.done(place, identifiers)
     }
 
-    fn evidence(&mut self, wanted: u32, depth: u32) -> Read {
-        let (place, word) = self.due(depth)?;
+    fn evidence(&mut self, wanted: u32, levels: u32) -> Read {
+        let (place, word) = self.due(levels)?;
         let items = match items(wanted, payload(word)) {
             Some(items) if kind(word) == wanted => items,
             _ => return Err(refusal(5, place)),
@@ -265,10 +269,10 @@ impl<'a> Reader<'a> {
         self.count += 1;
         for item in items {
             match item {
-                Item::Set => self.set(depth + 1)?,
-                Item::Boolean => self.boolean(depth + 1)?,
-                Item::Command => self.command(depth + 1)?,
-                Item::Evidence(kind) => self.evidence(*kind, depth + 1)?,
+                Item::Set => self.set(levels - 1)?,
+                Item::Boolean => self.boolean(levels - 1)?,
+                Item::Command => self.command(levels - 1)?,
+                Item::Evidence(kind) => self.evidence(*kind, levels - 1)?,
             };
         }
         self.done(place, 0)

@@ -1,7 +1,8 @@
 //! The runner: the command's words interpreted in place.
 
 use super::layout::*;
-use super::read::read;
+use super::read::{read, File};
+use super::settings::{Limits, Settings};
 use super::{refusal, Parts, Refused, Work};
 
 struct Runner<'a> {
@@ -20,21 +21,34 @@ fn refuse<T>(value: Valued<T>, place: usize) -> Result<T, Refused> {
 }
 
 /// Steps × 2^32 + 0 if the run ended, else + number × 65,536 + place.
-pub fn run(bytes: &[u8], budget: u64, scalars: &mut [i64], values: &mut [i64], work: &mut Work) -> u64 {
+pub fn run(
+    bytes: &[u8],
+    budget: u64,
+    scalars: &mut [i64],
+    values: &mut [i64],
+    settings: Settings,
+    work: &mut Work,
+) -> u64 {
     let parts = &mut work.parts;
-    let file = match read(bytes, parts) {
+    let file = match settings.limits().and_then(|limits| read_within(bytes, budget, limits, parts)) {
         Ok(file) => file,
         Err(refused) => return refused,
     };
-    if budget > MOST_BUDGET {
-        return refusal(10, 0);
-    }
     let (Ok(scalars), Ok(values)) = (scalars.try_into(), values.try_into()) else {
         return refusal(11, 0);
     };
     let mut runner = Runner { parts, scalars, values, left: budget };
     let code = runner.command(file.main.command).err().unwrap_or(0);
     (budget - runner.left) << 32 | code
+}
+
+/// Refusals 1 to 7, 16 and 10.
+fn read_within(bytes: &[u8], budget: u64, limits: Limits, parts: &mut Parts) -> Result<File, Refused> {
+    let file = read(bytes, limits, parts)?;
+    if budget > MOST_BUDGET {
+        return Err(refusal(10, 0));
+    }
+    Ok(file)
 }
 
 impl Runner<'_> {

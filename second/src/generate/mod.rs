@@ -1,5 +1,5 @@
 //! Generate: the seeded generator of accepted files, the same with true put in and taken out, mutations, nearly readable files, files
-//! at the limits, runs, and replacements of commands.
+//! at the limits and beyond them, settings for files, runs, and replacements of commands.
 //!
 //! Uses: layout, naive, tool.
 //! For: the programs that compare, the tests, and rows; any file can be made again by its seed and number.
@@ -15,9 +15,10 @@ pub mod procedures;
 pub mod prove;
 pub mod put_cases;
 pub mod run_cases;
+pub mod settings;
 
 use self::derive::Maker;
-use self::limits::limit;
+use self::limits::{beyond, limit};
 use self::mutate::mutate;
 use self::nearly::nearly;
 use self::parts::Pool;
@@ -105,14 +106,22 @@ pub enum Kind {
     Mutated,
     Nearly,
     Limit,
+    /// At limits that are set above the old ones, some of them mutated.
+    Beyond,
 }
 
 /// File number `i` of a seed, alone: any one can be made again.
 pub fn mixed(seed: u64, i: u64) -> (Kind, Vec<u8>) {
-    any_file(&mut file_prng(seed, i))
+    let mut rng = file_prng(seed, i);
+    if rng.once_in(13) {
+        let file = beyond(&mut rng);
+        let file = if rng.once_in(4) { mutate(&mut rng, &file) } else { file };
+        return (Kind::Beyond, file);
+    }
+    any_file(&mut rng)
 }
 
-/// A file of any kind.
+/// A file of any kind but those beyond the old limits.
 fn any_file(rng: &mut Prng) -> (Kind, Vec<u8>) {
     match rng.below(12) {
         0 | 1 => (Kind::Accepted, accepted(rng)),

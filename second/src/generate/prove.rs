@@ -1,6 +1,7 @@
 //! Evidence for a given set goal (P, Q), by the rules of kind 34: used for
 //! loops, where P is an invariant and cannot be chosen backwards.
 
+use crate::layout::settings::STANDARD;
 use crate::layout::syntax::*;
 use crate::naive::implies::{implies, Verdict};
 use crate::naive::judge::operands_of;
@@ -74,11 +75,11 @@ fn prove_member(p: &Set, member: &Member) -> Result<(Set, Box<Implication>), Vec
     if of_expression(&member.e).is_empty() {
         return Ok((Set::new(), implication_of(ImplicationRule::S15)));
     }
-    if implies(&member.phi, &Bool::Truth(false)) == Verdict::Holds {
+    if implies(&member.phi, &Bool::Truth(false), STANDARD) == Verdict::Holds {
         return Ok((Set::new(), implication_of(ImplicationRule::S14)));
     }
     for other in p {
-        if other.e == member.e && implies(&member.phi, &other.phi) == Verdict::Holds {
+        if other.e == member.e && implies(&member.phi, &other.phi, STANDARD) == Verdict::Holds {
             return Ok((vec![other.clone()], implication_of(ImplicationRule::S18)));
         }
     }

@@ -3,21 +3,24 @@
 //! tells (document 01, "Runner"); with a range tested before what has no
 //! value outside it (request [1]).
 
-use super::limits::limit;
+use super::limits::{beyond, limit};
 use super::parts::{self, Pool};
 use super::prng::Prng;
 use super::procedures::{add, without_contract};
+use super::settings::often_standard;
+use crate::layout::settings::Settings;
 use crate::layout::syntax::*;
 use crate::layout::words::bytes_of;
 use crate::layout::write;
 use crate::naive::run::{ARRAY_VALUES, SCALARS};
 
-/// A run: a file, a budget and a store (scalars first).
+/// A run: a file, a budget, a store (scalars first) and settings.
 #[derive(Clone, Debug)]
 pub struct RunCase {
     pub bytes: Vec<u8>,
     pub budget: u64,
     pub store: Vec<i64>,
+    pub settings: Settings,
 }
 
 /// The first scalars of a store for faulty commands.
@@ -65,7 +68,7 @@ pub fn run_case(rng: &mut Prng) -> RunCase {
     let mut bytes = bytes_of(&write::file_words_with(&procedures, &c, &[], &[], &evidence));
     // 1 to 7 and 16 go before 10.
     if rng.once_in(30) {
-        bytes = limit(rng);
+        bytes = if rng.once_in(2) { beyond(rng) } else { limit(rng) };
     }
     let mut store = vec![0i64; SCALARS + ARRAY_VALUES];
     let calm = rng.once_in(2);
@@ -83,7 +86,8 @@ pub fn run_case(rng: &mut Prng) -> RunCase {
         6 => rng.below(200) as u64,
         _ => 5_000,
     };
-    RunCase { bytes, budget, store }
+    let settings = often_standard(rng, &bytes);
+    RunCase { bytes, budget, store, settings }
 }
 
 fn edge(rng: &mut Prng) -> Arith {

@@ -1,9 +1,9 @@
 //! Document 01, "Rules", "Implies": a plain truth table over the distinct
-//! comparisons of both sides, by words; at most 10.
+//! comparisons of both sides, by words; at most 10, or as many as request [6]
+//! sets.
 
+use crate::layout::settings::Settings;
 use crate::layout::syntax::*;
-
-pub const MOST_COMPARISONS: usize = 10;
 
 #[derive(Clone, Copy, PartialEq, Eq, Debug)]
 pub enum Verdict {
@@ -12,11 +12,12 @@ pub enum Verdict {
     TooLarge,
 }
 
-pub fn implies(left: &Bool, right: &Bool) -> Verdict {
+pub fn implies(left: &Bool, right: &Bool, settings: Settings) -> Verdict {
+    let most = settings.comparisons as usize;
     let mut comparisons = Vec::new();
-    collect(left, &mut comparisons);
-    collect(right, &mut comparisons);
-    if comparisons.len() > MOST_COMPARISONS {
+    collect(left, &mut comparisons, most);
+    collect(right, &mut comparisons, most);
+    if comparisons.len() > most {
         return Verdict::TooLarge;
     }
     let left = column(left, &comparisons);
@@ -31,19 +32,19 @@ pub fn implies(left: &Bool, right: &Bool) -> Verdict {
 
 /// The distinct comparisons, in the order in which they are met; after the
 /// first that is one too many, no more are wanted.
-pub fn collect<'a>(b: &'a Bool, found: &mut Vec<&'a Bool>) {
+fn collect<'a>(b: &'a Bool, found: &mut Vec<&'a Bool>, most: usize) {
     match b {
         Bool::Truth(_) => {}
         Bool::Compare(..) => {
-            if found.len() <= MOST_COMPARISONS && !found.contains(&b) {
+            if found.len() <= most && !found.contains(&b) {
                 found.push(b);
             }
         }
         Bool::And(left, right) | Bool::Or(left, right) => {
-            collect(left, found);
-            collect(right, found);
+            collect(left, found, most);
+            collect(right, found, most);
         }
-        Bool::Not(inner) => collect(inner, found),
+        Bool::Not(inner) => collect(inner, found, most),
     }
 }
 

@@ -11,6 +11,7 @@ use super::plain::{equal, plain};
 use super::read::read;
 use super::replace::{self, Replacement};
 use super::sets::*;
+use crate::layout::settings::{Settings, STANDARD};
 use crate::layout::syntax::*;
 use crate::layout::words::{refuse, Refusal};
 
@@ -49,23 +50,29 @@ pub fn line_of(packed: u32) -> String {
     }
 }
 
+/// "Only the C call and `flowcheck` take no settings and keep" the old ones.
 pub fn check(bytes: &[u8]) -> Answer {
-    match read(bytes) {
+    check_settings(bytes, STANDARD)
+}
+
+/// Request [6]: the check that is given settings.
+pub fn check_settings(bytes: &[u8], settings: Settings) -> Answer {
+    match read(bytes, settings) {
         Err(refusal) => Answer::Refused(refusal),
-        Ok(file) => judge(&file),
+        Ok(file) => judge(&file, settings),
     }
 }
 
-pub fn judge(file: &File) -> Answer {
-    match judge_all(file) {
+pub fn judge(file: &File, settings: Settings) -> Answer {
+    match judge_all(file, settings) {
         Err(refusal) => Answer::Refused(refusal),
         Ok(count) => Answer::Accepted(count),
     }
 }
 
 /// The evidence of each procedure in table order, then that of the main program.
-fn judge_all(file: &File) -> Judged {
-    let judge = Judge { procedures: &file.procedures };
+fn judge_all(file: &File, settings: Settings) -> Judged {
+    let judge = Judge { procedures: &file.procedures, settings };
     let mut count = 0;
     for procedure in &file.procedures {
         count += judge.flow(&procedure.pre, &procedure.command, &procedure.post, &procedure.evidence)?;
@@ -74,20 +81,41 @@ fn judge_all(file: &File) -> Judged {
     Ok(count)
 }
 
-/// The precondition as that part of the caller's own bytes; empty if refused.
-pub fn precondition(bytes: &[u8]) -> &[u8] {
-    match (check(bytes), read(bytes)) {
-        (Answer::Accepted(_), Ok(file)) => &bytes[4 * file.pre_words.0..4 * file.pre_words.1],
-        _ => &[],
+/// From the first word place of a part to the one past its last.
+type Words = (usize, usize);
+
+/// The program, the precondition and the postcondition of an accepted file.
+fn parts(bytes: &[u8], settings: Settings) -> Option<[Words; 3]> {
+    match (check_settings(bytes, settings), read(bytes, settings)) {
+        (Answer::Accepted(_), Ok(file)) => {
+            let program = (file.command.place, file.pre_words.0);
+            Some([program, file.pre_words, file.post_words])
+        }
+        _ => None,
     }
 }
 
-/// The postcondition likewise.
-pub fn postcondition(bytes: &[u8]) -> &[u8] {
-    match (check(bytes), read(bytes)) {
-        (Answer::Accepted(_), Ok(file)) => &bytes[4 * file.post_words.0..4 * file.post_words.1],
-        _ => &[],
-    }
+/// A part as that part of the caller's own bytes; empty if refused.
+fn part(bytes: &[u8], which: usize, settings: Settings) -> &[u8] {
+    parts(bytes, settings).map_or(&[], |parts| &bytes[4 * parts[which].0..4 * parts[which].1])
+}
+
+pub fn program(bytes: &[u8], settings: Settings) -> &[u8] {
+    part(bytes, 0, settings)
+}
+
+pub fn precondition(bytes: &[u8], settings: Settings) -> &[u8] {
+    part(bytes, 1, settings)
+}
+
+pub fn postcondition(bytes: &[u8], settings: Settings) -> &[u8] {
+    part(bytes, 2, settings)
+}
+
+/// What C gets of the program, the precondition and the postcondition: first place × 65,536 + the place past the last, or 0.
+pub fn packed_parts(bytes: &[u8], settings: Settings) -> [u32; 3] {
+    let packed = |(first, past): Words| first as u32 * 65_536 + past as u32;
+    parts(bytes, settings).map_or([0; 3], |parts| parts.map(packed))
 }
 
 /// The count of evidence words, or the first refusal.
@@ -103,8 +131,8 @@ fn need(condition: bool, place: usize) -> Result<(), Refusal> {
 }
 
 /// An implication as a condition: refusal 9 where it is too large.
-fn need_implies(left: &Bool, right: &Bool, place: usize) -> Result<(), Refusal> {
-    match implies(left, right) {
+fn need_implies(left: &Bool, right: &Bool, place: usize, settings: Settings) -> Result<(), Refusal> {
+    match implies(left, right, settings) {
         Verdict::Holds => Ok(()),
         Verdict::Fails => refuse(8, place),
         Verdict::TooLarge => refuse(9, place),
@@ -119,6 +147,7 @@ fn one(set: &Set, place: usize) -> Result<&Member, Refusal> {
 /// The judge of one file: its procedures are what calls mean.
 struct Judge<'a> {
     procedures: &'a [Procedure],
+    settings: Settings,
 }
 
 impl Judge<'_> {
@@ -127,13 +156,13 @@ impl Judge<'_> {
         let place = evidence.place;
         match &evidence.rule {
             FlowRule::F7 { m, set, flow: inner } => {
-                let a = implication(p, m, set)?;
+                let a = implication(p, m, set, self.settings)?;
                 let b = self.flow(m, c, q, inner)?;
                 Ok(1 + a + b)
             }
             FlowRule::F8 { m, flow: inner, set } => {
                 let a = self.flow(p, c, m, inner)?;
-                let b = implication(m, q, set)?;
+                let b = implication(m, q, set, self.settings)?;
                 Ok(1 + a + b)
             }
             FlowRule::F9 { s, s2, t, t2, first, second } => {
@@ -240,8 +269,8 @@ impl Judge<'_> {
                 Ok(1 + x + y)
             }
             (BeforeRule::B21 { phi0, body }, Form::While(b, c1)) => {
-                need_implies(&and(phi0.clone(), b.clone()), phi, place)?;
-                need_implies(&and(phi2.clone(), not(b.clone())), phi, place)?;
+                need_implies(&and(phi0.clone(), b.clone()), phi, place, self.settings)?;
+                need_implies(&and(phi2.clone(), not(b.clone())), phi, place, self.settings)?;
                 let x = self.necessary(phi0, c1, phi, body)?;
                 Ok(1 + x)
             }
@@ -272,7 +301,7 @@ impl Judge<'_> {
                 Ok(1)
             }
             (BeforeRule::B28 { phi1, inner }, _) => {
-                need_implies(phi1, phi, place)?;
+                need_implies(phi1, phi, place, self.settings)?;
                 let x = self.necessary(phi1, c, phi2, inner)?;
                 Ok(1 + x)
             }
@@ -297,7 +326,7 @@ impl Judge<'_> {
 }
 
 /// Goal (P, Q): rules 13 to 19 of implication between sets.
-fn implication(p: &Set, q: &Set, evidence: &Implication) -> Judged {
+fn implication(p: &Set, q: &Set, evidence: &Implication, settings: Settings) -> Judged {
     let place = evidence.place;
     match &evidence.rule {
         ImplicationRule::S13 => {
@@ -307,7 +336,7 @@ fn implication(p: &Set, q: &Set, evidence: &Implication) -> Judged {
         ImplicationRule::S14 => {
             need(p.is_empty(), place)?;
             for member in q {
-                need_implies(&member.phi, &Bool::Truth(false), place)?;
+                need_implies(&member.phi, &Bool::Truth(false), place, settings)?;
             }
             Ok(1)
         }
@@ -320,21 +349,21 @@ fn implication(p: &Set, q: &Set, evidence: &Implication) -> Judged {
         ImplicationRule::S16 { s, s2, t, t2, first, second } => {
             need(same(p, &union(s, t)), place)?;
             need(same(q, &union(s2, t2)), place)?;
-            let a = implication(s, s2, first)?;
-            let b = implication(t, t2, second)?;
+            let a = implication(s, s2, first, settings)?;
+            let b = implication(t, t2, second, settings)?;
             Ok(1 + a + b)
         }
         ImplicationRule::S17 { s, s2, t, first, second } => {
             need(same(p, &union(&without(t, s2), s)), place)?;
-            let a = implication(s, s2, first)?;
-            let b = implication(t, q, second)?;
+            let a = implication(s, s2, first, settings)?;
+            let b = implication(t, q, second, settings)?;
             Ok(1 + a + b)
         }
         ImplicationRule::S18 => {
             let p = one(p, place)?;
             let q = one(q, place)?;
             need(p.e == q.e, place)?;
-            need_implies(&q.phi, &p.phi, place)?;
+            need_implies(&q.phi, &p.phi, place, settings)?;
             Ok(1)
         }
         ImplicationRule::S19 => {

@@ -1,9 +1,11 @@
-//! Request [5], stored modified sets: the masks of a file's words, the check that stores them, and the workbench call.
+//! Request [5], stored modified sets: the masks of a file's words, the check that stores them, and the workbench call. Both are given
+//! the settings of request [6].
 
 use super::commands::all_commands;
 use super::judge::{judge, Answer};
 use super::modified::{modified_by, Identifiers};
 use super::read::{counted_words, read, read_command};
+use crate::layout::settings::Settings;
 use crate::layout::syntax::*;
 use crate::layout::words::{refuse, Refusal};
 use crate::layout::write;
@@ -30,12 +32,12 @@ pub fn masks_of(file: &File, words: usize) -> Vec<u64> {
 }
 
 /// "17: fewer numbers than words, after 2"; the other refusals of reading.
-fn read_with_masks(bytes: &[u8], lent: usize) -> Result<File, Refusal> {
-    let words = counted_words(bytes)?;
+fn read_with_masks(bytes: &[u8], lent: usize, settings: Settings) -> Result<File, Refusal> {
+    let words = counted_words(bytes, settings)?;
     if lent < words.len() {
         return refuse(17, 0);
     }
-    read(bytes)
+    read(bytes, settings)
 }
 
 /// "Numbers past these stay."
@@ -45,12 +47,12 @@ fn store(file: &File, bytes: &[u8], masks: &mut [u64]) {
 }
 
 /// The check with masks: "judging reads first, so 8 and 9 leave the masks stored".
-pub fn check_with_masks(bytes: &[u8], masks: &mut [u64]) -> Answer {
-    match read_with_masks(bytes, masks.len()) {
+pub fn check_with_masks(bytes: &[u8], masks: &mut [u64], settings: Settings) -> Answer {
+    match read_with_masks(bytes, masks.len(), settings) {
         Err(refusal) => Answer::Refused(refusal),
         Ok(file) => {
             store(&file, bytes, masks);
-            judge(&file)
+            judge(&file, settings)
         }
     }
 }
@@ -68,9 +70,9 @@ pub fn words_of_command(command: &Command) -> Vec<u32> {
 }
 
 /// The workbench call: "puts another skip, assert or assignment of equal length in the place of one such command".
-pub fn put(bytes: &mut [u8], masks: &mut [u64], place: usize, new: &[u8]) -> Result<(), Refusal> {
-    let file = read_with_masks(bytes, masks.len())?;
-    let Some((changed, file)) = changed(&file, bytes, place, new) else { return refuse(18, 0) };
+pub fn put(bytes: &mut [u8], masks: &mut [u64], place: usize, new: &[u8], settings: Settings) -> Result<(), Refusal> {
+    let file = read_with_masks(bytes, masks.len(), settings)?;
+    let Some((changed, file)) = changed(&file, bytes, place, new, settings) else { return refuse(18, 0) };
     bytes.copy_from_slice(&changed);
     store(&file, bytes, masks);
     Ok(())
@@ -78,14 +80,14 @@ pub fn put(bytes: &mut [u8], masks: &mut [u64], place: usize, new: &[u8]) -> Res
 
 /// The changed bytes and the file that they are; none where "the place or the new command isn't as described, or the file so changed
 /// would not be read".
-fn changed(file: &File, bytes: &[u8], place: usize, new: &[u8]) -> Option<(Vec<u8>, File)> {
+fn changed(file: &File, bytes: &[u8], place: usize, new: &[u8], settings: Settings) -> Option<(Vec<u8>, File)> {
     let old = all_commands(file).into_iter().find(|command| command.place == place && is_simple(command))?;
-    let command = read_command(new).filter(is_simple)?;
+    let command = read_command(new, settings).filter(is_simple)?;
     if words_of_command(old).len() != words_of_command(&command).len() {
         return None;
     }
     let bytes = with_words(bytes, place, new);
-    let file = read(&bytes).ok()?;
+    let file = read(&bytes, settings).ok()?;
     Some((bytes, file))
 }
 

@@ -1,16 +1,15 @@
-//! Bytes to words to trees: refusals 1 to 7 of document 01, "Judging order", and 16 of request [3], between 6 and 7.
-//! "Walking, 3 to 5 go word by word, in that order at a word."
+//! Bytes to words to trees: refusal 19 of request [6], 1 to 7 of document 01, "Judging order", and 16 of request [3], between 6
+//! and 7. "Walking, 3 to 5 go word by word, in that order at a word."
 
 use super::commands::check_commands;
+use crate::layout::settings::Settings;
 use crate::layout::syntax::*;
 use crate::layout::words::*;
-
-pub const MOST_DEPTH: usize = 128;
-pub const MOST_MEMBERS: u32 = 64;
 
 struct Reader<'a> {
     words: &'a [u32],
     at: usize,
+    settings: Settings,
 }
 
 type Read<T> = Result<T, Refusal>;
@@ -26,7 +25,7 @@ impl Reader<'_> {
         if self.at >= self.words.len() {
             return refuse(3, self.words.len());
         }
-        if depth > MOST_DEPTH {
+        if depth as u64 > self.settings.depth {
             return refuse(4, self.at);
         }
         let word = take_apart(self.at, self.words[self.at]);
@@ -150,7 +149,7 @@ impl Reader<'_> {
 
     fn set(&mut self, depth: usize) -> Read<Set> {
         let word = self.word(depth)?;
-        if word.kind != 32 || word.payload > MOST_MEMBERS {
+        if word.kind != 32 || u64::from(word.payload) > self.settings.members {
             return not_allowed(word);
         }
         let mut set = Set::new();
@@ -367,8 +366,9 @@ impl Reader<'_> {
     }
 }
 
-/// Refusals 1 and 2: the words of a file, if word 0 counts them.
-pub fn counted_words(bytes: &[u8]) -> Result<Vec<u32>, Refusal> {
+/// Refusals 19, 1 and 2: the words of a file, if word 0 counts them.
+pub fn counted_words(bytes: &[u8], settings: Settings) -> Result<Vec<u32>, Refusal> {
+    settings.tried()?;
     let words = words_of(bytes)?;
     if words[0] != pack(63, words.len() as u32) {
         return refuse(2, 0);
@@ -376,18 +376,18 @@ pub fn counted_words(bytes: &[u8]) -> Result<Vec<u32>, Refusal> {
     Ok(words)
 }
 
-/// Refusals 1 to 7, and 16 between 6 and 7.
-pub fn read(bytes: &[u8]) -> Result<File, Refusal> {
-    let words = counted_words(bytes)?;
-    let file = Reader { words: &words, at: 1 }.file()?;
+/// Refusals 19, 1 to 7, and 16 between 6 and 7.
+pub fn read(bytes: &[u8], settings: Settings) -> Result<File, Refusal> {
+    let words = counted_words(bytes, settings)?;
+    let file = Reader { words: &words, at: 1, settings }.file()?;
     check_commands(&file)?;
     Ok(file)
 }
 
 /// The command whose words these bytes are, all of them and no others, read by itself (request [5]).
-pub fn read_command(bytes: &[u8]) -> Option<Command> {
+pub fn read_command(bytes: &[u8], settings: Settings) -> Option<Command> {
     let words = words_of(bytes).ok()?;
-    let mut reader = Reader { words: &words, at: 0 };
+    let mut reader = Reader { words: &words, at: 0, settings };
     let command = reader.command(1).ok()?;
     (reader.at == words.len()).then_some(command)
 }

@@ -3,6 +3,7 @@
 //! those of its body. Request [1]: a left side may settle an and or an or.
 
 use super::read::read;
+use crate::layout::settings::Settings;
 use crate::layout::syntax::*;
 use crate::layout::words::Refusal;
 
@@ -26,6 +27,15 @@ pub struct Outcome {
 }
 
 impl Outcome {
+    /// What C gets: steps × 2^32 + 0, or + number × 65,536 + place.
+    pub fn packed(&self) -> u64 {
+        let code = match self.end {
+            End::Ended => 0,
+            End::Refused(r) => u64::from(r.number) << 16 | r.place as u64,
+        };
+        self.steps << 32 | code
+    }
+
     pub fn end_text(&self) -> String {
         match self.end {
             End::Ended => "ended".to_string(),
@@ -35,13 +45,14 @@ impl Outcome {
 }
 
 /// "It reads as 1 to 7, then 10, 11, and runs the command without judging
-/// the evidence." `scalars` and `arrays` are the lent store.
-pub fn run(bytes: &[u8], budget: u64, scalars: &mut [i64], arrays: &mut [i64]) -> Outcome {
+/// the evidence." `scalars` and `arrays` are the lent store. Request [6]: 19
+/// goes before all of these.
+pub fn run(bytes: &[u8], budget: u64, scalars: &mut [i64], arrays: &mut [i64], settings: Settings) -> Outcome {
     let refused = |number, place| Outcome {
         end: End::Refused(Refusal { number, place }),
         steps: 0,
     };
-    let file = match read(bytes) {
+    let file = match read(bytes, settings) {
         Err(r) => return refused(r.number, r.place),
         Ok(file) => file,
     };

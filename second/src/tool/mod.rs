@@ -1,12 +1,13 @@
 //! Tool: what the programs share: arguments, files, standard input and output, and how they end. One that can't do its work
 //! writes one line, `NAME: what is wrong`, on standard error, and its exit status is 2.
 //!
-//! Uses: layout, naive.
-//! For: the programs of `src/bin`; rows of tests as text (`rows`); and the calls of request [5] of any version (`calls`).
+//! Uses: layout, naive, fast.
+//! For: the programs of `src/bin`; rows of tests as text (`rows`); and the calls that read a file, of any version (`calls`).
 
 pub mod calls;
 pub mod rows;
 
+use crate::layout::settings::{Settings, STANDARD};
 use crate::layout::words::MOST_BYTES;
 use std::io::{self, Read, Write};
 use std::panic::PanicHookInfo;
@@ -79,6 +80,27 @@ fn arguments() -> Result<Vec<String>, Fault> {
 /// A number among the arguments.
 pub fn number(text: &str) -> Result<u64, Fault> {
     text.parse().map_err(|_| Fault::Said(format!("`{text}` is no number from 0 to {}", u64::MAX)))
+}
+
+/// How the settings of request [6] are given, before the other arguments.
+pub const SETTINGS: &str = "[--comparisons N] [--depth N] [--members N]";
+
+/// The settings among the arguments, the old ones where none are given, and the arguments behind them. One outside its range is no fault
+/// here: it is refusal 19.
+pub fn settings(arguments: &[String]) -> Result<(Settings, &[String]), Fault> {
+    let (mut settings, mut rest) = (STANDARD, arguments);
+    while let [option, others @ ..] = rest {
+        let setting = match option.as_str() {
+            "--comparisons" => &mut settings.comparisons,
+            "--depth" => &mut settings.depth,
+            "--members" => &mut settings.members,
+            _ => break,
+        };
+        let [value, others @ ..] = others else { return Err(Fault::Usage) };
+        *setting = number(value)?;
+        rest = others;
+    }
+    Ok((settings, rest))
 }
 
 /// Up to N numbers, and these for those that are not given.

@@ -4,6 +4,7 @@
 
 use super::meaning::{flow_rule, precondition_rule, refusal_meaning, set_rule};
 use super::show::Names;
+use crate::layout::settings::STANDARD;
 use crate::layout::syntax::*;
 use crate::layout::words::{constant_of, take_apart, Refusal};
 use crate::layout::write;
@@ -11,7 +12,7 @@ use crate::naive::judge::{judge, Answer};
 
 /// None where a rule with children stands at a command that is not its own: they have no goals then.
 pub fn annotate(file: &File, names: &Names) -> Option<String> {
-    let refusal = match judge(file) {
+    let refusal = match judge(file, STANDARD) {
         Answer::Accepted(_) => None,
         Answer::Refused(refusal) => Some(refusal),
     };
@@ -163,7 +164,7 @@ impl Text<'_> {
     fn word(&mut self, number: &str, place: usize, kind: u32, rule: u32) {
         let comment = match self.refusal.filter(|refusal| refusal.place == place) {
             None => format!("[{number}]"),
-            Some(r) => format!("[{number}] REFUSED {}: {}", r.number, refusal_meaning(r.number)),
+            Some(r) => format!("[{number}] REFUSED {}: {}", r.number, refusal_meaning(r.number, STANDARD)),
         };
         self.line(depth_of(number), &format!("{kind}:{rule}"), &comment);
     }

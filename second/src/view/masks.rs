@@ -2,6 +2,7 @@
 
 use super::show::Names;
 use super::{headline, line, plain, walk};
+use crate::layout::settings::Settings;
 use crate::layout::words::words_of;
 use crate::naive::commands::all_commands;
 use crate::naive::masks::masks_of;
@@ -20,10 +21,10 @@ fn modified(names: &Names, mask: u64) -> String {
 }
 
 /// The answer, then the command words if the file is read, the carried commands' too: refusals 8 and 9 leave the masks stored.
-pub fn view_masks(bytes: &[u8], names: &Names) -> String {
-    let mut out = headline(bytes);
-    let (Ok(words), Ok(file)) = (words_of(bytes), read(bytes)) else { return out };
-    let (masks, walk) = (masks_of(&file, words.len()), walk(&words));
+pub fn view_masks(bytes: &[u8], names: &Names, settings: Settings) -> String {
+    let mut out = headline(bytes, settings);
+    let (Ok(words), Ok(file)) = (words_of(bytes), read(bytes, settings)) else { return out };
+    let (masks, walk) = (masks_of(&file, words.len()), walk(&words, settings));
     for command in all_commands(&file) {
         let place = command.place;
         let word = plain(place, words[place]);

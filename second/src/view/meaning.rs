@@ -1,6 +1,7 @@
 //! What a word says where it stands, and what is due after it (document 01, "Layout"): for showing files to people.
 //! `read` decides what is allowed; the tests compare the two on every kind of file.
 
+use crate::layout::settings::{Settings, HIGHEST, LOWEST};
 use crate::layout::words::{constant_of, Word};
 
 /// What may be due at a word.
@@ -45,14 +46,14 @@ fn says(text: impl Into<String>, parts: &[(Sort, &str)]) -> Option<Meaning> {
 }
 
 /// None where the word's kind or payload is not allowed (refusal 5).
-pub fn meaning(sort: Sort, word: Word) -> Option<Meaning> {
+pub fn meaning(sort: Sort, word: Word, settings: Settings) -> Option<Meaning> {
     match sort {
         Sort::Arithmetic => arithmetic(word),
         Sort::Boolean => boolean(word),
         Sort::Array => array(word),
         Sort::Expression => arithmetic(word).or_else(|| boolean(word)).or_else(|| array(word)),
         Sort::Command => command(word),
-        Sort::Set => set(word),
+        Sort::Set => set(word, settings),
         Sort::Flow => rule(word, 33, "flow", flow_rule(word.payload)?),
         Sort::Implication => rule(word, 34, "set", set_rule(word.payload)?),
         Sort::Precondition => rule(word, 35, "precondition", precondition_rule(word.payload)?),
@@ -112,8 +113,8 @@ fn command(word: Word) -> Option<Meaning> {
     }
 }
 
-fn set(word: Word) -> Option<Meaning> {
-    if word.kind != 32 || word.payload > crate::naive::read::MOST_MEMBERS {
+fn set(word: Word, settings: Settings) -> Option<Meaning> {
+    if word.kind != 32 || u64::from(word.payload) > settings.members {
         return None;
     }
     let n = word.payload;
@@ -211,19 +212,29 @@ pub fn precondition_rule(number: u32) -> Option<Rule> {
     })
 }
 
-/// The refusals of the check (document 01, "Judging order", and request [3]).
-pub fn refusal_meaning(number: u32) -> &'static str {
-    match number {
+/// The refusals of the check (document 01, "Judging order", and requests [3] and [6]), under these settings.
+pub fn refusal_meaning(number: u32, settings: Settings) -> String {
+    let Settings { comparisons, depth, .. } = settings;
+    let fixed = match number {
         1 => "the byte count is 0, over 32,768 or no multiple of 4",
         2 => "word 0 is not 63:n, n the words in the file",
         3 => "the file ends where a word is due",
-        4 => "this word is deeper than 128",
+        4 => return format!("this word is deeper than {depth}"),
         5 => "this word's kind or payload isn't allowed here",
         6 => "words follow the evidence",
         7 => "this for has q = m or a body that modifies q or m",
         8 => "a condition of this rule fails",
-        9 => "a condition of this rule is an implication over more than 10 comparisons",
+        9 => return format!("a condition of this rule is an implication over more than {comparisons} comparisons"),
         16 => "this call's number is not below its own procedure's, or not in the table",
+        19 => return format!("a setting is outside its range: {}", ranges()),
         _ => "no refusal of the check",
-    }
+    };
+    fixed.to_string()
+}
+
+/// The ranges of the settings.
+fn ranges() -> String {
+    let names = ["comparisons", "depth", "members"];
+    let range = |i: usize| format!("{} {} to {}", names[i], LOWEST.numbers()[i], HIGHEST.numbers()[i]);
+    [0, 1, 2].map(range).join(", ")
 }

@@ -1,6 +1,7 @@
 //! View: files as text for people, and back. Here a file shown word by word: a line is a place, `|`, the word indented by its
 //! depth, and after `#` its role and meaning. The refused word has `>` before its place. `assemble` takes the text back. And a
-//! file's procedures, program and contract alone, in readable notation; or what each of its commands modifies.
+//! file's procedures, program and contract alone, in readable notation; or what each of its commands modifies. Each is shown as it is read
+//! and judged under settings (request [6]).
 //!
 //! Uses: layout, naive.
 //! For: `flowview` and `flowasm`, and the texts of `examples/`.
@@ -13,10 +14,11 @@ pub mod show;
 
 use self::meaning::{meaning, refusal_meaning, Sort};
 use self::show::Names;
+use crate::layout::settings::Settings;
 use crate::layout::syntax::{File, Member};
-use crate::layout::words::{pack, take_apart, Refusal, MOST_PROCEDURES};
-use crate::naive::judge::{check, Answer};
-use crate::naive::read::{read, MOST_DEPTH};
+use crate::layout::words::{pack, take_apart, words_of, Refusal, MOST_PROCEDURES};
+use crate::naive::judge::{check_settings, Answer};
+use crate::naive::read::read;
 
 /// What is due at a word.
 struct Due {
@@ -68,8 +70,8 @@ fn table(words: &[u32]) -> u32 {
     }
 }
 
-/// Reads as far as refusals 2 to 6 allow. `words` is not empty.
-pub fn walk(words: &[u32]) -> Walk {
+/// Reads as far as refusals 2 to 6 allow. `words` is not empty, and the settings are in range.
+pub fn walk(words: &[u32], settings: Settings) -> Walk {
     let n = words.len();
     if words[0] != pack(63, n as u32) {
         let stop = Stop { refusal: Refusal { number: 2, place: 0 }, due: None };
@@ -84,10 +86,10 @@ pub fn walk(words: &[u32]) -> Walk {
     let mut stack = outermost(procedures);
     while let Some(due) = stack.pop() {
         let place = shown.len();
-        let said = words.get(place).and_then(|word| meaning(due.sort, take_apart(place, *word)));
+        let said = words.get(place).and_then(|word| meaning(due.sort, take_apart(place, *word), settings));
         let number = match said {
             _ if place >= n => 3,
-            _ if due.depth > MOST_DEPTH => 4,
+            _ if due.depth as u64 > settings.depth => 4,
             None => 5,
             Some(said) => {
                 shown.push(Shown { depth: due.depth, text: format!("{}: {}", due.role, said.text) });
@@ -119,8 +121,8 @@ fn line(marked: bool, place: usize, depth: usize, word: &str, comment: &str) -> 
 }
 
 /// What is said at the refused word: the refusal, and what stands or was due there.
-fn refused(refusal: Refusal, walk: &Walk) -> String {
-    let said = format!("REFUSED {}: {}", refusal.number, refusal_meaning(refusal.number));
+fn refused(refusal: Refusal, walk: &Walk, settings: Settings) -> String {
+    let said = format!("REFUSED {}: {}", refusal.number, refusal_meaning(refusal.number, settings));
     if let Some(Stop { due: Some(due), .. }) = &walk.stop {
         return format!("{said}; due here is {} ({})", due.sort.name(), due.role);
     }
@@ -135,8 +137,8 @@ fn plain(place: usize, word: u32) -> String {
     format!("{}:{}", word.kind, word.payload)
 }
 
-fn view_words(words: &[u32], refusal: Option<Refusal>) -> String {
-    let walk = walk(words);
+fn view_words(words: &[u32], refusal: Option<Refusal>, settings: Settings) -> String {
+    let walk = walk(words, settings);
     let mut out = String::new();
     for (place, word) in words.iter().enumerate() {
         let (depth, text) = match walk.shown.get(place) {
@@ -144,19 +146,20 @@ fn view_words(words: &[u32], refusal: Option<Refusal>) -> String {
             None => (1, String::new()),
         };
         let here = refusal.filter(|r| r.place == place);
-        let comment = here.map_or(text, |r| refused(r, &walk));
+        let comment = here.map_or(text, |r| refused(r, &walk, settings));
         out.push_str(&line(here.is_some(), place, depth, &plain(place, *word), &comment));
     }
     // refusal 3 is at a word that is not there
     if let Some(r) = refusal.filter(|r| r.place == words.len()) {
-        out.push_str(&line(true, r.place, 1, "", &refused(r, &walk)));
+        out.push_str(&line(true, r.place, 1, "", &refused(r, &walk, settings)));
     }
     out
 }
 
-/// Refusal 1: no word is read; whole words are listed, then the bytes that are left.
-fn view_bytes(bytes: &[u8]) -> String {
-    let mut out = format!("# refused 1 0: {}; this file has {}\n", refusal_meaning(1), bytes.len());
+/// Refusals 19 and 1: no word is read; whole words are listed, then the bytes that are left.
+fn view_bytes(bytes: &[u8], refusal: Refusal, settings: Settings) -> String {
+    let mut out = format!("# refused {} 0: {}", refusal.number, refusal_meaning(refusal.number, settings));
+    out.push_str(&format!("; this file has {}\n", bytes.len()));
     let (whole, rest) = bytes.split_at(bytes.len() / 4 * 4);
     for (place, four) in whole.chunks(4).enumerate() {
         let word = u32::from_le_bytes([four[0], four[1], four[2], four[3]]);
@@ -169,14 +172,23 @@ fn view_bytes(bytes: &[u8]) -> String {
     out
 }
 
-pub fn view(bytes: &[u8]) -> String {
-    let Ok(words) = crate::layout::words::words_of(bytes) else { return view_bytes(bytes) };
-    let answer = check(bytes);
+/// The words of a file that refusals 19 and 1 spare.
+fn words_under(bytes: &[u8], settings: Settings) -> Result<Vec<u32>, Refusal> {
+    settings.tried()?;
+    words_of(bytes)
+}
+
+pub fn view(bytes: &[u8], settings: Settings) -> String {
+    let words = match words_under(bytes, settings) {
+        Ok(words) => words,
+        Err(refusal) => return view_bytes(bytes, refusal, settings),
+    };
+    let answer = check_settings(bytes, settings);
     let refusal = match answer {
         Answer::Accepted(_) => None,
         Answer::Refused(refusal) => Some(refusal),
     };
-    format!("# {} words: {}\n{}", words.len(), answer.line(), view_words(&words, refusal))
+    format!("# {} words: {}\n{}", words.len(), answer.line(), view_words(&words, refusal, settings))
 }
 
 fn set_lines(names: &Names, set: &[Member]) -> Vec<String> {
@@ -206,16 +218,16 @@ fn contract(names: &Names, file: &File) -> String {
 }
 
 /// The count of bytes and the answer.
-fn headline(bytes: &[u8]) -> String {
-    let answer = check(bytes);
+fn headline(bytes: &[u8], settings: Settings) -> String {
+    let answer = check_settings(bytes, settings);
     let said = match answer {
         Answer::Accepted(_) => String::new(),
-        Answer::Refused(refusal) => format!(": {}", refusal_meaning(refusal.number)),
+        Answer::Refused(refusal) => format!(": {}", refusal_meaning(refusal.number, settings)),
     };
     format!("# {} bytes: {}{said}\n", bytes.len(), answer.line())
 }
 
 /// The answer, then the program and the two sets if there are some: refusals 8 and 9 are of the evidence alone.
-pub fn view_parts(bytes: &[u8], names: &Names) -> String {
-    headline(bytes) + &read(bytes).map_or(String::new(), |file| contract(names, &file))
+pub fn view_parts(bytes: &[u8], names: &Names, settings: Settings) -> String {
+    headline(bytes, settings) + &read(bytes, settings).map_or(String::new(), |file| contract(names, &file))
 }

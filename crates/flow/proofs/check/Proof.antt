@@ -11,4 +11,4 @@ check-spec =
     (tie.spec
     (λ c κs. search needs)
     (λ c κs. search needs)
-    (λ c. checked _ (c .before .standard-outcome .ensures) (c .verdict-of .ensures)))
+    (λ c. checked _ _ (c .before .outcome-under .ensures) (c .verdict-of .ensures)))

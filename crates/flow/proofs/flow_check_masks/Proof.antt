@@ -10,6 +10,6 @@ flow-check-masks-spec =
     tie.close
     (tie.spec
     (λ c κs. search needs)
-    (λ c κs. lent-small _ _ (c .before .before .check-with-masks .ensures))
+    (λ c κs. lent-small _ _ _ (c .before .before .check-with-masks .ensures))
     (λ c. search needs)
-    (λ c. lent-packed _ _ (c .before .before .before .check-with-masks .ensures) (c .pack .ensures)))
+    (λ c. lent-packed _ _ _ (c .before .before .before .check-with-masks .ensures) (c .pack .ensures)))

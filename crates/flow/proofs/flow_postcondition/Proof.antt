@@ -2,7 +2,6 @@
 -- Assumes nothing.
 use borrow.Author.Needs.{needs}
 use native.Mathlib.Omega.{arith}
-use Rattle.rules.specs.Context.{standard}
 use Rattle.layout.specs.Verdict.{postconditionPlaces}
 use Rattle.flow.proofs.Parts.{places-in, postcondition-places, part-refused}
 use Rattle.flow.proofs.flow_postcondition.Statement.{statement}
@@ -16,12 +15,12 @@ flow-postcondition-spec =
     (λ c κs. search needs) (λ c. search needs)
     (λ c κs.
     let outcome = c .before .before .before in
-    let h = places-in standard _ _ _ _ (outcome .standard-outcome .ensures) (c .before .done .given .1) in
+    let h = places-in _ _ _ _ _ (outcome .outcome-under .ensures) (c .before .done .given .1) in
     (omega (arith, h .few, h .post-evidence, h .inside), omega (arith, h .few, h .inside)))
     (λ c. search needs)
     (λ c.
     let outcome = c .before .before .before .before in
-    postcondition-places standard _ _ _ _ _ (outcome .standard-outcome .ensures) (c .before .before .done .given .1)
+    postcondition-places _ _ _ _ _ _ (outcome .outcome-under .ensures) (c .before .before .done .given .1)
     (c .packed-places .ensures))
     (λ c.
-    part-refused standard _ _ _ _ _ (c .before .before .standard-outcome .ensures) (c .enum-told .given .1)))
+    part-refused _ _ _ _ _ _ (c .before .before .outcome-under .ensures) (c .enum-told .given .1)))

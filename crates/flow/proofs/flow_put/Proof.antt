@@ -14,13 +14,13 @@ flow-put-spec =
     (λ c. search needs)
     (λ c κs.
     let answer = c .before in
-    put-small _ _ _ _ (answer .before .before .before .before .before .before .put .ensures) _ (answer .answer .given .1))
+    put-small _ _ _ _ _ (answer .before .before .before .before .before .before .put .ensures .done) _ (answer .answer .given .1))
     (λ c. search needs)
     (λ c. search needs)
-    (λ c. put-done _ _ _ _ (c .before .before .before .before .before .before .put .ensures) (c .enum-told .given .1))
+    (λ c. put-done _ _ _ _ _ (c .before .before .before .before .before .before .put .ensures .done) (c .enum-told .given .1))
     (λ c. search needs)
     (λ c. search needs)
     (λ c.
     let answer = c .before .before in
-    put-refused _ _ _ _ (answer .before .before .before .before .before .before .put .ensures) _ (answer .answer .given .1)
+    put-refused _ _ _ _ _ (answer .before .before .before .before .before .before .put .ensures .done) _ (answer .answer .given .1)
     (c .pack .ensures)))

@@ -2,7 +2,6 @@
 -- Assumes nothing.
 use borrow.Author.Needs.{needs}
 use native.Mathlib.Omega.{arith}
-use Rattle.rules.specs.Context.{standard}
 use Rattle.layout.specs.Verdict.{postcondition}
 use Rattle.flow.proofs.Parts.{places-in, postcondition-bytes, part-refused}
 use Rattle.flow.proofs.postcondition.Statement.{statement}
@@ -16,13 +15,13 @@ postcondition-spec =
     (λ c κs. search needs) (λ c. search needs)
     (λ c κs.
     let outcome = c .before .before .before in
-    let h = places-in standard _ _ _ _ (outcome .standard-outcome .ensures) (c .before .done .given .1) in
+    let h = places-in _ _ _ _ _ (outcome .outcome-under .ensures) (c .before .done .given .1) in
     (h .post-evidence, omega (arith, h .post-evidence, h .inside)))
     (λ c. search needs) (λ c. search needs)
     (λ c.
     let outcome = c .before .before .before .before in
-    postcondition-bytes standard _ _ _ _ _ (outcome .standard-outcome .ensures) (c .before .before .done .given .1)
+    postcondition-bytes _ _ _ _ _ _ (outcome .outcome-under .ensures) (c .before .before .done .given .1)
     (c .between .ensures))
     (λ c.
     let outcome = c .before .before .before in
-    part-refused standard _ _ _ _ _ (outcome .standard-outcome .ensures) (c .before .enum-told .given .1)))
+    part-refused _ _ _ _ _ _ (outcome .outcome-under .ensures) (c .before .enum-told .given .1)))

@@ -7,8 +7,9 @@ use Rattle.workbench.proofs.put_8192.Tie as tie
 
 put-in-requires : tie.Need-put-in-requires
 put-in-requires c κs =
-    let file = c .before .before .before .before .before .before .before .args .file .now in
-    record { fits = λ h. let g = good-length file h in search needs; wide = search needs }
+    let start = c .before .before .before .before .before .before .before in
+    let file = start .args .file .now in
+    (record { fits = λ h. let g = good-length file h in search needs; wide = search needs }, start .pre)
 
 pub put-8192-spec : {M : Type 1} → statement M
 put-8192-spec =

@@ -11,14 +11,15 @@ use Rattle.workbench.proofs.put_in.Tie as tie
 returns : tie.Need-returns
 returns c =
     let if1 = c .before in
-    few-put _ _ _ _ _ (sym (if1 .before .few-numbers .ensures) ∙ if1 .if1 .taken) (c .refused .ensures)
+    let start = if1 .before .before .before .before .before .before .before .before in
+    few-put _ _ _ _ _ (start .pre .1) (sym (if1 .before .few-numbers .ensures) ∙ if1 .if1 .taken) (c .refused .ensures)
 
 returns-2 : tie.Need-returns-2
 returns-2 c =
     let if2 = c .before in
     let if1 = if2 .before .before .before in
     let start = if1 .before .before .before .before .before .before .before .before in
-    bad-put (start .args .context) (start .args .masks .now) _ _ (sym (if1 .before .few-numbers .ensures) ∙ if1 .if1 .left)
+    bad-put (start .args .context) (start .args .masks .now) _ _ (start .pre .1) (sym (if1 .before .few-numbers .ensures) ∙ if1 .if1 .left)
     (sym (if2 .before .bad-length .ensures) ∙ if2 .if2 .taken) (c .refused2 .ensures)
 
 walk-first-requires : tie.Need-walk-first-requires
@@ -28,7 +29,7 @@ walk-first-requires c κs =
     let if2 = load .before .before .before in
     let start = if2 .before .before .before .before .before .before .before .before .before .before .before in
     let good = sym (if2 .before .bad-length .ensures) ∙ if2 .if2 .left in
-    record { good = good; rooms = loaded-rooms (start .pre) good (load .load .ensures) (words .words .given) }
+    record { good = good; rooms = loaded-rooms (start .pre .0) good (load .load .ensures) (words .words .given) }
 
 put-called-requires : tie.Need-put-called-requires
 put-called-requires c κs =
@@ -42,9 +43,10 @@ put-called-requires c κs =
     let if1 = if2 .before .before .before in
     let start = if1 .before .before .before .before .before .before .before .before in
     let good = sym (if2 .before .bad-length .ensures) ∙ if2 .if2 .left in
-    let rooms = loaded-rooms (start .pre) good (load .load .ensures) (words .words .given) in
+    let rooms = loaded-rooms (start .pre .0) good (load .load .ensures) (words .words .given) in
     let first = walked .walk-first .ensures in
     record {
+      settable = start .pre .1;
       enough = sym (if1 .before .few-numbers .ensures) ∙ if1 .if1 .left;
       walk = record {
         good = good;
@@ -66,7 +68,7 @@ returns-4 c =
     let if2 = load .before .before .before in
     let if1 = if2 .before .before .before in
     let start = if1 .before .before .before .before .before .before .before .before in
-    called-put (start .args .context) (start .args .masks .now) _ _ (sym (if1 .before .few-numbers .ensures) ∙ if1 .if1 .left)
+    called-put (start .args .context) (start .args .masks .now) _ _ (start .pre .1) (sym (if1 .before .few-numbers .ensures) ∙ if1 .if1 .left)
     (sym (if2 .before .bad-length .ensures) ∙ if2 .if2 .left) (walked .walk-first .ensures .called) (layout .layout2 .given .1)
 
 pub put-in-spec : {M : Type 1} → statement M

@@ -5,6 +5,7 @@ use super::measure::{count_within, Bench, CALLS, CHECK};
 use super::puts::{puts, Put, KINDS_OF_PUTS, NAMES};
 use super::refused::refused_early;
 use second::benchmark::worst::{without_assignments, KINDS};
+use second::layout::settings::STANDARD;
 use second::naive::read::read;
 use std::path::Path;
 
@@ -121,7 +122,7 @@ fn cost(name: &str, bytes: &[u8]) -> Cost {
     assert_eq!(line, due, "{name} with another word");
     let judged = judging(&early);
     let [reading, reading_with_masks] = [0, 1].map(|i| calls[i] - judged[i]);
-    let file = read(bytes).expect("a file that is read");
+    let file = read(bytes, STANDARD).expect("a file that is read");
     let puts = puts(&file, bytes).map(|put| put.map(|put| put_cost(bytes, &put)));
     println!("{name}, {words} words: {due} after judging {judged:?}; reading {reading}, with masks {reading_with_masks}; puts {puts:?}");
     let cost = Cost { words, reading, reading_with_masks, puts };

@@ -4,8 +4,8 @@ use std::io::Write;
 use std::process::{Command, Output, Stdio};
 
 pub const VERSIONS: [&str; 3] = ["proved", "fast", "second"];
-/// Those of the check with masks.
-const WITH_MASKS: [&str; 2] = ["proved", "fast"];
+/// Those of the check with masks, and of the check under the highest settings.
+const TWO: [&str; 2] = ["proved", "fast"];
 pub const CHECK: &str = "second/target/benchmark/bench_check";
 pub const CALLS: &str = "second/target/benchmark/bench_calls";
 const RUN: &str = "second/target/benchmark/bench_run";
@@ -72,8 +72,9 @@ fn counts<const N: usize>(versions: [&'static str; N], program: &str, argument: 
     (all.map(|one| one.0), answer)
 }
 
-fn times(program: &str, argument: &[&str], input: &[u8]) -> [u64; 3] {
-    let output = output(Command::new(program).arg("times").args(argument), input);
+/// The nanoseconds of N versions; `which` names them.
+fn times<const N: usize>(program: &str, which: &str, argument: &[&str], input: &[u8]) -> [u64; N] {
+    let output = output(Command::new(program).arg(which).args(argument), input);
     let text = String::from_utf8_lossy(&output.stdout).into_owned();
     let numbers: Vec<u64> = text.split_whitespace().filter_map(|n| n.parse().ok()).collect();
     numbers.try_into().unwrap_or_else(|_| panic!("times of {program}: {text}"))
@@ -88,7 +89,7 @@ impl Bench {
     pub fn new() -> Bench {
         Bench {
             check_start: counts(VERSIONS, CHECK, &[], &[]).0,
-            masks_start: counts(WITH_MASKS, CALLS, &[], &[]).0,
+            masks_start: counts(TWO, CALLS, &[], &[]).0,
             run_start: counts(VERSIONS, RUN, &["empty"], &[]).0,
         }
     }
@@ -101,15 +102,23 @@ impl Bench {
             name: name.to_string(),
             bytes: bytes.len(),
             instructions: without(all, self.check_start),
-            nanoseconds: times(CHECK, &[], bytes),
+            nanoseconds: times(CHECK, "times", &[], bytes),
             yardstick: None,
             answer,
         }
     }
 
+    /// The instructions and the nanoseconds of the proved check and of the fast one under settings, which accept the file.
+    pub fn check_under(&self, name: &str, bytes: &[u8], options: &[&str]) -> ([u64; 2], [u64; 2]) {
+        let (all, answer) = counts(TWO, CHECK, options, bytes);
+        assert!(answer.starts_with("accepted"), "{name}: {answer}");
+        let [proved, fast, _] = self.check_start;
+        (without(all, [proved, fast]), times(CHECK, "two", options, bytes))
+    }
+
     /// The proved check with masks, for one instruction of the fast one.
     pub fn masks_to_fast(&self, bytes: &[u8]) -> f64 {
-        let [proved, fast] = without(counts(WITH_MASKS, CALLS, &[], bytes).0, self.masks_start);
+        let [proved, fast] = without(counts(TWO, CALLS, &[], bytes).0, self.masks_start);
         proved as f64 / fast as f64
     }
 
@@ -119,7 +128,7 @@ impl Bench {
             name: name.to_string(),
             bytes: 0,
             instructions: without(all, self.run_start),
-            nanoseconds: times(RUN, &[name], &[]),
+            nanoseconds: times(RUN, "times", &[name], &[]),
             yardstick: None,
             answer,
         }

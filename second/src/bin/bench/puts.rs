@@ -1,5 +1,6 @@
 //! The kinds of new commands that the workbench call is measured with.
 
+use second::layout::settings::STANDARD;
 use second::layout::syntax::*;
 use second::layout::words::{bytes_of, take_apart};
 use second::naive::commands::{all_commands, with_inner};
@@ -40,7 +41,7 @@ pub fn puts(file: &File, bytes: &[u8]) -> [Option<Put>; KINDS_OF_PUTS] {
 /// Whether the second implementation puts it.
 fn is_put(bytes: &[u8], put: &Put) -> bool {
     let mut masks = vec![0; bytes.len() / 4];
-    masks::put(&mut bytes.to_vec(), &mut masks, put.place, &bytes_of(&put.new)).is_ok()
+    masks::put(&mut bytes.to_vec(), &mut masks, put.place, &bytes_of(&put.new), STANDARD).is_ok()
 }
 
 /// Those of some commands that the workbench call takes and that have at most a sixteenth of so many words.

@@ -1,5 +1,6 @@
 //! Of a file that is accepted, one that is read at the same cost and refused with 8 at one of its first evidence words.
 
+use second::layout::settings::STANDARD;
 use second::layout::syntax::{File, Set};
 use second::layout::words::{bytes_of, pack, take_apart, words_of, Refusal, Word};
 use second::layout::write;
@@ -61,7 +62,7 @@ fn place_of_8(bytes: &[u8]) -> Option<usize> {
 /// the evidence goes before that of the contract: another rule is refused at once.
 pub fn refused_early(bytes: &[u8]) -> (Vec<u8>, String) {
     let words = words_of(bytes).expect("a file");
-    let (from, evidence) = first_contract(&read(bytes).expect("a file that is read"));
+    let (from, evidence) = first_contract(&read(bytes, STANDARD).expect("a file that is read"));
     let places = (evidence..words.len().min(evidence + FURTHER)).chain(from..evidence);
     let changed = places.flat_map(|at| with_another_at(&words, at));
     let refused = changed.filter_map(|bytes| Some((place_of_8(&bytes)?, bytes)));

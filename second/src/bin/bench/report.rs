@@ -1,5 +1,7 @@
 //! docs/PERFORMANCE.md.
 
+pub mod highest;
+
 use super::measure::Row;
 use super::{machine, masks, puts, stack, Measured};
 use second::benchmark::programs::PROGRAMS;
@@ -158,7 +160,7 @@ fn stack_lines(all: &[stack::Used]) -> String {
     for used in all {
         let found = match used.limit {
             Some(limit) => format!("{limit} KiB suffice"),
-            None => format!("{} KiB are NOT enough", stack::MOST),
+            None => format!("less than {} KiB is NOT enough", used.under),
         };
         let _ = writeln!(out, "- {}: {found} for all {} files", used.what, used.files);
     }
@@ -168,12 +170,13 @@ fn stack_lines(all: &[stack::Used]) -> String {
 pub fn text(m: &Measured) -> String {
     let machine: String = machine::lines().iter().map(|line| format!("- {line}\n")).collect();
     format!(
-        "{HEAD}\n{machine}\n{}\n{FILES}\n### Usual\n\n{}\n### Worst\n\n{}\n{GROWTH}\n{}\n{}\n{RUNNER}\n{}\n{STACK}\n{}",
+        "{HEAD}\n{machine}\n{}\n{FILES}\n### Usual\n\n{}\n### Worst\n\n{}\n{GROWTH}\n{}\n{}\n{}\n{RUNNER}\n{}\n{STACK}\n{}",
         summary(m),
         check_table(&m.usual),
         check_table(&m.worst),
         growth_table(&m.growing),
         masks(&m.masks),
+        highest::section(&m.highest),
         run_table(&m.runs),
         stack_lines(&m.stack),
     )
@@ -237,6 +240,7 @@ const STACK: &str = "## Stack
 
 The least limit of the whole process (`ulimit -s`, in steps of 8 KiB) under which every file gets its answer: the usual, the worst and the
 largest growing ones, and those in which a rule at the deepest evidence walks the deepest expression (`deepest` in
-`second/src/benchmark/worst.rs`). What a call takes at most, over the deepest files of each kind, is in `include/flowcheck.h`, measured by
-`flowgate/stack.c`.
+`second/src/benchmark/worst.rs`); under the highest settings those of depth 256, and the files of \"Highest settings\". It is to be under 256 KiB,
+and under 512 KiB under the highest settings. What a call takes at most, over the deepest files of each kind, is in `include/flowcheck.h`,
+measured by `flowgate/stack.c`.
 ";

@@ -1,6 +1,7 @@
 //! Necessary preconditions, rules 20 to 30 and 32.
 
 use super::{nodes, Maker, MANY_NODES};
+use crate::layout::settings::STANDARD;
 use crate::layout::syntax::*;
 use crate::naive::implies::{implies, Verdict};
 use crate::naive::modified::{modified_by, of_bool};
@@ -19,7 +20,7 @@ impl Maker<'_> {
                 1 => {
                     let (phi1, inner) = self.before(c, phi2, detours - 1)?;
                     let phi = self.weaker(&phi1);
-                    if implies(&phi1, &phi) == Verdict::Holds || self.slip() {
+                    if implies(&phi1, &phi, STANDARD) == Verdict::Holds || self.slip() {
                         return Some((phi, before_of(BeforeRule::B28 { phi1, inner })));
                     }
                 }
@@ -76,7 +77,7 @@ impl Maker<'_> {
             _ => or(phi2.clone(), b.clone()),
         };
         let (phi0, inner) = self.before(body, &phi, detours)?;
-        let holds = |a: &Bool| implies(a, &phi) == Verdict::Holds;
+        let holds = |a: &Bool| implies(a, &phi, STANDARD) == Verdict::Holds;
         let both = holds(&and(phi0.clone(), b.clone()))
             && holds(&and(phi2.clone(), not(b.clone())));
         if !both && !self.slip() {

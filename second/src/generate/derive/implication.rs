@@ -2,6 +2,7 @@
 
 use super::Maker;
 use crate::generate::parts;
+use crate::layout::settings::STANDARD;
 use crate::layout::syntax::*;
 use crate::naive::implies::{implies, Verdict};
 use crate::naive::judge::operands_of;
@@ -12,7 +13,7 @@ impl Maker<'_> {
     /// A set P that implies Q.
     pub fn stronger(&mut self, q: &Set, detours: usize) -> Option<(Set, Box<Implication>)> {
         self.spend()?;
-        let never = |b: &Bool| implies(b, &Bool::Truth(false)) == Verdict::Holds;
+        let never = |b: &Bool| implies(b, &Bool::Truth(false), STANDARD) == Verdict::Holds;
         if self.rng.once_in(2) && (q.iter().all(|m| never(&m.phi)) || self.slip()) {
             return Some((Set::new(), implication_of(ImplicationRule::S14)));
         }
@@ -70,7 +71,7 @@ impl Maker<'_> {
     fn rule_18(&mut self, q: &Set) -> Option<(Set, Box<Implication>)> {
         let member = self.one(q)?;
         let phi = self.weaker(&member.phi);
-        if implies(&member.phi, &phi) != Verdict::Holds && !self.slip() {
+        if implies(&member.phi, &phi, STANDARD) != Verdict::Holds && !self.slip() {
             return None;
         }
         Some((vec![Member { phi, e: member.e.clone() }], implication_of(ImplicationRule::S18)))

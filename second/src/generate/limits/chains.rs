@@ -4,19 +4,21 @@
 use crate::generate::parts::{self, Pool};
 use crate::generate::plain::truths::{chain, nested, with_other};
 use crate::generate::prng::Prng;
+use crate::layout::settings::Settings;
 use crate::layout::syntax::*;
 use crate::layout::words::{bytes_of, MOST_BYTES};
 use crate::layout::write::file_words;
 
 /// Two antecedents or assertions that differ by true alone, or nearly so.
-pub fn chains(rng: &mut Prng) -> Vec<u8> {
+pub fn chains(rng: &mut Prng, most: Settings) -> Vec<u8> {
     let pool = Pool::new(rng);
     let b = if rng.once_in(3) { always() } else { parts::boolean(rng, &pool, 1) };
     let mut long = match rng.below(3) {
         0 => trues(rng, &b),
         _ => {
             let nested = nested(rng);
-            let length = if rng.once_in(3) { rng.below(120) } else { 121 + rng.below(6) };
+            let deep = most.depth as usize - 7;
+            let length = if rng.once_in(3) { rng.below(deep - 1) } else { deep + rng.below(6) };
             chain(rng, b.clone(), length, nested)
         }
     };
@@ -27,7 +29,7 @@ pub fn chains(rng: &mut Prng) -> Vec<u8> {
     let e = parts::expression(rng, &pool, 1);
     let words = compared(rng, phi, phi2, e);
     if words.len() * 4 > MOST_BYTES {
-        return chains(rng);
+        return chains(rng, most);
     }
     bytes_of(&words)
 }

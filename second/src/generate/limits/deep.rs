@@ -1,9 +1,10 @@
-//! Depth 128: expressions, commands and evidence nested in themselves.
+//! Depth 128, or the most that is set: expressions, commands and evidence nested in themselves.
 
 use crate::generate::mutate::{any_word, mend};
 use crate::generate::prng::Prng;
+use crate::layout::settings::Settings;
 use crate::layout::words::{bytes_of, pack};
-use crate::naive::judge::{check, Answer};
+use crate::naive::judge::{check_settings, Answer};
 
 /// Words that are each one deeper than the one before, `levels` of them, and
 /// then the leaves that are still due.
@@ -34,7 +35,7 @@ fn nest(rng: &mut Prng, levels: usize, sort: u32, out: &mut Vec<u32>) {
 
 /// Now and then a wrong word (4 goes before 5 at a word), or an end where a
 /// word that is too deep is due (3 goes before 4).
-fn spoil(rng: &mut Prng, words: &mut Vec<u32>) {
+fn spoil(rng: &mut Prng, words: &mut Vec<u32>, most: Settings) {
     if rng.once_in(6) {
         let at = 1 + rng.below(words.len() - 1);
         words[at] = any_word(rng);
@@ -43,7 +44,7 @@ fn spoil(rng: &mut Prng, words: &mut Vec<u32>) {
     if rng.once_in(2) {
         return;
     }
-    if let Answer::Refused(r) = check(&bytes_of(words)) {
+    if let Answer::Refused(r) = check_settings(&bytes_of(words), most) {
         if r.number == 4 && rng.once_in(2) {
             words.truncate(r.place);
             mend(words);
@@ -55,8 +56,8 @@ fn spoil(rng: &mut Prng, words: &mut Vec<u32>) {
 
 /// P and Q one member, the consequent or the antecedent nested: depth 2
 /// begins it.
-pub fn deep_expression(rng: &mut Prng) -> Vec<u8> {
-    let levels = 125 + rng.below(4);
+pub fn deep_expression(rng: &mut Prng, most: Settings) -> Vec<u8> {
+    let levels = most.depth as usize - 3 + rng.below(4);
     let mut one = vec![pack(32, 1)];
     if rng.once_in(2) {
         one.push(pack(9, 1));
@@ -70,7 +71,7 @@ pub fn deep_expression(rng: &mut Prng) -> Vec<u8> {
     words.extend(&one);
     words.extend(&one);
     words.push(pack(33, 1));
-    spoil(rng, &mut words);
+    spoil(rng, &mut words, most);
     bytes_of(&words)
 }
 
@@ -99,8 +100,8 @@ fn nest_command(rng: &mut Prng, levels: usize, out: &mut Vec<u32>) {
     out.extend(after);
 }
 
-pub fn deep_command(rng: &mut Prng) -> Vec<u8> {
-    let levels = 126 + rng.below(4);
+pub fn deep_command(rng: &mut Prng, most: Settings) -> Vec<u8> {
+    let levels = most.depth as usize - 2 + rng.below(4);
     let mut words = vec![0];
     if rng.once_in(2) {
         nest_command(rng, levels, &mut words);
@@ -115,13 +116,13 @@ pub fn deep_command(rng: &mut Prng) -> Vec<u8> {
         }
     }
     words.extend([pack(32, 0), pack(32, 0), pack(33, 10)]);
-    spoil(rng, &mut words);
+    spoil(rng, &mut words, most);
     bytes_of(&words)
 }
 
 /// Skip and empty sets; evidence nested in itself.
-pub fn deep_evidence(rng: &mut Prng) -> Vec<u8> {
-    let levels = 126 + rng.below(4);
+pub fn deep_evidence(rng: &mut Prng, most: Settings) -> Vec<u8> {
+    let levels = most.depth as usize - 2 + rng.below(4);
     let empty = pack(32, 0);
     let truth = pack(9, 1);
     let mut words = vec![0, pack(24, 0)];
@@ -174,6 +175,6 @@ pub fn deep_evidence(rng: &mut Prng) -> Vec<u8> {
             words.push(pack(33, 10));
         }
     }
-    spoil(rng, &mut words);
+    spoil(rng, &mut words, most);
     bytes_of(&words)
 }

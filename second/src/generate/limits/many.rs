@@ -1,15 +1,16 @@
-//! 64 members in a set, 10 comparisons in an implication.
+//! 64 members in a set, 10 comparisons in an implication, or the most that are set.
 
 use crate::generate::parts::{self, Pool};
 use crate::generate::prng::Prng;
+use crate::layout::settings::Settings;
 use crate::layout::syntax::*;
 use crate::layout::write;
 use crate::naive::replace;
 
-/// 63, 64 or 65 members, one perhaps lacking on one side.
-pub fn many_members(rng: &mut Prng) -> Vec<u8> {
+/// One member less than the most, the most or one more; one perhaps lacking on one side.
+pub fn many_members(rng: &mut Prng, most: Settings) -> Vec<u8> {
     let pool = Pool::new(rng);
-    let count = 63 + rng.below(3);
+    let count = most.members as usize - 1 + rng.below(3);
     let mut set = Set::new();
     for i in 0..count {
         let number = Arith::Constant(i as i64);
@@ -61,7 +62,7 @@ fn join(rng: &mut Prng, some: &[Bool], with_and: bool) -> Bool {
     all.pop().unwrap_or(Bool::Truth(with_and))
 }
 
-/// Two sides over 9 to 12 comparisons, of which the left implies the right or
+/// Two sides over so many comparisons, of which the left implies the right or
 /// fails in one row.
 fn two_sides(rng: &mut Prng, count: usize) -> (Bool, Bool) {
     let atoms = atoms(rng, count);
@@ -93,10 +94,10 @@ fn two_sides(rng: &mut Prng, count: usize) -> (Bool, Bool) {
     }
 }
 
-/// Set rules 14 and 18, precondition rules 21 and 28 over 9 to 12
-/// comparisons.
-pub fn many_comparisons(rng: &mut Prng) -> Vec<u8> {
-    let count = 9 + rng.below(4);
+/// Set rules 14 and 18, precondition rules 21 and 28 over one comparison less
+/// than the most, up to two more.
+pub fn many_comparisons(rng: &mut Prng, most: Settings) -> Vec<u8> {
+    let count = most.comparisons as usize - 1 + rng.below(4);
     let (left, right) = two_sides(rng, count);
     let zero = Expression::Array(Array::Zero);
     let x = Expression::Arith(Arith::Scalar(5));

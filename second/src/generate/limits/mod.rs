@@ -1,6 +1,7 @@
 //! Files at the limits of document 01: depth 128, 64 members, 10
-//! comparisons, 32,768 bytes, 16 procedures; and files of which two refusals
-//! are true, so that their order tells.
+//! comparisons, 32,768 bytes, 16 procedures; files of which two refusals
+//! are true, so that their order tells; and files at and beyond the limits
+//! that request [6] lets a caller set.
 
 mod chains;
 mod deep;
@@ -12,23 +13,50 @@ use self::deep::{deep_command, deep_evidence, deep_expression};
 use self::many::{many_comparisons, many_members};
 use super::mutate::{any_word, mend};
 use super::prng::Prng;
+use crate::layout::settings::{Settings, HIGHEST, STANDARD};
 use crate::layout::words::{bytes_of, pack};
 
 /// A file near one of the check's limits, on either side.
 pub fn limit(rng: &mut Prng) -> Vec<u8> {
     match rng.below(15) {
-        13 | 14 => chains::chains(rng),
+        13 | 14 => chains::chains(rng, STANDARD),
         8 => loops::loops(rng),
         9 => procedures::nest(rng),
         10 | 11 => procedures::calls(rng),
         12 => procedures::tables(rng),
-        0 => deep_expression(rng),
-        1 => deep_command(rng),
-        2 => deep_evidence(rng),
-        3 => many_members(rng),
-        4 | 5 => many_comparisons(rng),
+        0 => deep_expression(rng, STANDARD),
+        1 => deep_command(rng, STANDARD),
+        2 => deep_evidence(rng, STANDARD),
+        3 => many_members(rng, STANDARD),
+        4 | 5 => many_comparisons(rng, STANDARD),
         6 => long_file(rng),
         _ => small_errors(rng),
+    }
+}
+
+/// A number above `low`, up to `high`, often these ends.
+fn above(rng: &mut Prng, low: u64, high: u64) -> u64 {
+    match rng.below(4) {
+        0 => low + 1,
+        1 => high,
+        _ => low + 1 + rng.below((high - low) as usize) as u64,
+    }
+}
+
+/// A file near limits that are set above the old ones, on either side.
+pub fn beyond(rng: &mut Prng) -> Vec<u8> {
+    let most = Settings {
+        comparisons: above(rng, STANDARD.comparisons, HIGHEST.comparisons),
+        depth: above(rng, STANDARD.depth, HIGHEST.depth),
+        members: above(rng, STANDARD.members, HIGHEST.members),
+    };
+    match rng.below(9) {
+        0 => deep_expression(rng, most),
+        1 => deep_command(rng, most),
+        2 => deep_evidence(rng, most),
+        3 | 4 => many_members(rng, most),
+        5..=7 => many_comparisons(rng, most),
+        _ => chains::chains(rng, most),
     }
 }
 

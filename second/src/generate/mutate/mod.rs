@@ -6,6 +6,7 @@ mod procedures;
 
 use self::procedures::change_procedures;
 use crate::generate::prng::Prng;
+use crate::layout::settings::HIGHEST;
 use crate::layout::words::{bytes_of, pack, take_apart, words_of, PAYLOAD_BITS};
 
 /// One to three mutations.
@@ -174,7 +175,7 @@ pub fn any_word(rng: &mut Prng) -> u32 {
 
 /// The class of a word (what may stand in its place) and the number of parts
 /// that follow it, for kinds and payloads that the layout knows.
-fn class_and_parts(word: u32) -> Option<(u32, usize)> {
+pub fn class_and_parts(word: u32) -> Option<(u32, usize)> {
     let word = take_apart(0, word);
     match (word.kind, word.payload) {
         (1 | 2, _) => Some((1, 0)),
@@ -188,7 +189,7 @@ fn class_and_parts(word: u32) -> Option<(u32, usize)> {
         (26 | 27 | 28 | 31, _) => Some((4, 1)),
         (25 | 30, _) => Some((4, 2)),
         (29, _) => Some((4, 3)),
-        (32, members) if members <= 64 => Some((5, 2 * members as usize)),
+        (32, members) if u64::from(members) <= HIGHEST.members + 1 => Some((5, 2 * members as usize)),
         (33, 1 | 3 | 4 | 5 | 10 | 31) => Some((6, 0)),
         (33, 11 | 13) => Some((6, 1)),
         (33, 14) => Some((6, 2)),

@@ -9,6 +9,7 @@ use self::booleans::{Booleans, Stands};
 use self::truths::{with_other, with_true};
 use super::accepted;
 use super::prng::Prng;
+use crate::layout::settings::STANDARD;
 use crate::layout::syntax::*;
 use crate::layout::words::{bytes_of, MOST_BYTES};
 use crate::layout::write::file_words_with;
@@ -37,7 +38,7 @@ fn either(rng: &mut Prng, b: &Bool) -> Bool {
 /// An accepted file with some of the booleans changed that stand so; none if they are as they were, or it is too long then.
 fn changed_by(rng: &mut Prng, stands: &[Stands], change: Change) -> Option<Vec<u8>> {
     let bytes = accepted(rng);
-    let mut file = read(&bytes).expect("accepted");
+    let mut file = read(&bytes, STANDARD).expect("accepted");
     let seldom = *rng.pick(&[1, 1, 2, 4, 12]);
     let mut one = |here: Stands, b: &mut Bool| {
         if stands.contains(&here) && rng.once_in(seldom) {

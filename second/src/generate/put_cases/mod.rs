@@ -6,9 +6,11 @@ mod programs;
 mod wrong;
 
 use super::any_file;
-use super::limits::limit;
+use super::limits::{beyond, limit};
 use super::parts::Pool;
 use super::prng::Prng;
+use super::settings::often_standard;
+use crate::layout::settings::{Settings, HIGHEST, STANDARD};
 use crate::layout::syntax::*;
 use crate::layout::words::bytes_of;
 use crate::naive::commands::{all_commands, with_inner};
@@ -16,30 +18,44 @@ use crate::naive::masks::{is_simple, words_of_command};
 use crate::naive::modified::{reached, used_by};
 use crate::naive::read::read;
 
-/// A file, the numbers lent for masks, a place and the bytes of a new command.
+/// A file, the numbers lent for masks, a place and the bytes of a new command, and settings.
 #[derive(Clone, Debug)]
 pub struct PutCase {
     pub bytes: Vec<u8>,
     pub lent: Vec<u64>,
     pub place: usize,
     pub new: Vec<u8>,
+    pub settings: Settings,
 }
 
 pub fn put_case(rng: &mut Prng) -> PutCase {
     let deep = rng.once_in(10);
+    let most = any_depth(rng);
     let bytes = match rng.below(18) {
-        _ if deep => programs::deep(rng),
+        _ if deep => programs::deep(rng, most.depth as usize),
         0..=2 => any_file(rng).1,
+        3 if rng.once_in(2) => beyond(rng),
         3 => limit(rng),
         _ => programs::program(rng),
     };
+    let settings = if deep { most } else { often_standard(rng, &bytes) };
     let lent = lent(rng, bytes.len() / 4);
-    let (place, new) = match read(&bytes) {
+    let (place, new) = match read(&bytes, settings) {
         Ok(file) if deep && rng.once_in(2) => deepest(rng, &simple_commands(&file)),
         Ok(file) => replacement(rng, &file, bytes.len() / 4),
         Err(_) => (rng.below(4), bytes_of(&words_of_command(&skip()))),
     };
-    PutCase { bytes, lent, place, new }
+    PutCase { bytes, lent, place, new, settings }
+}
+
+/// The old settings, or those with another depth.
+fn any_depth(rng: &mut Prng) -> Settings {
+    let depth = match rng.below(6) {
+        0 => HIGHEST.depth,
+        1 => 4 + rng.below(253) as u64,
+        _ => STANDARD.depth,
+    };
+    Settings { depth, ..STANDARD }
 }
 
 /// Enough numbers for so many words or too few, none of them likely to be a mask.

@@ -8,7 +8,6 @@ use crate::generate::procedures::{add, without_contract};
 use crate::layout::syntax::*;
 use crate::layout::words::bytes_of;
 use crate::layout::write::file_words_with;
-use crate::naive::read::MOST_DEPTH;
 
 /// A command, half of the time a `for`.
 fn any_command(rng: &mut Prng, pool: &Pool) -> Command {
@@ -73,13 +72,13 @@ pub fn program(rng: &mut Prng) -> Vec<u8> {
     bytes_of(&file_words_with(&procedures, &main.command, &main.pre, &main.post, &main.evidence))
 }
 
-/// A simple command within so many others that a chain of its length reaches the limit of depth, or ends a little before or past it.
+/// A simple command within so many others that a chain of its length reaches this most depth, or ends a little before or past it.
 /// The command stands in the main program, in a procedure or is carried.
-pub fn deep(rng: &mut Prng) -> Vec<u8> {
+pub fn deep(rng: &mut Prng, most: usize) -> Vec<u8> {
     let pool = Pool::new(rng);
     // a carried command has depth 2 at least
-    let depth = 2 + rng.below(MOST_DEPTH - 3);
-    let words = MOST_DEPTH - depth + rng.below(4);
+    let depth = 2 + rng.below(most - 3);
+    let words = most - depth + rng.below(4);
     let inner = exact::simple(rng, &pool, words);
     match rng.below(3) {
         0 => file_of(&[], &surrounded(rng, inner, depth - 1), flow_of(FlowRule::F10)),

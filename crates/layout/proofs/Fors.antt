@@ -2,23 +2,29 @@
 -- of evidence, under the context with all procedures.
 -- Assumes nothing.
 --     ForStands    a `for` stands at a place
+--     for-read     it can be read again
 --     file-fors    the law
 use mathlib.Core.Path.{_≡_, sym, subst, _∙_}
 use mathlib.Core.List.{List}
 use Prim.Native.Nat.{ℕ, suc, _<_, _≤_}
 use native.Mathlib.Omega.{arith}
 use Rattle.language.specs.Syntax.{Command, for}
-use Rattle.rules.specs.Context.{Limits, Context}
+use Rattle.rules.specs.Context.{Limits, Context, alone}
 use Rattle.rules.specs.Resolved.{Resolved}
 use Rattle.layout.specs.Bytes.{wordCount, kindAt}
+use Rattle.layout.specs.Reading.{read}
+use Rattle.layout.specs.Read.{command}
 use Rattle.layout.specs.EvidenceWords.{commandPart}
 use Rattle.layout.specs.Nodes.{expressionNode, commandNode, setNode}
 use Rattle.layout.specs.Standing.{PartStands}
+use Rattle.layout.specs.Program.{afterAll}
 use Rattle.layout.specs.File.{File}
-use Rattle.layout.proofs.Nodes.{opened}
+use Rattle.layout.specs.FileWords.{FileStands}
+use Rattle.layout.proofs.Nodes.{opened, node-deeper}
+use Rattle.layout.proofs.Back.{command-stands}
+use Rattle.layout.proofs.WholeFile.{CallsAllowed}
 use Rattle.layout.proofs.Forms.{sort-kind, low-kind, Form, form-for, form}
-use Rattle.scan.specs.Steady.{fileContext, MaskedFile}
-use Rattle.scan.proofs.FileNodes.{WordAt, of-expression, of-command, of-set, of-none, file-words}
+use Rattle.layout.proofs.FileNodes.{WordAt, of-expression, of-command, of-set, of-none, file-words}
 
 -- Δ is the context with all procedures
 module _ (file : List ℕ) (Δ : Context) where
@@ -46,6 +52,15 @@ module _ (file : List ℕ) (Δ : Context) where
   for-at k (of-set d Γ m s) = absurd (omega (arith, k, opened (setNode Γ m) d s .kind))
   for-at k (of-none h) = absurd (omega (arith, h .above))
 
-module _ (file ends : List ℕ) (limits : Limits) (f : File) (h : MaskedFile file ends limits f) where
-  pub file-fors : (at : ℕ) → at < wordCount file → kindAt file at ≡ 31 → ForStands file (fileContext limits f) at
-  file-fors at l k = for-at file (fileContext limits f) k (file-words file ends limits f h .each at (omega arith) l)
+  -- it can be read again
+  pub for-read : {at : ℕ} (x : ForStands at) →
+      command Δ file (Δ .limits .depth) at ≡ read (for (x .q) (x .m) (x .body)) (x .past)
+  for-read {at} x =
+      let c = for (x .q) (x .m) (x .body) in
+      let fit = node-deeper (suc (x .levels)) (Δ .limits .depth) (x .within) (commandNode Δ c) (x .stands .fit) in
+      command-stands file Δ (Δ .limits .depth) c at (x .past) (record { stand = x .stands .stand; fit = fit }) .back
+
+module _ (file : List ℕ) (limits : Limits) (f : File) (s : FileStands limits file f) (called : CallsAllowed limits file f) where
+  pub file-fors : (at : ℕ) → at < wordCount file → kindAt file at ≡ 31 → ForStands file (afterAll (alone limits) (f .procedures)) at
+  file-fors at l k =
+      for-at file (afterAll (alone limits) (f .procedures)) k (file-words file limits f s called .each at (omega arith) l)

@@ -9,6 +9,7 @@ use mathlib.Core.Logic.{inl, inr}
 use Prim.Native.Nat.{ℕ, zero, suc, _+_, _*_, _/_, _<_, _≤_}
 use native.Mathlib.Omega.{arith}
 use native.Mathlib.Nat.{eq-or-lt-of-le}
+use native.Mathlib.Decide.{decLt}
 use lib.IntN.{pos}
 use lib.ListN.{length}
 use Rattle.language.specs.Syntax.{Sort, Expr, constant, scalar, operation, select, compare, truth, and, or, neg}
@@ -20,21 +21,21 @@ use Rattle.rules.specs.Context.{Limits, Context, alone}
 use Rattle.rules.specs.Resolved.{Resolved, Carried}
 use Rattle.rules.specs.Evidence.{Judgement, flow, implication, precondition}
 use Rattle.rules.specs.Evidence.{Standing, Tree, by, assertion, command, members, child, done, _&_}
 use Rattle.layout.specs.Bytes.{wordCount, numberAt, kindAt, payloads}
 use Rattle.layout.specs.ReadEvidence.{evidenceKind}
 use Rattle.layout.specs.Spelling.{SpelledAt}
 use Rattle.layout.specs.EvidenceWords.{expressionPart, commandPart, setPart, spelledTree, FitsTree}
 use Rattle.layout.specs.Nodes.{Node, expressionNode, commandNode, setNode, nodePart, halves, partsOf}
 use Rattle.layout.specs.Standing.{PartStands, Chain}
 use Rattle.layout.specs.Program.{Program, after, afterAll}
 use Rattle.layout.specs.File.{File}
-use Rattle.layout.specs.FileWords.{ProgramStands, ProgramsStand, tableWords}
+use Rattle.layout.specs.FileWords.{ProgramStands, ProgramsStand, tableWords, FileStands}
 use Rattle.layout.proofs.SpelledEvidence.{TreeAt, parted-trees}
 use Rattle.layout.proofs.BackEvidence.{rule-range}
 use Rattle.layout.proofs.Nodes.{kind-at, no-level, opened}
-use Rattle.layout.proofs.Resolved.{Grows, grows-all, command-moved, resolved-more, ProgramResolved, ProgramsResolved, right-calls, file-resolved}
-use Rattle.ends.proofs.Sizes.{lt-or-le}
-use Rattle.scan.specs.Steady.{fileContext, MaskedFile}
+use Rattle.layout.proofs.WholeFile.{CallsAllowed}
+use Rattle.layout.proofs.Resolved.{Grows, grows-all, command-moved, resolved-more, ProgramResolved, ProgramsResolved}
+use Rattle.layout.proofs.Resolved.{right-calls, file-resolved}
 
 -- Δ is the context with all procedures
 module _ (file : List ℕ) (Δ : Context) where
@@ -57,7 +58,7 @@ module _ (file : List ℕ) (Δ : Context) where
   ended e = record { each = λ j l k. absurd (omega arith) }
 
   both : {at q p : ℕ} → Words at q → Words q p → Words at p
-  both {q} f g = record { each = λ j l k. elim (lt-or-le j q) [ inl i ↦ f .each j l i | inr i ↦ g .each j i k ] }
+  both {q} f g = record { each = λ j l k. elim (decLt j q) [ yes i ↦ f .each j l i | no i ↦ g .each j (omega arith) k ] }
 
   first : {at p : ℕ} → WordAt at → Words (at + 1) p → Words at p
   first f g = record {
@@ -176,17 +177,16 @@ header-word file Δ at k n l e = of-none (record { above = go (numberAt file at)
     go : (x : ℕ) → x ≡ k * payloads + n → (32 < x / payloads) × (x / payloads ≡ 38 → ⊥)
     go x e = (omega arith, λ h. omega arith)
 
-module _ (file ends : List ℕ) (limits : Limits) (f : File) (h : MaskedFile file ends limits f) where
+module _ (file : List ℕ) (limits : Limits) (f : File) (s : FileStands limits file f) (called : CallsAllowed limits file f) where
   table-words : (l : List Program) (Δ : Context) {p : ℕ} → SpelledAt file 1 (tableWords l) →
       Words file Δ (1 + length (tableWords l)) p → Words file Δ 1 p
   table-words [] Δ t x = x
   table-words (g ∷ l) Δ t x = first file Δ (header-word file Δ 1 62 (length (g ∷ l)) (omega arith) (t .1)) x
 
-  pub file-words : Words file (fileContext limits f) 0 (wordCount file)
+  pub file-words : Words file (afterAll (alone limits) (f .procedures)) 0 (wordCount file)
   file-words =
-      let s = h .stands in
-      let Δ = fileContext limits f in
-      let r = file-resolved file limits (f .procedures) (f .main) _ (s .programs) (right-calls file (f .procedures) (h .called)) in
+      let Δ = afterAll (alone limits) (f .procedures) in
+      let r = file-resolved file limits (f .procedures) (f .main) _ (s .programs) (right-calls file (f .procedures) called) in
       first file Δ (header-word file Δ 0 63 (wordCount file) (omega arith) (s .count))
       (table-words (f .procedures) Δ (s .table)
       (programs-words file (alone limits) (f .procedures) (f .main) _ (wordCount file) (s .programs) r))

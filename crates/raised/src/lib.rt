@@ -1,0 +1,1 @@
+// Laws in proofs/; no code.
