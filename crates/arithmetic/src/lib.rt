@@ -1,5 +1,7 @@
 // Signed 64-bit arithmetic as the runner has it (document 01, "Runner" and "Judging order" 14 and 15): sums,
 // differences and products that are checked, comparisons, and indexes that are tested.
+#![tactic(auto)]
+
 ghost use Rattle.std.specs.Prelude.{◌≡◌, nat_abs, ◌+ℤ◌, ◌-ℤ◌, ◌*ℤ◌};
 ghost use Rattle.std.specs.Int.Signed.{lt_z, le_z};
 ghost use Rattle.language.specs.Store.{same_integer, apply, relate as relateOf};

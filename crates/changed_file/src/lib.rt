@@ -1,4 +1,6 @@
 // Refusal 7 of the changed file, by what is known of the file (document 02, request [5]: 18 if the file so changed would not be read).
+#![tactic(auto)]
+
 pub mod old; // old.rt: what is kept of the old command
 pub mod table; // table.rt: tables without masks of blocks
 

@@ -1,1 +1,2 @@
 // Claims in specs/ and their proofs in proofs/; no code.
+#![tactic(auto)]

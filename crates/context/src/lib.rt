@@ -1,4 +1,6 @@
 // What a file is read and judged under, and what a call answers where it refuses.
+#![tactic(auto)]
+
 pub mod settings; // settings.rt: limits as settings
 
 // The context: the most comparisons of an implication, the most depth, the most members of a set (document 01, "Limits"); and

@@ -1,5 +1,7 @@
 // Where each expression, command and set of a file ends, found in one pass from the last word to the first, and what its
 // words assign.
+#![tactic(auto)]
+
 pub mod mask; // mask.rt: identifiers as the bits of a number
 pub mod blocks; // blocks.rt: what words assign, by blocks
 pub mod mend; // mend.rt: the ends of some words, written anew

@@ -1,5 +1,7 @@
 // A file from its bytes (document 01, "Judging order" 1 to 7; document 02, request [3]): its words and their table in lent room, and
 // the places of its parts, or the refusal. Every call that takes a file begins here.
+#![tactic(auto)]
+
 ghost use Rattle.file.specs.Found.{Found, CallsRight, Called, TableRoom, TableMade, Tabled, CanLoad, FileRead};
 
 use context::{Context, Refusal};

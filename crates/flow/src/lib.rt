@@ -1,6 +1,8 @@
 // The public calls: the check on bytes (document 01, "Judging order" 1 to 9; document 02, request [3]), the parts of an accepted file, and
 // the check with masks and the workbench call (request [5]). All but `flow_check` are given settings (request [6]); those for C take them
 // as three numbers, the last ones: the most comparisons, depth and members.
+#![tactic(auto)]
+
 ghost use Rattle.std.specs.Prelude.{◌≡◌, ◌*◌, ◌≤◌, length};
 ghost use Rattle.rules.specs.Context.{standard, settings_of};
 ghost use Rattle.layout.specs.File.{file_of};

@@ -3,6 +3,8 @@
 // its conditions, `child_` gives the goal of its k-th child, 0 the first. They are called alike, rules 10 and 11 with the
 // masks besides, so that some do not use all that they are given; no rule of flow has an implication of its own, and none
 // uses the context.
+#![tactic(auto)]
+
 pub mod atomic; // rules 1, 3, 4 and 5: commands of one step
 pub mod consequence; // rules 7 and 8
 pub mod union; // rule 9

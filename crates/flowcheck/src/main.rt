@@ -1,4 +1,6 @@
 // The program: a file from standard input, and the check's answer on standard output, as one line.
+#![tactic(auto)]
+
 mod answer; // answer.rt: the check of the file, and its line
 mod input; // input.rt: the file
 

@@ -1,4 +1,6 @@
 // What is judged, by places in the file. Every set, command and assertion of a goal is written there.
+#![tactic(auto)]
+
 ghost use Rattle.std.specs.Prelude.{◌≡◌};
 ghost use Rattle.goals.specs.Conditions.{condition_of};
 

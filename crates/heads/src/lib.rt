@@ -1,4 +1,6 @@
 // The first word of an expression or a command that stands at a place, decoded by its group alone.
+#![tactic(auto)]
+
 ghost use Rattle.std.specs.Prelude.{◌≡◌, ◌<◌, length};
 ghost use Rattle.words.specs.Decode.{arithmetic_of, boolean_of, command_of};
 ghost use Rattle.heads.specs.Stands.{arithmetic_at, boolean_at, array_at, command_at, OfGroup};

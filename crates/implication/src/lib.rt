@@ -1,5 +1,7 @@
 // "Implies" of document 01: whether every assignment to the distinct comparisons of two written booleans that makes the
 // one true makes the other true.
+#![tactic(auto)]
+
 mod compile;
 mod scan;
 

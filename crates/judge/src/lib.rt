@@ -1,4 +1,6 @@
 // Evidence judged word by word, in file order (document 01, "Judging order" 8 and 9).
+#![tactic(auto)]
+
 pub mod row; // row.rt: what stands after an evidence word
 pub mod rule; // rule.rt: the rule of an evidence word, and the goals of its children
 

@@ -1,1 +1,2 @@
 // Laws in proofs/; no code.
+#![tactic(auto)]

@@ -1,4 +1,6 @@
 // The line of a verdict: `accepted `, the count; or `refused `, number, space, place.
+#![tactic(auto)]
+
 ghost use Rattle.std.specs.Prelude.{◌++◌, ◌+◌, length};
 ghost use Rattle.rules.specs.Judge.{accepted, refused};
 ghost use Rattle.line.specs.Line.{decimal, Written};

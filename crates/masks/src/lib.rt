@@ -1,4 +1,6 @@
 // What each command of a file modifies, as masks in a lent list (document 02, request [5]).
+#![tactic(auto)]
+
 pub mod lent; // lent.rt: refusal 17
 
 ghost use Rattle.std.specs.Prelude.{◌≡◌, false, ◌+◌, ◌/◌};

@@ -2,6 +2,8 @@
 // compound commands are in `pre_compound`. All take the same, also what a rule does not ask for: the file, its ends,
 // the context, the place of the evidence word, and the places f, c and g of the assertion, the command and the other
 // assertion; rule 27 also the masks.
+#![tactic(auto)]
+
 pub mod command; // rules 22, 24, 25 and 26: commands of one step
 pub mod unmodified; // rule 27: what a command does not modify
 pub mod consequence; // rules 28 and 29: a stronger assertion, and true

@@ -1,4 +1,6 @@
 // Refusals 2 to 6 (document 01, "Judging order"; document 02, request [3]), over the words of a file.
+#![tactic(auto)]
+
 use context::Refusal;
 
 pub mod word; // word.rt: the word that is due at a place

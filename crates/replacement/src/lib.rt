@@ -1,4 +1,6 @@
 // The workbench call (document 02, request [5]): its definition and what its steps ask for; its code is crate `workbench`.
+#![tactic(auto)]
+
 ghost use Rattle.std.specs.Prelude.{◌≡◌};
 ghost use Rattle.context.specs.Contexts.{refusal};
 ghost use Rattle.replacement.specs.declared.Replaced.TheVariants.{Refused};

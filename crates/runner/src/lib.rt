@@ -1,5 +1,7 @@
 // The runner (document 01, "Runner"; document 02, requests [1], [3] and [6]): reads as refusals 19, 1 to 7 and 16, then 10 and 11, and runs the
 // main program's command in the lent store without judging the evidence.
+#![tactic(auto)]
+
 mod program; // program.rt: refusals 1 to 7, 16 and 10 to 15 in order
 
 ghost use Rattle.std.specs.Prelude.{◌≡◌};

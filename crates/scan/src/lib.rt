@@ -1,4 +1,6 @@
 // Scans of words: what a command modifies, whether an expression or a set has an identifier of that, and refusals 16 and 7.
+#![tactic(auto)]
+
 pub mod calls;
 pub mod for_mask;
 pub mod mask;

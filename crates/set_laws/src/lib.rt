@@ -1,1 +1,2 @@
 // Laws in proofs/ of written sets, as the rules of sets and of flow use them; no code.
+#![tactic(auto)]

@@ -1,6 +1,8 @@
 // The rules of implications between sets (document 01, rules 13 to 19 of sets), tried at an evidence word of kind 34;
 // those of unions are in `set_unions`. All take the same, also what a rule does not ask for: the file, its ends, the
 // context, the place of the evidence word, and the places p and q of the two sets.
+#![tactic(auto)]
+
 pub mod inclusion; // rule 13: a part of a set
 pub mod empty; // rules 14 and 15: from the empty set
 pub mod antecedent; // rule 18: a stronger antecedent

@@ -1,4 +1,6 @@
 // Written sets compared as the rules need them: antecedents by plain forms, consequents by words.
+#![tactic(auto)]
+
 pub mod item; // a member as the rules make it, compared with a written one
 pub mod member; // members looked for among written ones
 pub mod pile; // members looked for in the sets that the rules make

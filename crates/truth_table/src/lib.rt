@@ -1,4 +1,6 @@
 // Formulas over at most 16 leaves, tried at 64 assignments in a word and four words a pass (document 01, "Implies").
+#![tactic(auto)]
+
 ghost use Rattle.std.specs.Prelude.{◌≡◌, ◌%◌, ◌≤◌};
 ghost use Rattle.truth_table.specs.Formula.{IsFormula, CanWork, Block, Full, GivesFour, Every, spread_of};
 

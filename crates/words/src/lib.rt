@@ -1,4 +1,6 @@
 // The words of a file (document 01, "Layout"; document 02, request [3]): loaded from its bytes, and decoded by kind and payload.
+#![tactic(auto)]
+
 pub mod kinds; // kinds.rt: kinds and words by name
 pub mod numbers; // numbers.rt: a word's number as a place; the lesser of two
 pub mod load; // load.rt: words from bytes

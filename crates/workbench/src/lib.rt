@@ -1,5 +1,7 @@
 // The workbench call (document 02, requests [5] and [6]): another skip, assert or assignment of equal length in the place of one, and the masks of
 // the changed file.
+#![tactic(auto)]
+
 ghost use Rattle.std.specs.Prelude.{◌+◌, ◌*◌, ◌/◌, ◌<◌, ◌≤◌, length};
 ghost use Rattle.context.specs.Settings.{limits_given};
 ghost use Rattle.context.specs.Contexts.{limits_of, Settable};

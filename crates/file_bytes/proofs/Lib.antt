@@ -1,3 +1,0 @@
--- Laws of words stored and read back.
---     Storing    words stored one by one
-pub mod Storing

@@ -1,3 +1,0 @@
--- Words stored and read back.
---     Stored    the bytes of a word; whether something was read
-pub mod Stored
