@@ -12,14 +12,14 @@ ghost use Rattle.arithmetic.specs.Worked.{outcome, index_outcome, checked, most_
 use words::{Comparison, Operator};
 
 // What was worked out, or the number of the refusal that stops it.
-#[derive(Drop)]
+#[derive(Clone, Copy)]
 pub enum Worked {
     Value(i64),
     Stops(u32),
 }
 
 // An index 0 to 63, or the number of the refusal that stops it.
-#[derive(Drop)]
+#[derive(Clone, Copy)]
 pub enum Index {
     At(usize),
     Stops(u32),

@@ -9,7 +9,7 @@ use splice::simple::is_read_to;
 
 // Of the file: the first word of the old command, with how many levels the new one has to be read and whether it is known to be, and what is
 // known of all `for`s.
-#[derive(Drop)]
+#[derive(Clone, Copy)]
 pub struct Old {
     pub first: u32,
     pub levels: usize,

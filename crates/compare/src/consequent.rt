@@ -9,7 +9,7 @@ use matching::expression::match_expression;
 use matching::part::{came_to_end, same_parts};
 
 // A consequent as the rules form it, by places: the expression at a place; the same with words put for a word.
-#[derive(Drop)]
+#[derive(Clone, Copy)]
 pub enum Consequent {
     Written(usize),
     Replaced(usize, Put),

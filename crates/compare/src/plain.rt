@@ -13,7 +13,7 @@ use matching::part::{came_to_end, same_parts};
 use words::kinds::{COMPARISON, KIND, NOT, TRUTH};
 
 // What is put for an identifier in the second of two booleans: nothing; words for a word.
-#[derive(Drop)]
+#[derive(Clone, Copy)]
 pub enum Change {
     Unchanged,
     Replaced(Put),

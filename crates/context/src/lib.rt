@@ -5,7 +5,7 @@ pub mod settings; // settings.rt: limits as settings
 
 // The context: the most comparisons of an implication, the most depth, the most members of a set (document 01, "Limits"); and
 // how many procedures of the file may be called (document 02, request [3]), 0 while it is read.
-#[derive(Drop)]
+#[derive(Clone, Copy)]
 pub struct Context {
     pub comparisons: usize,
     pub depth: usize,
@@ -15,7 +15,7 @@ pub struct Context {
 
 // A refusal's number and place (document 01, "Judging order"). The place is first: in an answer it then stands where the place
 // that a reader goes on from would.
-#[derive(Drop)]
+#[derive(Clone, Copy)]
 pub struct Refusal {
     pub place: usize,
     pub number: u32,

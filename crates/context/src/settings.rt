@@ -7,7 +7,7 @@ ghost use Rattle.context.specs.Contexts.{limits_of};
 use super::Context;
 
 // The most comparisons of an implication, the most depth, the most members of a set.
-#[derive(Drop)]
+#[derive(Clone, Copy)]
 pub struct Settings {
     pub comparisons: usize,
     pub depth: usize,

@@ -25,7 +25,7 @@ use outcomes::rooms::outcome;
 use replacement::Replaced;
 
 // The count of evidence words, or the refusal.
-#[derive(Drop)]
+#[derive(Clone, Copy)]
 pub enum Verdict {
     Accepted(usize),
     Refused(Refusal),

@@ -7,7 +7,7 @@ ghost use Rattle.goals.specs.Conditions.{condition_of};
 use context::Refusal;
 use implication::Condition;
 
-#[derive(Drop)]
+#[derive(Clone, Copy)]
 pub enum Goal {
     // precondition, command and postcondition (rules 1 to 14 and 31)
     Flow(usize, usize, usize),
@@ -18,7 +18,7 @@ pub enum Goal {
 }
 
 // Evidence judged: the count of its words and the place past it; or the refusal.
-#[derive(Drop)]
+#[derive(Clone, Copy)]
 pub enum Judged {
     Accepted(usize, usize),
     Refused(Refusal),

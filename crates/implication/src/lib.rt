@@ -11,7 +11,7 @@ ghost use Rattle.implication.specs.Sides.{SideFits, side_room, CanImply, Implied
 use compile::compile_side;
 
 // What a condition comes to (document 01, "Judging order", 8 and 9).
-#[derive(Drop)]
+#[derive(Clone, Copy)]
 pub enum Condition {
     Passes,
     Fails,
@@ -19,7 +19,7 @@ pub enum Condition {
 }
 
 // What is compared. Each pair is the place of a written boolean and the place past it.
-#[derive(Drop)]
+#[derive(Clone, Copy)]
 pub enum Side {
     One(usize, usize),
     // The first and the second.
@@ -30,7 +30,7 @@ pub enum Side {
 }
 
 // A boolean compiled: whether its comparisons were few enough, how many are known, and the bytes so far.
-#[derive(Drop)]
+#[derive(Clone, Copy)]
 pub struct Compiled {
     pub fits: bool,
     pub known: usize,

@@ -9,7 +9,7 @@ use goals::Goal;
 use words::rows::{ASSERTION, COMMAND, MEMBERS, flow_row, pre_row, set_row};
 
 // The place past what is carried, and the items from there on.
-#[derive(Drop)]
+#[derive(Clone, Copy)]
 pub struct First {
     pub at: usize,
     pub rest: u32,

@@ -5,14 +5,14 @@ use crate::equal::equal_words;
 use words::numbers::least;
 
 // Whether all that was asked for stood there so far, and the place past it. A failure absorbs what follows.
-#[derive(Drop)]
+#[derive(Clone, Copy)]
 pub struct Match {
     pub same: bool,
     pub at: usize,
 }
 
 // A word, and the places between which the words stand that are put for it.
-#[derive(Drop)]
+#[derive(Clone, Copy)]
 pub struct Put {
     pub word: u32,
     pub from: usize,

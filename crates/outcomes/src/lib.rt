@@ -8,7 +8,7 @@ use context::Refusal;
 use reader::Places;
 
 // The count of evidence words with the places of the main program of an accepted file, or the refusal.
-#[derive(Drop)]
+#[derive(Clone, Copy)]
 pub enum Outcome {
     Accepted(usize, Places),
     Refused(Refusal),

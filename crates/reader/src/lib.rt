@@ -13,21 +13,21 @@ pub mod program; // program.rt: a program, with its contract and evidence
 pub mod file; // file.rt: a whole file
 
 // Where a walk goes on, or the refusal.
-#[derive(Drop)]
+#[derive(Clone, Copy)]
 pub enum Walk {
     Next(usize),
     Refused(Refusal),
 }
 
 // The kind and payload of the word that is due, the place past it and the levels left below it; or refusal 3 or 4.
-#[derive(Drop)]
+#[derive(Clone, Copy)]
 pub enum FirstWord {
     There(u32, u32, usize, usize),
     Stop(Refusal),
 }
 
 // The sort of an operand.
-#[derive(Drop)]
+#[derive(Clone, Copy)]
 pub enum Sort {
     Arithmetic,
     Boolean,
@@ -35,7 +35,7 @@ pub enum Sort {
 }
 
 // The places of a program's parts, those of a file's main program too: its command is at `start`, and the evidence ends at `end`.
-#[derive(Drop)]
+#[derive(Clone, Copy)]
 pub struct Places {
     pub start: usize,
     pub pre: usize,
@@ -45,7 +45,7 @@ pub struct Places {
 }
 
 // The places of a program that was read, or the refusal.
-#[derive(Drop)]
+#[derive(Clone, Copy)]
 pub enum Layout {
     Found(Places),
     Refused(Refusal),

@@ -8,7 +8,7 @@ ghost use Rattle.replacement.specs.declared.Replaced.TheVariants.{Refused};
 use context::Refusal;
 
 // The new command stands in the file; or the refusal.
-#[derive(Drop)]
+#[derive(Clone, Copy)]
 pub enum Replaced {
     Done,
     Refused(Refusal),

@@ -9,7 +9,7 @@ pub mod called; // called.rt: where the bodies of procedures stand
 pub mod command; // command.rt: commands
 
 // A while, whose test is written; or a `for` over a scalar up to another.
-#[derive(Drop)]
+#[derive(Clone, Copy)]
 pub enum Loop {
     Test,
     Count(u32, u32),

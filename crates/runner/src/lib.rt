@@ -17,14 +17,14 @@ use context::settings::{Settings, are_within_ranges, context_under};
 use program::{refused, run_bytes};
 
 // The run ended, or the refusal.
-#[derive(Drop)]
+#[derive(Clone, Copy)]
 pub enum Answer {
     Done,
     Refused(Refusal),
 }
 
 // The answer, with the steps finished before it.
-#[derive(Drop)]
+#[derive(Clone, Copy)]
 pub struct Ran {
     pub answer: Answer,
     pub steps: usize,

@@ -13,7 +13,7 @@ use ends::end_at;
 use words::kinds::{CALL, KIND};
 
 // Whether a file has no such call, or the place of the first.
-#[derive(Drop)]
+#[derive(Clone, Copy)]
 pub enum Rightness {
     Right,
     Wrong(usize),

@@ -9,7 +9,7 @@ use words::numbers::least;
 
 // The mask of q and m of each `for`, and two places: before `first` there is no `for`, and from `past` on there is none. `words` is how
 // many words all `for`s have, those inside several counted for each: it decides only how refusal 7 is tested.
-#[derive(Drop)]
+#[derive(Clone, Copy)]
 pub struct Fors {
     pub mask: u64,
     pub words: usize,

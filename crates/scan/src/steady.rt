@@ -11,7 +11,7 @@ use words::kinds::{FOR, KIND};
 use words::numbers::least;
 
 // Whether a file has no such `for`, or the place of the first.
-#[derive(Drop)]
+#[derive(Clone, Copy)]
 pub enum Steadiness {
     Steady,
     At(usize),

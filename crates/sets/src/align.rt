@@ -8,7 +8,7 @@ use crate::item::{View, pair_item, past_member, same_item, same_seen};
 use crate::pile::{Pile, Piles, count};
 
 // Whether the members so far were those asked for, in order; if so, the n members at `at` are left.
-#[derive(Drop)]
+#[derive(Clone, Copy)]
 pub struct Rest {
     pub same: bool,
     pub n: usize,

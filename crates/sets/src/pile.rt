@@ -10,7 +10,7 @@ use words::kinds::KIND;
 
 // A set that a rule makes: none; one member by the places of its antecedent and its consequent; the written set at a place, seen
 // as a view says; the written set at a place without the members of another.
-#[derive(Drop)]
+#[derive(Clone, Copy)]
 pub enum Pile {
     Empty,
     One(usize, usize),
@@ -19,7 +19,7 @@ pub enum Pile {
 }
 
 // Three of them together.
-#[derive(Drop)]
+#[derive(Clone, Copy)]
 pub struct Piles {
     pub first: Pile,
     pub second: Pile,

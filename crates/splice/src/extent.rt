@@ -3,7 +3,7 @@ ghost use Rattle.splice.specs.Extent.{ExtentOf};
 
 use ends::parts;
 
-#[derive(Drop)]
+#[derive(Clone, Copy)]
 pub struct Extent {
     pub end: usize,
     pub levels: usize,

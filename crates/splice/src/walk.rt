@@ -11,7 +11,7 @@ use reader::{Layout, Places};
 use words::load::load;
 
 // What refusals 2 to 6 and 16 leave of the file, and whether they are known to let the changed words pass too.
-#[derive(Drop)]
+#[derive(Clone, Copy)]
 pub struct Walked {
     pub layout: Layout,
     pub both: bool,

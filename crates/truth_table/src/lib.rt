@@ -46,7 +46,7 @@ fn fill(b: usize) -> [u64; 18]
 }
 
 // The words of four blocks.
-#[derive(Drop)]
+#[derive(Clone, Copy)]
 struct Four {
     a: u64,
     b: u64,
