@@ -4,16 +4,16 @@
 --     DueAfter, DueSequence, DueLoop     a step and what follows it; a sequence; a while
 --     then-steps, else_steps, sequence-steps, while-steps, for-steps, call-steps     each command's steps
 --     AllBefore, command-before          steps that come before the end of each run
-use mathlib.Core.Path.{◌≡◌, sym, subst}
+use mathlib.Core.Path.{◌≡◌, refl, sym, subst}
 use mathlib.Core.Bool.{true, false}
 use Prim.Native.Nat.{ℕ, suc, ◌+◌, ◌<◌}
 use native.Mathlib.Numerals.{one-add}
 use native.Mathlib.Omega.{arith}
 use lib.ListN.{length}
 use Rattle.language.specs.Syntax.{at_most, Boolean, Expr, scalar, compare}
-use Rattle.language.specs.Syntax.{Command, sequence, assign, if_else, while, for, call}
+use Rattle.language.specs.Syntax.{Assignment, Command, sequence, assign, if_else, while, for, call}
 use Rattle.language.specs.Store.{Store, value}
-use Rattle.language.specs.Runs.{start, increment, Runs, runs_sequence, runs_assign}
+use Rattle.language.specs.Runs.{start, increment, assigned, Runs, runs_sequence, runs_assign}
 use Rattle.rules.specs.Words.{words, command_words}
 use Rattle.laws.proofs.Bools.{clash}
 use Rattle.execution.specs.Due.{Step, calls, tests, gives}
@@ -84,6 +84,13 @@ InTurn body_at q c at s = DueSequence c (Due body_at c (at + 1) s) (Due body_at 
 abbrev pub InFor : (ℕ → ℕ) → ℕ → ℕ → Command → ℕ → Store → Steps
 InFor body_at q r c at s =
     DueSequence (assign (start q)) (Due body_at (assign (start q)) at s) (DueLoop (Test q r) (Turn q c) at (InTurn body_at q c at)) s
+
+-- an assignment takes one step, and where it ends
+assign_one : {a : Assignment} {n : ℕ} {s t : Store} → Runs (assign a) n s t → n ≡ 1
+assign_one runs_assign = refl
+
+assign_end : {a : Assignment} {n : ℕ} {s t : Store} → Runs (assign a) n s t → t ≡ assigned a s
+assign_end runs_assign = refl
 
 -- the body of procedure p stands at `body_at p`
 module _ {body_at : ℕ → ℕ} where
@@ -178,9 +185,11 @@ module _ {body_at : ℕ → ℕ} where
     where
       each : {k : ℕ} {d : Step} {p : ℕ} {t : Store} {n : ℕ} {u : Store} → InTurn body_at q c at s k d p t →
           Runs (Turn q c) n s u → k < n
-      each (in_first x) (runs_sequence r runs_assign) =
+      each (in_first x) (runs_sequence r v) =
+          let o = assign_one v in
           let l = due-before x r in omega arith
-      each (in_second r due-assign) (runs_sequence r' runs_assign) =
+      each (in_second r due-assign) (runs_sequence r' v) =
+          let o = assign_one v in
           let e = one-count r r' in omega arith
 
   turns-of : {q r : ℕ} {c : Command} {at : ℕ} {s : Store} {k : ℕ} {d : Step} {p : ℕ} {t : Store} →
@@ -190,9 +199,11 @@ module _ {body_at : ℕ → ℕ} where
   turns-of {q} {r} {c} {at} {s} (loop-body e (in_second {j = j} {u = u} x due-assign)) =
       let same : suc j ≡ suc (j + 0) = omega arith in
       subst (λ n. DueTurn body_at q r c at s n (gives (increment q)) at u) same (due-increment e x)
-  turns-of {q} {r} {c} {at} {s} {d = d} {p} {t} (loop-again {k = k} e (runs_sequence {m = m} x runs_assign) y) =
-      let same : suc (m + suc k) ≡ suc (m + 1 + k) = omega arith in
-      subst (λ n. DueTurn body_at q r c at s n d p t) same (due-next e x (turns-of y))
+  turns-of {q} {r} {c} {at} {s} {d = d} {p} {t} (loop-again {k = k} e (runs_sequence {m = m} {n = n} x v) y) =
+      let one = assign_one v in
+      let same : suc (m + suc k) ≡ suc (m + n + k) = omega arith in
+      let next = subst (λ z. DueTurn body_at q r c at z k d p t) (assign_end v) (turns-of y) in
+      subst (λ j. DueTurn body_at q r c at s j d p t) same (due-next e x next)
 
   turns-is : {q r : ℕ} {c : Command} {at : ℕ} {s : Store} {k : ℕ} {d : Step} {p : ℕ} {t : Store} →
       DueTurn body_at q r c at s k d p t → DueLoop (Test q r) (Turn q c) at (InTurn body_at q c at) s k d p t
