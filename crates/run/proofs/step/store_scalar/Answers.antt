@@ -1,0 +1,14 @@
+-- `run::step::store_scalar` meets its contract. Assumes nothing.
+use mathlib.Core.Path.{subst}
+use Rattle.run.specs.Steps.{Stepped}
+use Rattle.run.proofs.Steps.{scalar-stored, scalar-kept}
+use Rattle.run.proofs.step.store_scalar.Goals as goal
+
+pub returns-then-take_step : goal.returns-then-take_step
+returns-then-take_step c =
+    scalar-stored (subst (Stepped _ _ _) c.if-take_step.true
+    c.take_step.ensures)
+    c.ranges.v c.put_at.ensures
+
+pub returns-else-take_step : goal.returns-else-take_step
+returns-else-take_step c = scalar-kept (subst (Stepped _ _ _) c.if-take_step.false c.take_step.ensures)

@@ -1,0 +1,30 @@
+-- `runner::program::run_bytes` meets its contract: refusals 1 to 7 and 16, then the run of the words that were read.
+-- Assumes nothing.
+use native.Mathlib.Omega.{arith}
+use Rattle.execution.specs.Lent.{lent}
+use Rattle.words.proofs.Lengths.{good_length}
+use Rattle.runner.proofs.Files.{refused-file_by, can-run_file, ran-file}
+use borrow.Author.Rules.{rules}
+use Rattle.runner.proofs.program.run_bytes.Goals as goal
+
+pub read_file-layout-requires : goal.read_file-layout-requires
+read_file-layout-requires c =
+    record {
+      fits = λ g. omega (arith, good_length c.args.file.now g);
+      wide = search rules;
+    }
+
+pub run_program-requires : goal.run_program-requires
+run_program-requires c =
+    can-run_file c.read_file-layout.ensures
+    c.in-Found.is
+
+pub returns-in-Found : goal.returns-in-Found
+returns-in-Found c =
+    ran-file c.read_file-layout.ensures c.in-Found.is
+    c.run_program.ensures
+
+pub returns-in-Refused : goal.returns-in-Refused
+returns-in-Refused c =
+    refused-file_by c.read_file-layout.ensures c.args.budget (lent
+    c.args.scalars.now c.args.values.now) c.in-Refused.is c.refused.ensures

@@ -1,0 +1,12 @@
+-- `splice::copy::copy` meets its contract: so many bytes are copied, and each turn copies the next.
+-- The measure is the bytes left. Assumes nothing.
+use Prim.Native.Nat.{◌-◌}
+use lib.ListN.{length}
+use Rattle.splice.proofs.Splice.{Copying}
+use Rattle.splice.proofs.copy.copy.Given as goal
+
+abbrev pub invariant-loop-i : goal.invariant-loop-i
+invariant-loop-i l = Copying l.from l.initial.to l.at l.to l.i
+
+abbrev pub decreases-loop-i : goal.decreases-loop-i
+decreases-loop-i l = length l.from - l.i
