@@ -1,5 +1,6 @@
 -- `heads::arithmetic_head` meets its contract: a word of the group is settled by its kind, and an operator by its payload.
 -- Assumes nothing.
+use mir.Syntax.{w64}
 use mathlib.Core.Path.{refl, sym, ap, ap₂, ◌∙◌}
 use native.Mathlib.Omega.{arith}
 use borrow.Author.Rules.{rules}
@@ -35,7 +36,7 @@ constant_of-requires c = search rules
 pub returns-in-1 : goal.returns-in-1
 unfolding arithmetic_of
 returns-in-1 c =
-    ap Constant (to_z-of_z (record { sfits = c.constant_of.type_inv }) ∙ c.constant_of.ensures)
+    ap Constant (to_z-of_z {w = w64} (record { sfits = c.constant_of.type_inv }) ∙ c.constant_of.ensures)
     ∙ sym (ap₂ arithmetic_of (sym c.kind-k.ensures ∙ c.in-1.is)
     (sym c.payload-p.ensures))
 

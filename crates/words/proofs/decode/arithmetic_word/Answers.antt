@@ -1,5 +1,6 @@
 -- `words::decode::arithmetic_word` meets its contract: an arm by its key and its test, the last by all that the number is not.
 -- Assumes nothing.
+use mir.Syntax.{w64}
 use mathlib.Core.Path.{◌∙◌, ap}
 use mir.Facts.{to_z-of_z}
 use lib.IntN.{ℤ}
@@ -22,7 +23,7 @@ pub returns-in-1 : goal.returns-in-1
 unfolding arithmetic_of
 returns-in-1 c =
     rw c.in-1.is
-    (ap (λ (z : ℤ). Constant z) (to_z-of_z (record { sfits = c.constant_of.type_inv }) ∙ c.constant_of.ensures))
+    (ap (λ (z : ℤ). Constant z) (to_z-of_z {w = w64} (record { sfits = c.constant_of.type_inv }) ∙ c.constant_of.ensures))
 
 pub returns-then-payload-le31 : goal.returns-then-payload-le31
 unfolding arithmetic_of

@@ -34,4 +34,4 @@ returns-then-payload-lt33554432 c =
 pub returns-else-payload-lt33554432 : goal.returns-else-payload-lt33554432
 returns-else-payload-lt33554432 c =
     let p = c.args.payload in
-    rw (bits p (omega arith)) (to_z-of_z (less p _ (omega arith) (omega arith)) ∙ simp (le-ltb p 33554432 (omega (arith, c.if-payload-lt33554432.false))))
+    rw (bits p (omega arith)) (to_z-of_z {w = w64} (less p _ (omega arith) (omega arith)) ∙ simp (le-ltb p 33554432 (omega (arith, c.if-payload-lt33554432.false))))
