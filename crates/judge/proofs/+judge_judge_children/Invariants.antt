@@ -1,0 +1,24 @@
+-- The judge meets its contract: the word by the result of its conditions, then the children one after the other. The
+-- invariant: the verdict is that of the count so far and of the children that are left. The levels left fall: the measure
+-- is twice their number; one more for the children of a word.
+-- Assumes nothing.
+use mathlib.Core.Path.{◌≡◌}
+use Prim.Native.Nat.{ℕ, ◌+◌, ◌*◌}
+use Rattle.context.specs.Contexts.{context_in}
+use Rattle.layout.specs.Bytes.{payload_at}
+use Rattle.judge.proofs.Going.{Going}
+use Rattle.judge.proofs.+judge_judge_children.Given as goal
+
+-- Measures 3 judge-kinds.ps ℕ
+abbrev pub decreases-judge : goal.decreases-judge
+decreases-judge l = 2 * l.left
+
+-- Measures 3 judge-children-kinds.ps ℕ
+abbrev pub decreases-judge_children : goal.decreases-judge_children
+decreases-judge_children l = 2 * l.left + 1
+
+abbrev pub invariant-judge_children-loop-rest : goal.invariant-judge_children-loop-rest
+invariant-judge_children-loop-rest l = (l.rule ≡ payload_at l.w l.at) × Going l.w l.ends (context_in l.context l.w) l.goal l.at l.left l.rest l.next l.count l.k
+
+abbrev pub decreases-judge_children-loop-rest : goal.decreases-judge_children-loop-rest
+decreases-judge_children-loop-rest l = l.rest

@@ -1,0 +1,23 @@
+-- The cycle of calls in which the three sorts are compared and substituted meets its contracts: a cursor after an expression is
+-- the cursor after its first word, then after its operands. The measure is the words left from the expression on, twice; one more
+-- for the function that looks for the sort.
+-- Assumes nothing.
+use Prim.Native.Nat.{ℕ, ◌+◌}
+use Rattle.matching.proofs.Exchange.{left}
+use Rattle.matching.proofs.expression.+match_arithmetic_match_array_match_boolean_match_expression.Given as goal
+
+-- Measures 2 match-arithmetic-kinds.ps ℕ
+abbrev pub decreases-match_arithmetic : goal.decreases-match_arithmetic
+decreases-match_arithmetic l = left l.w.now l.b
+
+-- Measures 2 match-array-kinds.ps ℕ
+abbrev pub decreases-match_array : goal.decreases-match_array
+decreases-match_array l = left l.w.now l.b
+
+-- Measures 2 match-boolean-kinds.ps ℕ
+abbrev pub decreases-match_boolean : goal.decreases-match_boolean
+decreases-match_boolean l = left l.w.now l.b
+
+-- Measures 2 match-expression-kinds.ps ℕ
+abbrev pub decreases-match_expression : goal.decreases-match_expression
+decreases-match_expression l = left l.w.now l.b + 1

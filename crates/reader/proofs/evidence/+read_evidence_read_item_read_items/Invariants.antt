@@ -1,0 +1,27 @@
+-- Reading evidence, its items and an item meet their contracts: evidence goes by the row of the word that is due, and the
+-- loop by the row's digits. The words left and the levels left both fall: the measure is their sum, three times; one more for
+-- an item, two more for all items. In the loop, what is left of the row falls.
+-- Assumes nothing.
+use Rattle.context.specs.Contexts.{context_of}
+use Rattle.layout.specs.Bytes.{word_count}
+use Rattle.reader.proofs.Items.{Reached}
+use Prim.Native.Nat.{ℕ, ◌+◌, ◌-◌, ◌*◌}
+use Rattle.reader.proofs.evidence.+read_evidence_read_item_read_items.Given as goal
+
+-- Measures 1 read-evidence-kinds.ps ℕ
+abbrev pub decreases-read_evidence : goal.decreases-read_evidence
+decreases-read_evidence l = 3 * (word_count l.w.now - l.at + l.left)
+
+-- Measures 1 read-item-kinds.ps ℕ
+abbrev pub decreases-read_item : goal.decreases-read_item
+decreases-read_item l = 3 * (word_count l.w.now - l.at + l.left) + 1
+
+-- Measures 1 read-items-kinds.ps ℕ
+abbrev pub decreases-read_items : goal.decreases-read_items
+decreases-read_items l = 3 * (word_count l.w.now - l.at + l.left) + 2
+
+abbrev pub invariant-read_items-loop-rest : goal.invariant-read_items-loop-rest
+invariant-read_items-loop-rest l = Reached (context_of l.context) l.w l.left l.row l.at l.rest l.p
+
+abbrev pub decreases-read_items-loop-rest : goal.decreases-read_items-loop-rest
+decreases-read_items-loop-rest l = l.rest
