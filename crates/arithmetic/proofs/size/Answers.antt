@@ -6,8 +6,6 @@ use mir.Facts.{Fits-nat_abs}
 use Rattle.arithmetic.proofs.Signed.{held, next_fits, flip-fits, flip-non_neg, flip-size, non_neg-of}
 use Rattle.arithmetic.proofs.size.Goals as goal
 
-)
-
 pub overflow_cast-result : goal.overflow_cast-result
 overflow_cast-result c = (non_neg-of c.ranges.x c.if-x-ge0.true, Fits-nat_abs tt (held c.ranges.x))
 
@@ -18,11 +16,11 @@ pub overflow_sub-result : goal.overflow_sub-result
 overflow_sub-result c = flip-fits _ c.ranges.x c.if-x-ge0.false
 
 pub overflow_cast-result-else-x-ge0 : goal.overflow_cast-result-else-x-ge0
-overflow_cast-result-else-x-ge0 c =
-    (
+overflow_cast-result-else-x-ge0 c = (
   flip-non_neg _ c.ranges.x c.if-x-ge0.false,
   Fits-nat_abs tt
       (held (flip-fits _ c.ranges.x c.if-x-ge0.false)),
+)
 
 pub overflow_add-result-else-x-ge0 : goal.overflow_add-result-else-x-ge0
 overflow_add-result-else-x-ge0 c =
@@ -31,4 +29,3 @@ overflow_add-result-else-x-ge0 c =
 
 pub returns-else-x-ge0 : goal.returns-else-x-ge0
 returns-else-x-ge0 c = flip-size _ c.ranges.x c.if-x-ge0.false
-

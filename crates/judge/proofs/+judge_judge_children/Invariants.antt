@@ -9,11 +9,9 @@ use Rattle.layout.specs.Bytes.{payload_at}
 use Rattle.judge.proofs.Going.{Going}
 use Rattle.judge.proofs.+judge_judge_children.Given as goal
 
--- Measures 3 judge-kinds.ps ℕ
 abbrev pub decreases-judge : goal.decreases-judge
 decreases-judge l = 2 * l.left
 
--- Measures 3 judge-children-kinds.ps ℕ
 abbrev pub decreases-judge_children : goal.decreases-judge_children
 decreases-judge_children l = 2 * l.left + 1
 

@@ -4,8 +4,6 @@ use mathlib.Core.Logic.{inl, inr}
 use borrow.Author.Tests.{eqb-true, eqb-false}
 use Rattle.truth_table.proofs.full.Goals as goal
 
-}
-
 pub returns-then-x-ne18446744073709551615 : goal.returns-then-x-ne18446744073709551615
 returns-then-x-ne18446744073709551615 c = record { all = 位 e. absurd (false鈮rue e); some = 位 _. inl c.if-x-ne18446744073709551615.true }
 
@@ -18,7 +16,7 @@ returns-then-x-ne18446744073709551615-3 c = record { all = 位 e. absurd (false鈮
 pub returns : goal.returns
 returns c =
     record {
-  all = 位 e.
-                  (c.if-x-ne18446744073709551615.false, c.if-x-ne18446744073709551615-2.false, c.if-x-ne18446744073709551615-3.false, eqb-true _ _ e);
-  some = 位 e. inr (inr (inr (eqb-false _ _ e)));
-
+      all = 位 e.
+          (c.if-x-ne18446744073709551615.false, c.if-x-ne18446744073709551615-2.false, c.if-x-ne18446744073709551615-3.false, eqb-true _ _ e);
+      some = 位 e. inr (inr (inr (eqb-false _ _ e)));
+    }

@@ -5,6 +5,5 @@ use Prim.Native.Nat.{ℕ, ◌-◌}
 use lib.ListN.{length}
 use Rattle.compare.proofs.plain.+same_plain.Given as goal
 
--- Measures 2 same-plain-kinds.ps ℕ
 abbrev pub decreases-same_plain : goal.decreases-same_plain
 decreases-same_plain l = length l.w.now - l.f

@@ -5,6 +5,5 @@ use Prim.Native.Nat.{ℕ}
 use Rattle.evaluate.proofs.Places.{left}
 use Rattle.evaluate.proofs.boolean.+eval_boolean.Given as goal
 
--- Measures 5 eval-boolean-kinds.ps ℕ
 abbrev pub decreases-eval_boolean : goal.decreases-eval_boolean
 decreases-eval_boolean l = left l.w.now l.at

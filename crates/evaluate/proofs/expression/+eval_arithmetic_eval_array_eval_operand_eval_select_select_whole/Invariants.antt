@@ -6,22 +6,17 @@ use Prim.Native.Nat.{ℕ, ◌+◌}
 use Rattle.evaluate.proofs.Places.{left}
 use Rattle.evaluate.proofs.expression.+eval_arithmetic_eval_array_eval_operand_eval_select_select_whole.Given as goal
 
--- Measures 5 eval-arithmetic-kinds.ps ℕ
 abbrev pub decreases-eval_arithmetic : goal.decreases-eval_arithmetic
 decreases-eval_arithmetic l = left l.w.now l.at + 2
 
--- Measures 6 eval-array-kinds.ps ℕ
 abbrev pub decreases-eval_array : goal.decreases-eval_array
 decreases-eval_array l = left l.w.now l.at + 1
 
--- Measures 5 eval-operand-kinds.ps ℕ
 abbrev pub decreases-eval_operand : goal.decreases-eval_operand
 decreases-eval_operand l = left l.w.now l.at + 3
 
--- Measures 5 eval-select-kinds.ps ℕ
 abbrev pub decreases-eval_select : goal.decreases-eval_select
 decreases-eval_select l = left l.w.now l.at + 1
 
--- Measures 5 select-whole-kinds.ps ℕ
 abbrev pub decreases-select_whole : goal.decreases-select_whole
 decreases-select_whole l = left l.w.now l.at

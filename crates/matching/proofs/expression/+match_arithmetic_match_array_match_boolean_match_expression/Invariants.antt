@@ -6,18 +6,14 @@ use Prim.Native.Nat.{ℕ, ◌+◌}
 use Rattle.matching.proofs.Exchange.{left}
 use Rattle.matching.proofs.expression.+match_arithmetic_match_array_match_boolean_match_expression.Given as goal
 
--- Measures 2 match-arithmetic-kinds.ps ℕ
 abbrev pub decreases-match_arithmetic : goal.decreases-match_arithmetic
 decreases-match_arithmetic l = left l.w.now l.b
 
--- Measures 2 match-array-kinds.ps ℕ
 abbrev pub decreases-match_array : goal.decreases-match_array
 decreases-match_array l = left l.w.now l.b
 
--- Measures 2 match-boolean-kinds.ps ℕ
 abbrev pub decreases-match_boolean : goal.decreases-match_boolean
 decreases-match_boolean l = left l.w.now l.b
 
--- Measures 2 match-expression-kinds.ps ℕ
 abbrev pub decreases-match_expression : goal.decreases-match_expression
 decreases-match_expression l = left l.w.now l.b + 1

@@ -6,10 +6,8 @@ use Rattle.reader.proofs.Forward.{words_left}
 use Rattle.reader.specs.declared.Walk.TheVariants.{Next}
 use Rattle.reader.proofs.command.+read_body_read_command.Given as goal
 
--- Measures 1 read-body-kinds.ps ℕ
 abbrev pub decreases-read_body : goal.decreases-read_body
 decreases-read_body l = 2 * words_left l.w.now l.from + 1
 
--- Measures 1 read-command-kinds.ps ℕ
 abbrev pub decreases-read_command : goal.decreases-read_command
 decreases-read_command l = 2 * words_left l.w.now (Next l.at)

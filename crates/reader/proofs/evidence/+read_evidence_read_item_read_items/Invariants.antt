@@ -8,15 +8,12 @@ use Rattle.reader.proofs.Items.{Reached}
 use Prim.Native.Nat.{ℕ, ◌+◌, ◌-◌, ◌*◌}
 use Rattle.reader.proofs.evidence.+read_evidence_read_item_read_items.Given as goal
 
--- Measures 1 read-evidence-kinds.ps ℕ
 abbrev pub decreases-read_evidence : goal.decreases-read_evidence
 decreases-read_evidence l = 3 * (word_count l.w.now - l.at + l.left)
 
--- Measures 1 read-item-kinds.ps ℕ
 abbrev pub decreases-read_item : goal.decreases-read_item
 decreases-read_item l = 3 * (word_count l.w.now - l.at + l.left) + 1
 
--- Measures 1 read-items-kinds.ps ℕ
 abbrev pub decreases-read_items : goal.decreases-read_items
 decreases-read_items l = 3 * (word_count l.w.now - l.at + l.left) + 2
 

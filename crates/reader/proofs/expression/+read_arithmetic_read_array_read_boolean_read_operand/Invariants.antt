@@ -6,18 +6,14 @@ use Rattle.reader.proofs.Forward.{words_left}
 use Rattle.reader.specs.declared.Walk.TheVariants.{Next}
 use Rattle.reader.proofs.expression.+read_arithmetic_read_array_read_boolean_read_operand.Given as goal
 
--- Measures 1 read-arithmetic-kinds.ps ℕ
 abbrev pub decreases-read_arithmetic : goal.decreases-read_arithmetic
 decreases-read_arithmetic l = 2 * words_left l.w.now (Next l.at)
 
--- Measures 1 read-array-kinds.ps ℕ
 abbrev pub decreases-read_array : goal.decreases-read_array
 decreases-read_array l = 2 * words_left l.w.now (Next l.at)
 
--- Measures 1 read-boolean-kinds.ps ℕ
 abbrev pub decreases-read_boolean : goal.decreases-read_boolean
 decreases-read_boolean l = 2 * words_left l.w.now (Next l.at)
 
--- Measures 1 read-operand-kinds.ps ℕ
 abbrev pub decreases-read_operand : goal.decreases-read_operand
 decreases-read_operand l = 2 * words_left l.w.now l.from + 1

@@ -9,35 +9,27 @@ use Rattle.run.specs.Steps.{steps_left}
 use Rattle.run.proofs.Turns.{LoopGoing}
 use Rattle.run.proofs.command.+run_call_run_command_run_for_run_if_run_pass_run_sequence_run_turn_run_turns.Given as goal
 
--- Measures 5 run-call-kinds.ps ℕ
 abbrev pub decreases-run_call : goal.decreases-run_call
 decreases-run_call l = left l.progress.now l.at + 1
 
--- Measures 5 run-command-kinds.ps ℕ
 abbrev pub decreases-run_command : goal.decreases-run_command
 decreases-run_command l = left l.progress.now l.at + 5
 
--- Measures 5 run-for-kinds.ps ℕ
 abbrev pub decreases-run_for : goal.decreases-run_for
 decreases-run_for l = left l.progress.now l.at + 4
 
--- Measures 5 run-if-kinds.ps ℕ
 abbrev pub decreases-run_if : goal.decreases-run_if
 decreases-run_if l = left l.progress.now l.at + 1
 
--- Measures 5 run-pass-kinds.ps ℕ
 abbrev pub decreases-run_pass : goal.decreases-run_pass
 decreases-run_pass l = left l.progress.now l.at + 1
 
--- Measures 5 run-sequence-kinds.ps ℕ
 abbrev pub decreases-run_sequence : goal.decreases-run_sequence
 decreases-run_sequence l = left l.progress.now l.at + 1
 
--- Measures 5 run-turn-kinds.ps ℕ
 abbrev pub decreases-run_turn : goal.decreases-run_turn
 decreases-run_turn l = left l.progress.now l.at + 2
 
--- Measures 5 run-turns-kinds.ps ℕ
 abbrev pub decreases-run_turns : goal.decreases-run_turns
 decreases-run_turns l = left l.progress.now l.at + 3
 

@@ -5,7 +5,6 @@ use Prim.Native.Nat.{ℕ}
 use Rattle.splice.proofs.Extents.{Ahead}
 use Rattle.splice.proofs.extent.+extent_at.Given as goal
 
--- Measures 1 extent-at-kinds.ps ℕ
 abbrev pub decreases-extent_at : goal.decreases-extent_at
 decreases-extent_at l = l.most
 
