@@ -208,7 +208,7 @@ read_operand-overflow_add-result t c =
     omega (
       arith,
       c.shared_slice_known-1.given 0,
-      (leaf-walk _ _ _ _ (sym c⟨?⟩.is_leaf.ensures ∙ c.if-is_leaf.true)).inside,
+      (leaf-walk _ _ _ _ (sym c.is_leaf.ensures ∙ c.if-is_leaf.true)).inside,
     )
 
 -- TODO no field is_leaf.ensures
@@ -216,7 +216,7 @@ read_operand-overflow_add-result t c =
 pub read_operand-returns-then-is_leaf : goal.read_operand-returns-then-is_leaf
 read_operand-returns-then-is_leaf t c =
     rw c.in-Next.is
-    (leaf-walk _ _ _ _ (sym c⟨?⟩.is_leaf.ensures ∙ c.if-is_leaf.true)).past
+    (leaf-walk _ _ _ _ (sym c.is_leaf.ensures ∙ c.if-is_leaf.true)).past
 
 pub read_operand-read_arithmetic-requires : goal.read_operand-read_arithmetic-requires
 read_operand-read_arithmetic-requires t c = let e = ap (words_left c.args.w.now) c.in-Next.is in omega arith
