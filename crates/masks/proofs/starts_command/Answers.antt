@@ -7,10 +7,10 @@ use Rattle.laws.proofs.Bools.{clash}
 use Rattle.masks.proofs.starts_command.Goals as goal
 
 pub returns-then-kind-lt-SKIP : goal.returns-then-kind-lt-SKIP
-returns-then-kind-lt-SKIP c = inl c.if-kind-lt-SKIP.true
+returns-then-kind-lt-SKIP c e = inl c.if-kind-lt-SKIP.true
 
 pub returns-then-kind-le-FOR : goal.returns-then-kind-le-FOR
-returns-then-kind-le-FOR c = clash refl e
+returns-then-kind-le-FOR c e = clash refl e
 
 pub returns : goal.returns
-returns c = inr (c.if-kind-le-FOR.false, eqb-false _ 38 e)
+returns c e = inr (c.if-kind-le-FOR.false, eqb-false _ 38 e)

@@ -7,11 +7,11 @@ use Rattle.evaluate.proofs.Answers.{answered, answered-as, checked-14}
 use Rattle.evaluate.proofs.stop.settle.Goals as goal
 
 pub returns-in-Value : goal.returns-in-Value
-returns-in-Value c =
+returns-in-Value c z e =
     answered-as (ap outcome (sym c.in-Value.is) ∙ e)
     (answered (back (record { sfits = c.in-Value.known_told-1-own.given.0.1 })))
 
 pub returns-in-Stops : goal.returns-in-Stops
-returns-in-Stops c =
+returns-in-Stops c z e =
     let h = ap outcome (sym c.in-Stops.is) ∙ e in
     answered-as (ap stops (sym (checked-14 z h)) ∙ h) (c.refuse.ensures.is _)

@@ -4,4 +4,4 @@ use Rattle.scan.proofs.Passing.{passed-eight}
 use Rattle.scan.proofs.pass.kind_in_eight.Goals as goal
 
 pub returns : goal.returns
-returns c = passed-eight _ c.kind_in_four-first.ensures c.kind_in_four-second.ensures e
+returns c e = passed-eight _ c.kind_in_four-first.ensures c.kind_in_four-second.ensures e

@@ -4,4 +4,4 @@ use Rattle.scan.proofs.Passing.{passed-four}
 use Rattle.scan.proofs.pass.kind_in_four.Goals as goal
 
 pub returns : goal.returns
-returns c = passed-four _ c.requires e
+returns c e = passed-four _ c.requires e
