@@ -41,7 +41,7 @@ returns-then-not-stay c = steadied-again c.read_marked.ensures
 pub returns-then-same : goal.returns-then-same
 returns-then-same c =
     let pre = c.requires in
-    same-again pre.0 pre.1 c.mend.ensures refl (not-false _ c.if-not-stay.false) c.if-same.true
+    same-again pre.0 pre.1 c.mend.ensures refl c.if-not-stay.false c.if-same.true
 
 pub read_marked-requires-then-assigns_any : goal.read_marked-requires-then-assigns_any
 read_marked-requires-then-assigns_any c =
@@ -54,4 +54,4 @@ returns-then-assigns_any c = steadied-again c.read_marked-then-assigns_any.ensur
 pub returns : goal.returns
 returns c =
     let pre = c.requires in
-    apart-again pre.0 pre.1 c.mend.ensures (not-false _ c.if-not-stay.false) c.assigns_any.ensures c.if-assigns_any.false
+    apart-again pre.0 pre.1 c.mend.ensures c.if-not-stay.false c.assigns_any.ensures c.if-assigns_any.false

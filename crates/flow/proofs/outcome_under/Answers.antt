@@ -13,7 +13,7 @@ returns-then-not-are_within_ranges c =
 pub outcome-requires : goal.outcome-requires
 outcome-requires c =
     settings_within _
-    (settable-under c.context_under.ensures c.are_within_ranges.ensures (not-false _ c.if-not-are_within_ranges.false))
+    (settable-under c.context_under.ensures c.are_within_ranges.ensures c.if-not-are_within_ranges.false)
 
 pub returns : goal.returns
 returns c =

@@ -20,7 +20,7 @@ pub loop-i-preserved-then-not-starts_command : goal.loop-i-preserved-then-not-st
 loop-i-preserved-then-not-starts_command c =
     let pre = c.requires in
     filling_more _ _ _ pre c.loop-i-test.true c.loop-i.invariant
-    (pre.quiet _ (omega (arith, c.loop-i-test.true, c.loop-i.invariant.inside)) (c.starts_command.ensures (not-true _ c.if-not-starts_command.true)))
+    (pre.quiet _ (omega (arith, c.loop-i-test.true, c.loop-i.invariant.inside)) (c.starts_command.ensures c.if-not-starts_command.true))
     (omega arith)
 
 pub parts_mask-mask-requires : goal.parts_mask-mask-requires

@@ -24,7 +24,7 @@ settle-requires c =
 pub returns-then-not-is_read_to : goal.returns-then-not-is_read_to
 returns-then-not-is_read_to c =
     change-not c.args.context c.args.masks.now c.requires.0 c.is_read_to.ensures
-    (not-true _ c.if-not-is_read_to.true) c.refused.ensures
+    c.if-not-is_read_to.true c.refused.ensures
 
 pub settle-requires-2 : goal.settle-requires-2
 settle-requires-2 c =

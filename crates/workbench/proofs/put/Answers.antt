@@ -12,7 +12,7 @@ returns-then-not-are_within_ranges c =
 
 pub put_by_size-requires : goal.put_by_size-requires
 put_by_size-requires c =
-    settable-under c.context_under.ensures c.are_within_ranges.ensures (not-false _ c.if-not-are_within_ranges.false)
+    settable-under c.context_under.ensures c.are_within_ranges.ensures c.if-not-are_within_ranges.false
 
 pub returns : goal.returns
 returns c = same-put c.context_under.ensures c.put_by_size.ensures

@@ -22,7 +22,7 @@ is_simple_to-requires c = ends-here c.args.masks.now c.requires
 
 pub returns-then-not-is_simple_to : goal.returns-then-not-is_simple_to
 returns-then-not-is_simple_to c =
-    replace-not c.args.masks.now c.requires c.is_simple_to.ensures (not-true _ c.if-not-is_simple_to.true)
+    replace-not c.args.masks.now c.requires c.is_simple_to.ensures c.if-not-is_simple_to.true
     c.refused-then-not-is_simple_to.ensures
 
 pub slice_bounds-old_at-end : goal.slice_bounds-old_at-end
@@ -37,14 +37,14 @@ old_at-old-requires c = omega (arith, c.if-n-place.false, word_count c.args.mask
 pub slice_bounds-change-end-2 : goal.slice_bounds-change-end-2
 slice_bounds-change-end-2 c =
     changed-count c.args.masks.now c.requires c.is_simple_to.ensures
-    (not-false _ c.if-not-is_simple_to.false) c.if-new-ne0.false c.load.ensures
+    c.if-not-is_simple_to.false c.if-new-ne0.false c.load.ensures
 
 pub change-requires : goal.change-requires
 change-requires c = (
   can-change c.args.masks.now c.requires c.is_simple_to.ensures
-      (not-false _ c.if-not-is_simple_to.false) c.if-new-ne0.false c.load.ensures,
+      c.if-not-is_simple_to.false c.if-new-ne0.false c.load.ensures,
   changed-known c.args.masks.now c.requires c.is_simple_to.ensures
-      (not-false _ c.if-not-is_simple_to.false) c.if-new-ne0.false c.load.ensures c.old_at-old.ensures,
+      c.if-not-is_simple_to.false c.if-new-ne0.false c.load.ensures c.old_at-old.ensures,
 )
 
 pub shape_of-table : goal.shape_of-table

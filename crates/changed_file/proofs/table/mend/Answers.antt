@@ -19,9 +19,9 @@ mend_ends-requires c =
 pub returns-then-not-stay : goal.returns-then-not-stay
 returns-then-not-stay c =
     let pre = c.requires in
-    mended_masks pre c.mend_ends.ensures c.fill_masks.ensures (not-true _ c.if-not-stay.true)
+    mended_masks pre c.mend_ends.ensures c.fill_masks.ensures c.if-not-stay.true
 
 pub returns-else-not-stay : goal.returns-else-not-stay
 returns-else-not-stay c =
     let pre = c.requires in
-    mended_stays pre c.mend_ends.ensures (not-false _ c.if-not-stay.false)
+    mended_stays pre c.mend_ends.ensures c.if-not-stay.false

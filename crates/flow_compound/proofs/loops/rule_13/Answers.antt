@@ -21,7 +21,7 @@ same_written-requires c = can-two c.requires.can
 pub returns-then-not-same_written : goal.returns-then-not-same_written
 returns-then-not-same_written c =
     not_same c.requires c.if-w-c-ne-WHILE.false
-    c.same_written.ensures (not-true _ c.if-not-same_written.true)
+    c.same_written.ensures c.if-not-same_written.true
 
 pub overflow_add-c : goal.overflow_add-c
 overflow_add-c c = let i = command-head c.requires.can in omega arith
@@ -33,4 +33,4 @@ pub returns : goal.returns
 returns c =
     rw c.condition.ensures (while-comes c.requires
     c.if-w-c-ne-WHILE.false c.same_written.ensures
-    (not-false _ c.if-not-same_written.false) c.test_stands.ensures)
+    c.if-not-same_written.false c.test_stands.ensures)

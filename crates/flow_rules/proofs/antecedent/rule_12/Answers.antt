@@ -21,7 +21,7 @@ returns-then-not-same_under c =
       c.end_or_zero-f.ensures,
       c.end_or_zero-s1.ensures,
     ) at c.same_under.ensures)
-    (not-true _ c.if-not-same_under.true)
+    c.if-not-same_under.true
 
 pub same_under-requires-2 : goal.same_under-requires-2
 same_under-requires-2 c =
@@ -40,7 +40,7 @@ returns c =
       c.end_or_zero-f.ensures,
       c.end_or_zero-s1.ensures,
     ) at c.same_under.ensures)
-    (not-false _ c.if-not-same_under.false) (rw (
+    c.if-not-same_under.false (rw (
       c.end_or_zero-f1.ensures,
       c.end_or_zero-f.ensures,
       c.end_or_zero-s1.ensures,

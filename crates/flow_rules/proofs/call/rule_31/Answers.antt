@@ -25,7 +25,7 @@ pub returns-then-not-same_written : goal.returns-then-not-same_written
 returns-then-not-same_written c =
     other-pre c.requires c.if-w-c-ne-CALL.false
     (rw (c.end_or_zero-pre.ensures, c.start_of-body.ensures) at c.same_written.ensures)
-    (not-true _ c.if-not-same_written.true)
+    c.if-not-same_written.true
 
 pub same_written-requires-2 : goal.same_written-requires-2
 same_written-requires-2 c =
@@ -36,6 +36,6 @@ pub returns : goal.returns
 returns c =
     rw c.condition.ensures (call-comes c.requires c.if-w-c-ne-CALL.false
     (rw (c.end_or_zero-pre.ensures, c.start_of-body.ensures) at c.same_written.ensures)
-    (not-false _ c.if-not-same_written.false)
+    c.if-not-same_written.false
     (rw (c.end_or_zero-post.ensures, c.end_or_zero-pre.ensures, c.start_of-body.ensures) at
     c.same_written-2.ensures))

@@ -21,7 +21,7 @@ returns-then-not-same_union c =
       c.end_or_zero-t.ensures,
       c.end_or_zero-s1.ensures,
     ) at c.same_union.ensures)
-    (not-true _ c.if-not-same_union.true)
+    c.if-not-same_union.true
 
 pub same_union-requires-2 : goal.same_union-requires-2
 same_union-requires-2 c =
@@ -40,7 +40,7 @@ returns c =
       c.end_or_zero-t.ensures,
       c.end_or_zero-s1.ensures,
     ) at c.same_union.ensures)
-    (not-false _ c.if-not-same_union.false) (rw (
+    c.if-not-same_union.false (rw (
       c.end_or_zero-t1.ensures,
       c.end_or_zero-t.ensures,
       c.end_or_zero-s1.ensures,

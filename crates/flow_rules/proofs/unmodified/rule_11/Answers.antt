@@ -45,7 +45,7 @@ returns-then-not-is_same_consequent c =
     (rw (
       c.end_or_zero-f.ensures,
       c.end_or_zero-e.ensures,
-    ) at c.is_same_consequent.ensures) (not-true _ c.if-not-is_same_consequent.true)
+    ) at c.is_same_consequent.ensures) c.if-not-is_same_consequent.true
 
 pub is_kept-requires : goal.is_kept-requires
 is_kept-requires c =
@@ -66,5 +66,5 @@ returns c =
       c.end_or_zero-f.ensures,
       c.end_or_zero-e.ensures,
     ) at c.is_same_consequent.ensures)
-    (not-false _ c.if-not-is_same_consequent.false)
+    c.if-not-is_same_consequent.false
     (rw c.end_or_zero-e.ensures at c.is_kept.ensures))

@@ -32,7 +32,7 @@ is_same_consequent-requires c =
 pub returns-then-not-is_same_consequent : goal.returns-then-not-is_same_consequent
 returns-then-not-is_same_consequent c =
     differ_fails c.requires c.count.ensures c.if-count-ne1.false c.count-2.ensures c.if-count-ne1-2.false
-    c.end_or_zero-e.ensures c.end_or_zero-f.ensures c.is_same_consequent.ensures (not-true _ c.if-not-is_same_consequent.true)
+    c.end_or_zero-e.ensures c.end_or_zero-f.ensures c.is_same_consequent.ensures c.if-not-is_same_consequent.true
 
 pub implies_at-requires : goal.implies_at-requires
 implies_at-requires c = can-imply c.requires c.count.ensures c.if-count-ne1.false c.count-2.ensures c.if-count-ne1-2.false
@@ -40,5 +40,5 @@ implies_at-requires c = can-imply c.requires c.count.ensures c.if-count-ne1.fals
 pub returns : goal.returns
 returns c =
     implied-rule c.requires c.count.ensures c.if-count-ne1.false c.count-2.ensures c.if-count-ne1-2.false
-    c.end_or_zero-e.ensures c.end_or_zero-f.ensures c.is_same_consequent.ensures (not-false _ c.if-not-is_same_consequent.false)
+    c.end_or_zero-e.ensures c.end_or_zero-f.ensures c.is_same_consequent.ensures c.if-not-is_same_consequent.false
     c.implies_at.ensures

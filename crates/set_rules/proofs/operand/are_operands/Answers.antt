@@ -23,7 +23,7 @@ pub returns-then-kind-eq-NOT : goal.returns-then-kind-eq-NOT
 returns-then-kind-eq-NOT c = one_split c.requires.ends_of c.if-kind-eq-NOT.true c.same_set.ensures
 
 pub returns-then-not-has_two : goal.returns-then-not-has_two
-returns-then-not-has_two c = none-split c.requires.ends_of c.if-kind-eq-NOT.false c.has_two.ensures (not-true _ c.if-not-has_two.true)
+returns-then-not-has_two c = none-split c.requires.ends_of c.if-kind-eq-NOT.false c.has_two.ensures c.if-not-has_two.true
 
 pub overflow_add-e : goal.overflow_add-e
 overflow_add-e c =

@@ -15,7 +15,7 @@ same_union-requires c = can-first c.requires c.end_or_zero-s2.ensures c.end_or_z
 pub returns-then-not-same_union : goal.returns-then-not-same_union
 returns-then-not-same_union c =
     first-fails c.requires c.end_or_zero-s2.ensures c.end_or_zero-t.ensures c.end_or_zero-t2.ensures
-    c.same_union.ensures (not-true _ c.if-not-same_union.true)
+    c.same_union.ensures c.if-not-same_union.true
 
 pub same_union-requires-2 : goal.same_union-requires-2
 same_union-requires-2 c = can-second c.requires c.end_or_zero-s2.ensures c.end_or_zero-t.ensures c.end_or_zero-t2.ensures
@@ -23,4 +23,4 @@ same_union-requires-2 c = can-second c.requires c.end_or_zero-s2.ensures c.end_o
 pub returns : goal.returns
 returns c =
     union_rule c.requires c.end_or_zero-s2.ensures c.end_or_zero-t.ensures c.end_or_zero-t2.ensures
-    c.same_union.ensures (not-false _ c.if-not-same_union.false) c.same_union-2.ensures c.condition.ensures
+    c.same_union.ensures c.if-not-same_union.false c.same_union-2.ensures c.condition.ensures

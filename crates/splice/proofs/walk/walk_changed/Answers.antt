@@ -11,4 +11,4 @@ pub slice_bounds-is_read_to-end-2 : goal.slice_bounds-is_read_to-end-2
 slice_bounds-is_read_to-end-2 c = new-count c.requires
 
 pub walk_new-requires : goal.walk_new-requires
-walk_new-requires c = new-read c.requires c.is_read_to.ensures (not-false _ c.if-not-is_read_to.false) c.extent_at-extent.ensures
+walk_new-requires c = new-read c.requires c.is_read_to.ensures c.if-not-is_read_to.false c.extent_at-extent.ensures
