@@ -9,12 +9,12 @@ use Rattle.flow.proofs.check_with_masks.Goals as goal
 
 pub returns-then-not-are_within_ranges : goal.returns-then-not-are_within_ranges
 returns-then-not-are_within_ranges c =
-    outside-checked _ _ _ (sym c.are_within_ranges.ensures ∙ not-true _ c.if-not-are_within_ranges.true) c.outside_ranges.ensures
+    outside-checked _ _ _ (sym c.are_within_ranges.ensures ∙ c.if-not-are_within_ranges.true) c.outside_ranges.ensures
     c.verdict_of.ensures
 
 pub returns-then-few_numbers : goal.returns-then-few_numbers
 returns-then-few_numbers c =
-    few-checked _ _ _ (sym c.are_within_ranges.ensures ∙ not-false _ c.if-not-are_within_ranges.false)
+    few-checked _ _ _ (sym c.are_within_ranges.ensures ∙ c.if-not-are_within_ranges.false)
     (sym c.few_numbers.ensures ∙ c.if-few_numbers.true)
 
 pub outcome-requires : goal.outcome-requires
@@ -24,5 +24,5 @@ outcome-requires c =
 
 pub returns : goal.returns
 returns c =
-    masks-checked _ _ _ (sym c.are_within_ranges.ensures ∙ not-false _ c.if-not-are_within_ranges.false)
+    masks-checked _ _ _ (sym c.are_within_ranges.ensures ∙ c.if-not-are_within_ranges.false)
     (sym c.few_numbers.ensures ∙ c.if-few_numbers.false) c.context_under.ensures c.outcome.ensures c.verdict_of-2.ensures

@@ -8,7 +8,7 @@ use Rattle.flow.proofs.outcome_under.Goals as goal
 
 pub returns-then-not-are_within_ranges : goal.returns-then-not-are_within_ranges
 returns-then-not-are_within_ranges c =
-    outside-outcome _ _ (sym c.are_within_ranges.ensures ∙ not-true _ c.if-not-are_within_ranges.true) c.outside_ranges.ensures
+    outside-outcome _ _ (sym c.are_within_ranges.ensures ∙ c.if-not-are_within_ranges.true) c.outside_ranges.ensures
 
 pub outcome-requires : goal.outcome-requires
 outcome-requires c =
@@ -18,4 +18,4 @@ outcome-requires c =
 pub returns : goal.returns
 returns c =
     within-outcome _ c.context_under.ensures
-    (sym c.are_within_ranges.ensures ∙ not-false _ c.if-not-are_within_ranges.false) c.outcome.ensures
+    (sym c.are_within_ranges.ensures ∙ c.if-not-are_within_ranges.false) c.outcome.ensures

@@ -30,6 +30,6 @@ pub settle-requires-2 : goal.settle-requires-2
 settle-requires-2 c =
     record {
       change = settled c.args.context c.args.masks.now c.requires.0 c.table-2-1.given;
-      new-read = sym c.is_read_to.ensures ∙ not-false _ c.if-not-is_read_to.false;
+      new-read = sym c.is_read_to.ensures ∙ c.if-not-is_read_to.false;
       remarked = tabled_again c.read_table-layout.ensures;
     }

@@ -8,7 +8,7 @@ use Rattle.workbench.proofs.put.Goals as goal
 
 pub returns-then-not-are_within_ranges : goal.returns-then-not-are_within_ranges
 returns-then-not-are_within_ranges c =
-    outside-put _ _ _ _ _ (sym c.are_within_ranges.ensures ∙ not-true _ c.if-not-are_within_ranges.true) c.refused.ensures
+    outside-put _ _ _ _ _ (sym c.are_within_ranges.ensures ∙ c.if-not-are_within_ranges.true) c.refused.ensures
 
 pub put_by_size-requires : goal.put_by_size-requires
 put_by_size-requires c =

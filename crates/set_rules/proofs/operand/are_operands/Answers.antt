@@ -34,14 +34,14 @@ overflow_add-e c =
 
 pub end_at-next-requires : goal.end_at-next-requires
 end_at-next-requires c =
-    (first-known c.requires c.if-kind-eq-NOT.false (sym c.has_two.ensures ∙ not-false _ c.if-not-has_two.false)).listed
+    (first-known c.requires c.if-kind-eq-NOT.false (sym c.has_two.ensures ∙ c.if-not-has_two.false)).listed
 
 pub same_set-requires-2 : goal.same_set-requires-2
 same_set-requires-2 c =
-    can-two_same c.requires c.if-kind-eq-NOT.false (sym c.has_two.ensures ∙ not-false _ c.if-not-has_two.false)
+    can-two_same c.requires c.if-kind-eq-NOT.false (sym c.has_two.ensures ∙ c.if-not-has_two.false)
     c.end_at-next.ensures
 
 pub returns : goal.returns
 returns c =
-    two-split c.requires.ends_of c.if-kind-eq-NOT.false (sym c.has_two.ensures ∙ not-false _ c.if-not-has_two.false)
+    two-split c.requires.ends_of c.if-kind-eq-NOT.false (sym c.has_two.ensures ∙ c.if-not-has_two.false)
     c.end_at-next.ensures c.same_set-2.ensures

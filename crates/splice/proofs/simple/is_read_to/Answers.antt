@@ -11,14 +11,14 @@ pub returns-then-w-at : goal.returns-then-w-at
 returns-then-w-at c = read_past _ _ _ _ c.if-w-at.true
 
 pub returns-then-not-is_simple : goal.returns-then-not-is_simple
-returns-then-not-is_simple c = read-other _ _ _ _ (sym c.is_simple.ensures ∙ not-true _ c.if-not-is_simple.true)
+returns-then-not-is_simple c = read-other _ _ _ _ (sym c.is_simple.ensures ∙ c.if-not-is_simple.true)
 
 pub returns-in-Next : goal.returns-in-Next
 returns-in-Next c =
-    read_next _ _ _ _ (sym c.is_simple.ensures ∙ not-false _ c.if-not-is_simple.false) c.read_command-walk.ensures
+    read_next _ _ _ _ (sym c.is_simple.ensures ∙ c.if-not-is_simple.false) c.read_command-walk.ensures
     c.in-Next.is
 
 pub returns-in-Refused : goal.returns-in-Refused
 returns-in-Refused c =
-    read-refused _ _ _ _ (sym c.is_simple.ensures ∙ not-false _ c.if-not-is_simple.false) c.read_command-walk.ensures
+    read-refused _ _ _ _ (sym c.is_simple.ensures ∙ c.if-not-is_simple.false) c.read_command-walk.ensures
     c.in-Refused.is

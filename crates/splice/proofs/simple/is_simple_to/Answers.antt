@@ -10,12 +10,12 @@ pub returns-then-w-at : goal.returns-then-w-at
 returns-then-w-at c = simple-past _ _ c.if-w-at.true
 
 pub returns-then-not-is_simple : goal.returns-then-not-is_simple
-returns-then-not-is_simple c = simple-other c.requires c.if-w-at.false _ (sym c.is_simple.ensures ∙ not-true _ c.if-not-is_simple.true)
+returns-then-not-is_simple c = simple-other c.requires c.if-w-at.false _ (sym c.is_simple.ensures ∙ c.if-not-is_simple.true)
 
 pub end_at-requires : goal.end_at-requires
 end_at-requires c = omega (arith, c.if-w-at.false, c.requires.room)
 
 pub returns : goal.returns
 returns c =
-    simple-here c.requires c.if-w-at.false _ (sym c.is_simple.ensures ∙ not-false _ c.if-not-is_simple.false)
+    simple-here c.requires c.if-w-at.false _ (sym c.is_simple.ensures ∙ c.if-not-is_simple.false)
     c.end_at.ensures
