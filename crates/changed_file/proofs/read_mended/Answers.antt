@@ -2,7 +2,7 @@
 -- Assumes nothing.
 use mathlib.Core.Path.{refl}
 use native.Mathlib.Omega.{arith}
-use borrow.Author.Tests.{not-false}
+use borrow.Author.Tests.{eq-eqb}
 use Rattle.splice.proofs.ReadTo.{read-ends}
 use Rattle.changed_file.proofs.Tables.{steadied-again}
 use Rattle.changed_file.proofs.ChangedWords.{can-mend_table, same-again, apart-again, fors_again}
@@ -41,7 +41,7 @@ returns-then-not-stay c = steadied-again c.read_marked.ensures
 pub returns-then-same : goal.returns-then-same
 returns-then-same c =
     let pre = c.requires in
-    same-again pre.0 pre.1 c.mend.ensures refl c.if-not-stay.false c.if-same.true
+    same-again pre.0 pre.1 c.mend.ensures refl c.if-not-stay.false (eq-eqb _ _ c.if-same.true)
 
 pub read_marked-requires-then-assigns_any : goal.read_marked-requires-then-assigns_any
 read_marked-requires-then-assigns_any c =
