@@ -3,7 +3,6 @@ use mathlib.Core.Path.{refl}
 use Rattle.truth_table.proofs.Machine.{short-formula}
 use Rattle.truth_table.proofs.every.Goals as goal
 
--- TODO bare context c
 pub every_block-requires : goal.every_block-requires
 every_block-requires c =
     let pre = c.requires in
