@@ -14,53 +14,32 @@ fits e h = subst (SideFits 8192) e h
 answer : {s t : Side} → s ≡ t → SideFits 8192 s → (side_room t ≡ side_room s) × (side_room t ≤ 16386)
 answer {t = t} e h = (ap side_room (sym e), side-room t (fits e h))
 
--- two ranges
-both : (c : tie.After-known-told2) → let own = c.before.s2.given.0 in
-    (own.0 ≤ own.1.0) × (own.1.1.0 ≤ own.1.1.1.0) × (own.1.0 ≤ 8192) × (own.1.1.1.0 ≤ 8192)
-both c =
-    let h = fits c.before.s2.given.1 c.before.before.before.requires in
-    (omega arith, omega arith, omega arith, omega arith)
-
-both-not : (c : tie.After-known-told3) → let own = c.before.s3.given.0 in
-    (own.0 ≤ own.1.0) × (own.1.1.0 ≤ own.1.1.1.0) × (own.1.0 ≤ 8192) × (own.1.1.1.0 ≤ 8192)
-both-not c =
-    let h = fits c.before.s3.given.1 c.before.before.before.requires in
-    (omega arith, omega arith, omega arith, omega arith)
-
 pub overflow_sub-result : goal.overflow_sub-result
 overflow_sub-result c = let h = fits c.in-One.is c.requires in omega arith
 
--- TODO bare context c
 pub overflow_sub-result-in-Both : goal.overflow_sub-result-in-Both
-overflow_sub-result-in-Both c = (both c).0
+overflow_sub-result-in-Both c = let h = fits c.in-Both.is c.requires in omega arith
 
--- TODO bare context c
 pub overflow_add-result : goal.overflow_add-result
-overflow_add-result c = let h = both c in omega arith
+overflow_add-result c = let h = fits c.in-Both.is c.requires in omega arith
 
--- TODO bare context c
 pub overflow_sub-result-in-Both-2 : goal.overflow_sub-result-in-Both-2
-overflow_sub-result-in-Both-2 c = (both c).1
+overflow_sub-result-in-Both-2 c = let h = fits c.in-Both.is c.requires in omega arith
 
--- TODO bare context c
 pub overflow_add-result-in-Both : goal.overflow_add-result-in-Both
-overflow_add-result-in-Both c = let h = both c in omega arith
+overflow_add-result-in-Both c = let h = fits c.in-Both.is c.requires in omega arith
 
--- TODO bare context c
 pub overflow_sub-result-in-BothNot : goal.overflow_sub-result-in-BothNot
-overflow_sub-result-in-BothNot c = (both-not c).0
+overflow_sub-result-in-BothNot c = let h = fits c.in-BothNot.is c.requires in omega arith
 
--- TODO bare context c
 pub overflow_add-result-in-BothNot : goal.overflow_add-result-in-BothNot
-overflow_add-result-in-BothNot c = let h = both-not c in omega arith
+overflow_add-result-in-BothNot c = let h = fits c.in-BothNot.is c.requires in omega arith
 
--- TODO bare context c
 pub overflow_sub-result-in-BothNot-2 : goal.overflow_sub-result-in-BothNot-2
-overflow_sub-result-in-BothNot-2 c = (both-not c).1
+overflow_sub-result-in-BothNot-2 c = let h = fits c.in-BothNot.is c.requires in omega arith
 
--- TODO bare context c
 pub overflow_add-result-in-BothNot-2 : goal.overflow_add-result-in-BothNot-2
-overflow_add-result-in-BothNot-2 c = let h = both-not c in omega arith
+overflow_add-result-in-BothNot-2 c = let h = fits c.in-BothNot.is c.requires in omega arith
 
 pub returns-in-One : goal.returns-in-One
 returns-in-One c = answer c.in-One.is c.requires

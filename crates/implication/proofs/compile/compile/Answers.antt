@@ -4,19 +4,14 @@ use Rattle.implication.proofs.Walks.{walk_start, walk_end, walk-full, walk-space
 use Rattle.implication.proofs.Walks.{walk-mark, walk-old, walk-new}
 use Rattle.implication.proofs.compile.compile.Goals as goal
 
--- there is room for a byte, by each branch
--- a known comparison's number is a byte
--- a new comparison's number is below 16
-
 pub loop-k-init : goal.loop-k-init
 loop-k-init c = walk_start c.requires.0 c.requires.1
 
 pub bounds-prog-at : goal.bounds-prog-at
 bounds-prog-at c = walk-space c.loop-k.invariant c.loop-k-test.true
 
--- TODO bare context c
 pub overflow_add-at : goal.overflow_add-at
-overflow_add-at c = let h = space c in omega arith
+overflow_add-at c = let h = walk-space c.loop-k.invariant c.loop-k-test.true in omega arith
 
 pub loop-k-preserved-then-op-lt21 : goal.loop-k-preserved-then-op-lt21
 loop-k-preserved-then-op-lt21 c = walk-mark c.loop-k.invariant c.loop-k-test.true c.byte-op.ensures c.if-op-lt21.true
@@ -38,9 +33,8 @@ overflow_cast-prog c =
 pub bounds-prog-at-then-j-n : goal.bounds-prog-at-then-j-n
 bounds-prog-at-then-j-n c = walk-space c.loop-k.invariant c.loop-k-test.true
 
--- TODO bare context c
 pub overflow_add-at-then-j-n : goal.overflow_add-at-then-j-n
-overflow_add-at-then-j-n c = let h = space-2 c in omega arith
+overflow_add-at-then-j-n c = let h = walk-space c.loop-k.invariant c.loop-k-test.true in omega arith
 
 pub loop-k-smaller-then-j-n : goal.loop-k-smaller-then-j-n
 loop-k-smaller-then-j-n c =
@@ -62,9 +56,11 @@ returns-then-n-limit c =
     c.if-op-lt21.false c.skip-next.ensures c.find-j.ensures c.if-j-n.false
     c.if-n-limit.true
 
--- TODO bare context c
 pub offset_bounds-starts-n : goal.offset_bounds-starts-n
-offset_bounds-starts-n c = let h = fresh c in omega arith
+offset_bounds-starts-n c =
+    let walk = c.loop-k.invariant in
+    let other = c.if-n-limit.false in
+    omega (arith, walk.within, walk.few)
 
 pub bounds-starts-n : goal.bounds-starts-n
 bounds-starts-n c =
@@ -72,9 +68,11 @@ bounds-starts-n c =
     let other = c.if-n-limit.false in
     omega (arith, walk.within, walk.few)
 
--- TODO bare context c
 pub offset_bounds-ends-n : goal.offset_bounds-ends-n
-offset_bounds-ends-n c = let h = fresh c in omega arith
+offset_bounds-ends-n c =
+    let walk = c.loop-k.invariant in
+    let other = c.if-n-limit.false in
+    omega (arith, walk.within, walk.few)
 
 pub bounds-ends-n : goal.bounds-ends-n
 bounds-ends-n c =
@@ -82,20 +80,23 @@ bounds-ends-n c =
     let other = c.if-n-limit.false in
     omega (arith, walk.within, walk.few)
 
--- TODO bare context c
 pub overflow_cast-prog-in-loop-k : goal.overflow_cast-prog-in-loop-k
-overflow_cast-prog-in-loop-k c = let h = fresh c in omega arith
+overflow_cast-prog-in-loop-k c =
+    let walk = c.loop-k.invariant in
+    let other = c.if-n-limit.false in
+    omega (arith, walk.within, walk.few)
 
 pub bounds-prog-at-in-loop-k : goal.bounds-prog-at-in-loop-k
 bounds-prog-at-in-loop-k c = walk-space c.loop-k.invariant c.loop-k-test.true
 
--- TODO bare context c
 pub overflow_add-n : goal.overflow_add-n
-overflow_add-n c = let h = fresh c in omega arith
+overflow_add-n c =
+    let walk = c.loop-k.invariant in
+    let other = c.if-n-limit.false in
+    omega (arith, walk.within, walk.few)
 
--- TODO bare context c
 pub overflow_add-at-in-loop-k : goal.overflow_add-at-in-loop-k
-overflow_add-at-in-loop-k c = let h = space-3 c in omega arith
+overflow_add-at-in-loop-k c = let h = walk-space c.loop-k.invariant c.loop-k-test.true in omega arith
 
 pub loop-k-smaller : goal.loop-k-smaller
 loop-k-smaller c =

@@ -1,7 +1,6 @@
 -- `implication::compile::compile_both` meets its contract: the first boolean's bytes, then the second's.
 -- Assumes nothing.
 use native.Mathlib.Omega.{arith}
-use borrow.Author.Tests.{not-true, not-false}
 use Rattle.implication.proofs.Pairs.{adds_none, adds_one, joint_and, can-first, can-second, same_first}
 use Rattle.implication.proofs.Pairs.{pair_full, pair-done}
 use Rattle.implication.proofs.compile.compile_both.Goals as goal
@@ -26,7 +25,7 @@ pub returns-then-not-fits : goal.returns-then-not-fits
 returns-then-not-fits c =
     let pre = c.requires in
     pair_full joint_and (adds_one _ _ 18 (omega (arith, pre.2.room))) c.compile-x.ensures (omega arith)
-    (not-true _ c.if-not-fits.true)
+    c.if-not-fits.true
 
 pub compile-requires : goal.compile-requires
 compile-requires c =
@@ -36,12 +35,8 @@ compile-requires c =
           (adds_none _ _) (omega arith),
     )
 
--- TODO bare context c
-pub shape_of-prog : goal.shape_of-prog
-shape_of-prog c = (returns-2 c).room
-
 pub returns : goal.returns
 returns c =
     let pre = c.requires in
     pair-done joint_and (adds_one _ _ 18 (omega (arith, pre.2.room))) c.compile-x.ensures (omega arith)
-    (not-false _ c.if-not-fits.false) (adds_none _ _) c.compile.ensures
+    c.if-not-fits.false (adds_none _ _) c.compile.ensures

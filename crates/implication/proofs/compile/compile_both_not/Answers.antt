@@ -1,12 +1,9 @@
 -- `implication::compile::compile_both_not` meets its contract: the first boolean's bytes, then not and the second's.
 -- Assumes nothing.
 use native.Mathlib.Omega.{arith}
-use borrow.Author.Tests.{not-true, not-false}
 use Rattle.implication.proofs.Pairs.{adds_one, joint_and_not, can-first, can-second, after_first, same_first}
 use Rattle.implication.proofs.Pairs.{pair_full, pair-done}
 use Rattle.implication.proofs.compile.compile_both_not.Goals as goal
-
--- there is room for not
 
 pub bounds-prog-len : goal.bounds-prog-len
 bounds-prog-len c = omega (arith, c.requires.2.room)
@@ -28,8 +25,9 @@ pub returns-then-not-fits : goal.returns-then-not-fits
 returns-then-not-fits c =
     let pre = c.requires in
     pair_full joint_and_not (adds_one _ _ 18 (omega (arith, pre.2.room))) c.compile-x.ensures (omega arith)
-    (not-true _ c.if-not-fits.true)
+    c.if-not-fits.true
 
+-- there is room for not
 pub bounds-prog-at : goal.bounds-prog-at
 bounds-prog-at c =
     let pre = c.requires in
@@ -38,26 +36,30 @@ bounds-prog-at c =
     (omega arith) in
     omega arith
 
--- TODO bare context c
 pub overflow_add-at : goal.overflow_add-at
-overflow_add-at c = let h = space c in omega arith
+overflow_add-at c =
+    let pre = c.requires in
+    let h =
+    after_first pre.2 (adds_one _ _ 18 (omega (arith, pre.2.room))) c.compile-x.ensures 1
+    (omega arith) in
+    omega arith
 
--- TODO bare context at-if
 pub compile-requires : goal.compile-requires
 compile-requires c =
-    let pre = c.requires in (
+    let pre = c.requires in
+    let h =
+    after_first pre.2 (adds_one _ _ 18 (omega (arith, pre.2.room))) c.compile-x.ensures 1
+    (omega arith) in (
       pre.1,
       can-second pre.2 (adds_one _ _ 18 (omega (arith, pre.2.room))) c.compile-x.ensures
-          (adds_one _ _ 20 (space at-if)) (omega arith),
+          (adds_one _ _ 20 (omega arith)) (omega arith),
     )
 
--- TODO bare context c
-pub shape_of-prog : goal.shape_of-prog
-shape_of-prog c = (returns-2 c).room
-
--- TODO bare context at-if
 pub returns : goal.returns
 returns c =
     let pre = c.requires in
+    let h =
+    after_first pre.2 (adds_one _ _ 18 (omega (arith, pre.2.room))) c.compile-x.ensures 1
+    (omega arith) in
     pair-done joint_and_not (adds_one _ _ 18 (omega (arith, pre.2.room))) c.compile-x.ensures (omega arith)
-    (not-false _ c.if-not-fits.false) (adds_one _ _ 20 (space at-if)) c.compile.ensures
+    c.if-not-fits.false (adds_one _ _ 20 (omega arith)) c.compile.ensures

@@ -3,8 +3,6 @@ use native.Mathlib.Omega.{arith}
 use Rattle.implication.proofs.Pairs.{compiles_as, compiles_false, side_can, side_done}
 use Rattle.implication.proofs.compile.compile_side.Goals as goal
 
--- false
-
 pub compile-requires : goal.compile-requires
 compile-requires c = side_can c.in-One.is c.requires
 
@@ -23,32 +21,21 @@ bounds-prog-len c =
     let h = side_can c.in-False.is c.requires in
     omega (arith, h.1.room)
 
--- TODO bare context c
 pub overflow_add-result : goal.overflow_add-result
-overflow_add-result c = let h = space c in omega arith
-
--- TODO bare context c
-pub shape_of-prog-in-One : goal.shape_of-prog-in-One
-shape_of-prog-in-One c = (returns c).room
+overflow_add-result c =
+    let h = side_can c.in-False.is c.requires in
+    omega (arith, h.1.room)
 
 pub returns-in-One : goal.returns-in-One
 returns-in-One c =
     side_done c.in-One.is
     (compiles_as (λ χ x. record { levels = x.levels; stands = x.stands }) (omega arith) c.compile.ensures)
 
--- TODO bare context c
-pub shape_of-prog-in-Both : goal.shape_of-prog-in-Both
-shape_of-prog-in-Both c = (returns-2 c).room
-
 pub returns-in-Both : goal.returns-in-Both
 returns-in-Both c =
     side_done c.in-Both.is
     (compiles_as (λ χ x. record { levels = x.levels; stands = x.stands }) (omega arith)
     c.compile_both.ensures)
-
--- TODO bare context c
-pub shape_of-prog-in-BothNot : goal.shape_of-prog-in-BothNot
-shape_of-prog-in-BothNot c = (returns-3 c).room
 
 pub returns-in-BothNot : goal.returns-in-BothNot
 returns-in-BothNot c =

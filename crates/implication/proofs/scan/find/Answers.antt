@@ -3,27 +3,20 @@ use native.Mathlib.Omega.{arith}
 use Rattle.implication.proofs.Spans.{missed-none, missed-end, missed_here, missed_more}
 use Rattle.implication.proofs.scan.find.Goals as goal
 
--- an index below n is below 16
-
 pub loop-i-init : goal.loop-i-init
 loop-i-init c = (missed-none, omega arith)
 
--- TODO bare context c
 pub offset_bounds-starts-i : goal.offset_bounds-starts-i
-offset_bounds-starts-i c = let h = inside c in omega arith
+offset_bounds-starts-i c = omega (arith, c.requires.ranges.few)
 
 pub bounds-starts-i : goal.bounds-starts-i
 bounds-starts-i c = omega (arith, c.requires.ranges.few)
 
--- TODO whole context c.before
--- TODO bare context c
 pub offset_bounds-ends-i : goal.offset_bounds-ends-i
-offset_bounds-ends-i c = let h = inside c⟨After-way_told⟩ in omega arith
+offset_bounds-ends-i c = omega (arith, c.requires.ranges.few)
 
--- TODO whole context c.before
--- TODO bare context c
 pub bounds-ends-i : goal.bounds-ends-i
-bounds-ends-i c = inside c⟨After-a⟩
+bounds-ends-i c = omega (arith, c.requires.ranges.few)
 
 pub same_range-requires : goal.same_range-requires
 same_range-requires c =
