@@ -2,13 +2,12 @@
 -- Assumes nothing.
 use mathlib.Core.Path.{sym, ◌∙◌}
 use native.Mathlib.Omega.{arith}
-use borrow.Author.Tests.{not-true, not-false}
 use Rattle.matching.proofs.Matching.{matched-lost, matched-from, range-done, range-out}
 use Rattle.matching.proofs.EqualWords.{equal-matched}
 use Rattle.matching.proofs.cursor.match_range.Goals as goal
 
 pub returns-then-not-same : goal.returns-then-not-same
-returns-then-not-same c = matched-lost _ _ _ (not-true _ c.if-not-same.true)
+returns-then-not-same c = matched-lost _ _ _ c.if-not-same.true
 
 pub returns-then-to-from : goal.returns-then-to-from
 returns-then-to-from c = sym (range-done _ _ _ _ c.if-to-from.true)
@@ -16,7 +15,7 @@ returns-then-to-from c = sym (range-done _ _ _ _ c.if-to-from.true)
 pub returns-then-n-at : goal.returns-then-n-at
 returns-then-n-at c =
     range-out _ _ _ _ c.if-to-from.false c.requires c.if-n-at.true
-    ∙ matched-from _ _ _ (not-false _ c.if-not-same.false)
+    ∙ matched-from _ _ _ c.if-not-same.false
 
 pub equal_words-k-requires : goal.equal_words-k-requires
 equal_words-k-requires c =
@@ -33,4 +32,4 @@ returns c =
     (omega (arith, few, c.if-to-from.false, c.least.ensures.1))
     (omega (arith, few, c.if-n-at.false, c.least.ensures.0))
     c.equal_words-k.ensures.equal
-    ∙ matched-from _ _ _ (not-false _ c.if-not-same.false)
+    ∙ matched-from _ _ _ c.if-not-same.false

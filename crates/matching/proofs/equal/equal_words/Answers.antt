@@ -1,7 +1,6 @@
 -- `matching::equal::equal_words` meets its contract: the words passed so far are equal, and each turn passes four more.
 -- The measure is the words left. Assumes nothing.
 use native.Mathlib.Omega.{arith}
-use borrow.Author.Tests.{not-false}
 use Rattle.matching.proofs.EqualWords.{equal-none, equal-more}
 use Rattle.matching.proofs.equal.equal_words.Goals as goal
 
@@ -25,7 +24,7 @@ loop-k-preserved c =
     let passed = c.loop-k.invariant in
     record {
       few = omega (arith, passed.few, c.loop-k-test.true);
-      equal = equal-more _ _ _ _ _ passed.equal (c.same_four.ensures (not-false _ c.if-not-same_four.false));
+      equal = equal-more _ _ _ _ _ passed.equal (c.same_four.ensures c.if-not-same_four.false);
     }
 
 pub returns : goal.returns

@@ -4,8 +4,7 @@ use borrow.Author.Tests.{eqb-true}
 use Rattle.matching.proofs.EqualWords.{same_bits, no_difference, equal-four}
 use Rattle.matching.proofs.equal.same_four.Goals as goal
 
--- TODO more args e
 pub returns : goal.returns
-returns c =
+returns c e =
     let d = no_difference (eqb-true _ _ e) in
     equal-four _ _ _ (same_bits _ _ d.0) (same_bits _ _ d.1) (same_bits _ _ d.2) (same_bits _ _ d.3)

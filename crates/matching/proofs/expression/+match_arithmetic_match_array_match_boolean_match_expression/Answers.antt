@@ -12,191 +12,191 @@ use Rattle.matching.proofs.Exchange.{can-inside, any-listed, can-first, can-seco
 use Rattle.matching.proofs.expression.+match_arithmetic_match_array_match_boolean_match_expression.Goals as goal
 
 pub match_arithmetic-offset_bounds-w-b : goal.match_arithmetic-offset_bounds-w-b
-match_arithmetic-offset_bounds-w-b t c = let p = c.requires.1 in let i = can-inside p in omega arith
+match_arithmetic-offset_bounds-w-b t c = let p = c.requires in let i = can-inside p in omega arith
 
 pub match_arithmetic-bounds-w-b : goal.match_arithmetic-bounds-w-b
-match_arithmetic-bounds-w-b t c = let p = c.requires.1 in can-inside p
+match_arithmetic-bounds-w-b t c = let p = c.requires in can-inside p
 
 pub match_arithmetic-match_head-head-requires : goal.match_arithmetic-match_head-head-requires
-match_arithmetic-match_head-head-requires t c = let p = c.requires.1 in p.inside
+match_arithmetic-match_head-head-requires t c = let p = c.requires in p.inside
 
 pub match_arithmetic-returns-then-x-lt-OPERATOR : goal.match_arithmetic-returns-then-x-lt-OPERATOR
 match_arithmetic-returns-then-x-lt-OPERATOR t c =
-    let p = c.requires.1 in
+    let p = c.requires in
     none-matched (can-inside p) c.match_head-head.ensures
     (arithmetic-none p.ends_of p.expression c.if-x-lt-OPERATOR.true)
 
 pub match_arithmetic-overflow_add-b : goal.match_arithmetic-overflow_add-b
-match_arithmetic-overflow_add-b t c = let p = c.requires.1 in let i = can-inside p in omega arith
+match_arithmetic-overflow_add-b t c = let p = c.requires in let i = can-inside p in omega arith
 
 pub match_arithmetic-match_expression-left-requires : goal.match_arithmetic-match_expression-left-requires
 match_arithmetic-match_expression-left-requires t c =
-    let p = c.requires.1 in
-    can-first p.ends_of p.inside c.args.b c.requires.0
+    let p = c.requires in
+    can-first p.ends_of p.inside c.args.b c.decreases
     (arithmetic-two p.ends_of p.expression c.if-x-lt-OPERATOR.false).0
 
 pub match_arithmetic-overflow_add-b-2 : goal.match_arithmetic-overflow_add-b-2
-match_arithmetic-overflow_add-b-2 t c = let p = c.requires.1 in let i = can-inside p in omega arith
+match_arithmetic-overflow_add-b-2 t c = let p = c.requires in let i = can-inside p in omega arith
 
 pub match_arithmetic-end_at-second-requires : goal.match_arithmetic-end_at-second-requires
 match_arithmetic-end_at-second-requires t c =
-    let p = c.requires.1 in
+    let p = c.requires in
     any-listed p.ends_of (arithmetic-two p.ends_of p.expression c.if-x-lt-OPERATOR.false).0
 
 pub match_arithmetic-match_expression-requires : goal.match_arithmetic-match_expression-requires
 match_arithmetic-match_expression-requires t c =
-    let p = c.requires.1 in
-    can-second p.ends_of p.inside c.args.b c.requires.0
+    let p = c.requires in
+    can-second p.ends_of p.inside c.args.b c.decreases
     (arithmetic-two p.ends_of p.expression c.if-x-lt-OPERATOR.false) c.end_at-second.ensures
 
 pub match_arithmetic-returns : goal.match_arithmetic-returns
 match_arithmetic-returns t c =
-    let p = c.requires.1 in
+    let p = c.requires in
     two-matched (can-inside p) c.match_head-head.ensures
     (arithmetic-two p.ends_of p.expression c.if-x-lt-OPERATOR.false)
     c.match_expression-left.ensures c.end_at-second.ensures c.match_expression.ensures
 
 pub match_array-offset_bounds-w-b : goal.match_array-offset_bounds-w-b
-match_array-offset_bounds-w-b t c = let p = c.requires.1 in let i = can-inside p in omega arith
+match_array-offset_bounds-w-b t c = let p = c.requires in let i = can-inside p in omega arith
 
 pub match_array-bounds-w-b : goal.match_array-bounds-w-b
-match_array-bounds-w-b t c = let p = c.requires.1 in can-inside p
+match_array-bounds-w-b t c = let p = c.requires in can-inside p
 
 pub match_array-match_head-head-requires : goal.match_array-match_head-head-requires
-match_array-match_head-head-requires t c = let p = c.requires.1 in p.inside
+match_array-match_head-head-requires t c = let p = c.requires in p.inside
 
 pub match_array-returns-then-x-lt-UPDATE : goal.match_array-returns-then-x-lt-UPDATE
 match_array-returns-then-x-lt-UPDATE t c =
-    let p = c.requires.1 in
+    let p = c.requires in
     none-matched (can-inside p) c.match_head-head.ensures
     (array-none p.ends_of p.expression c.if-x-lt-UPDATE.true)
 
 pub match_array-overflow_add-b : goal.match_array-overflow_add-b
-match_array-overflow_add-b t c = let p = c.requires.1 in let i = can-inside p in omega arith
+match_array-overflow_add-b t c = let p = c.requires in let i = can-inside p in omega arith
 
 pub match_array-match_expression-array-requires : goal.match_array-match_expression-array-requires
 match_array-match_expression-array-requires t c =
-    let p = c.requires.1 in
-    can-first p.ends_of p.inside c.args.b c.requires.0
+    let p = c.requires in
+    can-first p.ends_of p.inside c.args.b c.decreases
     (array-three p.ends_of p.expression c.if-x-lt-UPDATE.false).0
 
 pub match_array-overflow_add-b-2 : goal.match_array-overflow_add-b-2
-match_array-overflow_add-b-2 t c = let p = c.requires.1 in let i = can-inside p in omega arith
+match_array-overflow_add-b-2 t c = let p = c.requires in let i = can-inside p in omega arith
 
 pub match_array-end_at-second-requires : goal.match_array-end_at-second-requires
 match_array-end_at-second-requires t c =
-    let p = c.requires.1 in
+    let p = c.requires in
     any-listed p.ends_of (array-three p.ends_of p.expression c.if-x-lt-UPDATE.false).0
 
 pub match_array-match_expression-index-requires : goal.match_array-match_expression-index-requires
 match_array-match_expression-index-requires t c =
-    let p = c.requires.1 in
+    let p = c.requires in
     let x = array-three p.ends_of p.expression c.if-x-lt-UPDATE.false in
-    can-second p.ends_of p.inside c.args.b c.requires.0 (x.0, (x.1.0, refl)) c.end_at-second.ensures
+    can-second p.ends_of p.inside c.args.b c.decreases (x.0, (x.1.0, refl)) c.end_at-second.ensures
 
 pub match_array-end_at-third-requires : goal.match_array-end_at-third-requires
 match_array-end_at-third-requires t c =
-    let p = c.requires.1 in
+    let p = c.requires in
     let x = array-three p.ends_of p.expression c.if-x-lt-UPDATE.false in
     any-listed p.ends_of
     (subst (AnyAt c.args.w.now c.args.ends.now) (sym c.end_at-second.ensures) x.1.0)
 
 pub match_array-match_expression-requires : goal.match_array-match_expression-requires
 match_array-match_expression-requires t c =
-    let p = c.requires.1 in
-    can-third p.ends_of p.inside c.args.b c.requires.0
+    let p = c.requires in
+    can-third p.ends_of p.inside c.args.b c.decreases
     (array-three p.ends_of p.expression c.if-x-lt-UPDATE.false)
     c.end_at-second.ensures c.end_at-third.ensures
 
 pub match_array-returns : goal.match_array-returns
 match_array-returns t c =
-    let p = c.requires.1 in
+    let p = c.requires in
     three-matched (can-inside p) c.match_head-head.ensures
     (array-three p.ends_of p.expression c.if-x-lt-UPDATE.false)
     c.match_expression-array.ensures c.end_at-second.ensures
     c.match_expression-index.ensures c.end_at-third.ensures c.match_expression.ensures
 
 pub match_boolean-offset_bounds-w-b : goal.match_boolean-offset_bounds-w-b
-match_boolean-offset_bounds-w-b t c = let p = c.requires.1 in let i = can-inside p in omega arith
+match_boolean-offset_bounds-w-b t c = let p = c.requires in let i = can-inside p in omega arith
 
 pub match_boolean-bounds-w-b : goal.match_boolean-bounds-w-b
-match_boolean-bounds-w-b t c = let p = c.requires.1 in can-inside p
+match_boolean-bounds-w-b t c = let p = c.requires in can-inside p
 
 pub match_boolean-match_head-head-requires : goal.match_boolean-match_head-head-requires
-match_boolean-match_head-head-requires t c = let p = c.requires.1 in p.inside
+match_boolean-match_head-head-requires t c = let p = c.requires in p.inside
 
 pub match_boolean-returns-then-kind-eq-TRUTH : goal.match_boolean-returns-then-kind-eq-TRUTH
 match_boolean-returns-then-kind-eq-TRUTH t c =
-    let p = c.requires.1 in
+    let p = c.requires in
     none-matched (can-inside p) c.match_head-head.ensures
     (boolean-none p.ends_of p.expression c.if-kind-eq-TRUTH.true)
 
 pub match_boolean-overflow_add-b : goal.match_boolean-overflow_add-b
-match_boolean-overflow_add-b t c = let p = c.requires.1 in let i = can-inside p in omega arith
+match_boolean-overflow_add-b t c = let p = c.requires in let i = can-inside p in omega arith
 
 pub match_boolean-match_expression-requires : goal.match_boolean-match_expression-requires
 match_boolean-match_expression-requires t c =
-    let p = c.requires.1 in
-    can-first p.ends_of p.inside c.args.b c.requires.0
+    let p = c.requires in
+    can-first p.ends_of p.inside c.args.b c.decreases
     (boolean-one p.ends_of p.expression c.if-kind-eq-NOT.true).0
 
 pub match_boolean-returns-then-kind-eq-NOT : goal.match_boolean-returns-then-kind-eq-NOT
 match_boolean-returns-then-kind-eq-NOT t c =
-    let p = c.requires.1 in
+    let p = c.requires in
     one-matched (can-inside p) c.match_head-head.ensures
     (boolean-one p.ends_of p.expression c.if-kind-eq-NOT.true) c.match_expression.ensures
 
 pub match_boolean-overflow_add-b-2 : goal.match_boolean-overflow_add-b-2
-match_boolean-overflow_add-b-2 t c = let p = c.requires.1 in let i = can-inside p in omega arith
+match_boolean-overflow_add-b-2 t c = let p = c.requires in let i = can-inside p in omega arith
 
 pub match_boolean-match_expression-left-requires : goal.match_boolean-match_expression-left-requires
 match_boolean-match_expression-left-requires t c =
-    let p = c.requires.1 in
-    can-first p.ends_of p.inside c.args.b c.requires.0
+    let p = c.requires in
+    can-first p.ends_of p.inside c.args.b c.decreases
     (boolean-two p.ends_of p.expression c.if-kind-eq-TRUTH.false c.if-kind-eq-NOT.false).0
 
 pub match_boolean-overflow_add-b-3 : goal.match_boolean-overflow_add-b-3
-match_boolean-overflow_add-b-3 t c = let p = c.requires.1 in let i = can-inside p in omega arith
+match_boolean-overflow_add-b-3 t c = let p = c.requires in let i = can-inside p in omega arith
 
 pub match_boolean-end_at-second-requires : goal.match_boolean-end_at-second-requires
 match_boolean-end_at-second-requires t c =
-    let p = c.requires.1 in
+    let p = c.requires in
     any-listed p.ends_of
     (boolean-two p.ends_of p.expression c.if-kind-eq-TRUTH.false c.if-kind-eq-NOT.false).0
 
 pub match_boolean-match_expression-requires-2 : goal.match_boolean-match_expression-requires-2
 match_boolean-match_expression-requires-2 t c =
-    let p = c.requires.1 in
-    can-second p.ends_of p.inside c.args.b c.requires.0
+    let p = c.requires in
+    can-second p.ends_of p.inside c.args.b c.decreases
     (boolean-two p.ends_of p.expression c.if-kind-eq-TRUTH.false c.if-kind-eq-NOT.false)
     c.end_at-second.ensures
 
 pub match_boolean-returns : goal.match_boolean-returns
 match_boolean-returns t c =
-    let p = c.requires.1 in
+    let p = c.requires in
     two-matched (can-inside p) c.match_head-head.ensures
     (boolean-two p.ends_of p.expression c.if-kind-eq-TRUTH.false
     c.if-kind-eq-NOT.false) c.match_expression-left.ensures
     c.end_at-second.ensures c.match_expression-2.ensures
 
 pub match_expression-offset_bounds-w-b : goal.match_expression-offset_bounds-w-b
-match_expression-offset_bounds-w-b t c = let p = c.requires.1 in let i = any-first p.any in omega arith
+match_expression-offset_bounds-w-b t c = let p = c.requires in let i = any-first p.any in omega arith
 
 pub match_expression-bounds-w-b : goal.match_expression-bounds-w-b
-match_expression-bounds-w-b t c = let p = c.requires.1 in any-first p.any
+match_expression-bounds-w-b t c = let p = c.requires in any-first p.any
 
 pub match_expression-match_arithmetic-requires : goal.match_expression-match_arithmetic-requires
 match_expression-match_arithmetic-requires t c =
-    let p = c.requires.1 in
-    can-sort c.requires.0 p (is-arithmetic p.ends_of p.any.sort p.any.expression c.if-kind-lt-COMPARISON.true)
+    let p = c.requires in
+    can-sort c.decreases p (is-arithmetic p.ends_of p.any.sort p.any.expression c.if-kind-lt-COMPARISON.true)
 
 pub match_expression-returns-then-kind-lt-COMPARISON : goal.match_expression-returns-then-kind-lt-COMPARISON
 match_expression-returns-then-kind-lt-COMPARISON t c = c.match_arithmetic.ensures
 
 pub match_expression-match_boolean-requires : goal.match_expression-match_boolean-requires
 match_expression-match_boolean-requires t c =
-    let p = c.requires.1 in
-    can-sort c.requires.0 p
+    let p = c.requires in
+    can-sort c.decreases p
     (is-boolean p.ends_of p.any.sort p.any.expression c.if-kind-lt-COMPARISON.false c.if-kind-lt-ARRAY.true)
 
 pub match_expression-returns-then-kind-lt-ARRAY : goal.match_expression-returns-then-kind-lt-ARRAY
@@ -204,8 +204,8 @@ match_expression-returns-then-kind-lt-ARRAY t c = c.match_boolean.ensures
 
 pub match_expression-match_array-requires : goal.match_expression-match_array-requires
 match_expression-match_array-requires t c =
-    let p = c.requires.1 in
-    can-sort c.requires.0 p (is-array p.ends_of p.any.sort p.any.expression c.if-kind-lt-ARRAY.false)
+    let p = c.requires in
+    can-sort c.decreases p (is-array p.ends_of p.any.sort p.any.expression c.if-kind-lt-ARRAY.false)
 
 pub match_expression-returns : goal.match_expression-returns
 match_expression-returns t c = c.match_array.ensures

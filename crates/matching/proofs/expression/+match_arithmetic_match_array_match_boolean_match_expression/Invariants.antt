@@ -2,7 +2,7 @@
 -- the cursor after its first word, then after its operands. The measure is the words left from the expression on, twice; one more
 -- for the function that looks for the sort.
 -- Assumes nothing.
-use Prim.Native.Nat.{ℕ, ◌+◌}
+use Prim.Native.Nat.{◌+◌}
 use Rattle.matching.proofs.Exchange.{left}
 use Rattle.matching.proofs.expression.+match_arithmetic_match_array_match_boolean_match_expression.Given as goal
 
