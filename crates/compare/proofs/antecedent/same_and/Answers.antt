@@ -2,7 +2,6 @@
 -- Assumes nothing.
 use mathlib.Core.Path.{refl}
 use native.Mathlib.Omega.{arith}
-use borrow.Author.Tests.{not-true, not-false}
 use Rattle.compare.proofs.PlainForms.{boolean-known, start-inside}
 use Rattle.compare.proofs.PlainTests.{told_other}
 use Rattle.compare.proofs.Formed.{of_and, two-written, can-true, and_first, and_second, and_left, and_right, and-other}
@@ -98,7 +97,7 @@ returns-then-not-same_booleans c =
     let x = c.plain_start-start.ensures in
     let h = told_other _ c.is_true.ensures c.if-is_true.false in
     let k = told_other _ c.is_true-2.ensures c.if-is_true-2.false in
-    and_no p.ends_of x _ _ h k c.if-w-start-ne-AND_WORD.false c.same_booleans-2.ensures (not-true _ c.if-not-same_booleans.true)
+    and_no p.ends_of x _ _ h k c.if-w-start-ne-AND_WORD.false c.same_booleans-2.ensures c.if-not-same_booleans.true
 
 pub overflow_add-start-2 : goal.overflow_add-start-2
 overflow_add-start-2 c =
@@ -130,4 +129,4 @@ returns c =
     let h = told_other _ c.is_true.ensures c.if-is_true.false in
     let k = told_other _ c.is_true-2.ensures c.if-is_true-2.false in
     and-on p.ends_of x _ _ h k c.if-w-start-ne-AND_WORD.false c.same_booleans-2.ensures
-    (not-false _ c.if-not-same_booleans.false) c.end_at.ensures c.same_booleans-3.ensures
+    c.if-not-same_booleans.false c.end_at.ensures c.same_booleans-3.ensures

@@ -2,7 +2,6 @@
 -- Assumes nothing.
 use mathlib.Core.Path.{refl}
 use native.Mathlib.Omega.{arith}
-use borrow.Author.Tests.{not-true, not-false}
 use Rattle.compare.proofs.PlainForms.{boolean-known, start-inside}
 use Rattle.compare.proofs.PlainTests.{told_other}
 use Rattle.compare.proofs.Formed.{of_and-not, two-written, can-true, and_first, and_left, and_right, and-other, and_no, and-on}
@@ -78,7 +77,7 @@ returns-then-not-same_booleans c =
     let x = c.plain_start-start.ensures in
     let h = told_other _ c.is_true.ensures c.if-is_true.false in
     and_no p.ends_of x _ _ h (not-true_not _) c.if-w-start-ne-AND_WORD.false c.same_booleans.ensures
-    (not-true _ c.if-not-same_booleans.true)
+    c.if-not-same_booleans.true
 
 pub overflow_add-start-2 : goal.overflow_add-start-2
 overflow_add-start-2 c =
@@ -109,5 +108,5 @@ returns c =
     let x = c.plain_start-start.ensures in
     let h = told_other _ c.is_true.ensures c.if-is_true.false in
     and-on p.ends_of x _ _ h (not-true_not _) c.if-w-start-ne-AND_WORD.false
-    c.same_booleans.ensures (not-false _ c.if-not-same_booleans.false) c.end_at.ensures
+    c.same_booleans.ensures c.if-not-same_booleans.false c.end_at.ensures
     c.same_not-2.ensures

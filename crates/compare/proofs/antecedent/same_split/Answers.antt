@@ -2,7 +2,6 @@
 -- Assumes nothing.
 use mathlib.Core.Path.{refl}
 use native.Mathlib.Omega.{arith}
-use borrow.Author.Tests.{not-true, not-false}
 use Rattle.compare.proofs.PlainForms.{boolean-known, start-inside}
 use Rattle.compare.proofs.Formed.{of-split, can-true, with_and, with_and_not, or_left, or_right, or-other, or_no, or-on}
 use Rattle.compare.proofs.antecedent.same_split.Goals as goal
@@ -52,7 +51,7 @@ returns-then-not-same_and c =
     let p = c.requires in
     let q = of-split p.form-at refl in
     let x = c.plain_start-start.ensures in
-    or_no p.ends_of x _ _ c.if-w-start-ne-OR_WORD.false c.same_and.ensures (not-true _ c.if-not-same_and.true)
+    or_no p.ends_of x _ _ c.if-w-start-ne-OR_WORD.false c.same_and.ensures c.if-not-same_and.true
 
 pub overflow_add-start-2 : goal.overflow_add-start-2
 overflow_add-start-2 c =
@@ -82,4 +81,4 @@ returns c =
     let q = of-split p.form-at refl in
     let x = c.plain_start-start.ensures in
     or-on p.ends_of x _ _ c.if-w-start-ne-OR_WORD.false c.same_and.ensures
-    (not-false _ c.if-not-same_and.false) c.end_at.ensures c.same_and_not.ensures
+    c.if-not-same_and.false c.end_at.ensures c.same_and_not.ensures

@@ -2,7 +2,6 @@
 -- left from the first boolean on.
 -- Assumes nothing.
 use native.Mathlib.Omega.{arith}
-use borrow.Author.Tests.{not-true, not-false}
 use Rattle.compare.proofs.PlainForms.{boolean-known, start-inside, other-head, joined, both-truth, both-comparison}
 use Rattle.compare.proofs.PlainForms.{comparisons-at, first-parts, second_parts, first-differ, not_same, second-same}
 use Rattle.compare.proofs.Formed.{can-true}
@@ -10,17 +9,17 @@ use Rattle.compare.proofs.plain.+same_plain.Goals as goal
 
 pub start_from-a-requires : goal.start_from-a-requires
 start_from-a-requires t c =
-    let p = c.requires.1 in
+    let p = c.requires in
     record { ends_of = p.two.ends_of; whole = p.two.first; other = p.first-other }
 
 pub start_from-b-requires : goal.start_from-b-requires
 start_from-b-requires t c =
-    let p = c.requires.1 in
+    let p = c.requires in
     record { ends_of = p.two.ends_of; whole = p.two.second; other = p.second-other }
 
 pub offset_bounds-w-a : goal.offset_bounds-w-a
 offset_bounds-w-a t c =
-    let p = c.requires.1 in
+    let p = c.requires in
     let o = p.two.ends_of in
     let x = c.start_from-a.ensures.from in
     let y = c.start_from-b.ensures.from in
@@ -29,7 +28,7 @@ offset_bounds-w-a t c =
 
 pub bounds-w-a : goal.bounds-w-a
 bounds-w-a t c =
-    let p = c.requires.1 in
+    let p = c.requires in
     let o = p.two.ends_of in
     let x = c.start_from-a.ensures.from in
     let y = c.start_from-b.ensures.from in
@@ -37,7 +36,7 @@ bounds-w-a t c =
 
 pub offset_bounds-w-b : goal.offset_bounds-w-b
 offset_bounds-w-b t c =
-    let p = c.requires.1 in
+    let p = c.requires in
     let o = p.two.ends_of in
     let x = c.start_from-a.ensures.from in
     let y = c.start_from-b.ensures.from in
@@ -46,7 +45,7 @@ offset_bounds-w-b t c =
 
 pub bounds-w-b : goal.bounds-w-b
 bounds-w-b t c =
-    let p = c.requires.1 in
+    let p = c.requires in
     let o = p.two.ends_of in
     let x = c.start_from-a.ensures.from in
     let y = c.start_from-b.ensures.from in
@@ -54,7 +53,7 @@ bounds-w-b t c =
 
 pub returns-then-x-w : goal.returns-then-x-w
 returns-then-x-w t c =
-    let p = c.requires.1 in
+    let p = c.requires in
     let o = p.two.ends_of in
     let x = c.start_from-a.ensures.from in
     let y = c.start_from-b.ensures.from in
@@ -62,7 +61,7 @@ returns-then-x-w t c =
 
 pub returns-then-kind-eq-TRUTH : goal.returns-then-kind-eq-TRUTH
 returns-then-kind-eq-TRUTH t c =
-    let p = c.requires.1 in
+    let p = c.requires in
     let o = p.two.ends_of in
     let x = c.start_from-a.ensures.from in
     let y = c.start_from-b.ensures.from in
@@ -70,7 +69,7 @@ returns-then-kind-eq-TRUTH t c =
 
 pub same_changed-requires : goal.same_changed-requires
 same_changed-requires t c =
-    let p = c.requires.1 in
+    let p = c.requires in
     let o = p.two.ends_of in
     let x = c.start_from-a.ensures.from in
     let y = c.start_from-b.ensures.from in
@@ -78,7 +77,7 @@ same_changed-requires t c =
 
 pub returns-then-kind-eq-COMPARISON : goal.returns-then-kind-eq-COMPARISON
 returns-then-kind-eq-COMPARISON t c =
-    let p = c.requires.1 in
+    let p = c.requires in
     let o = p.two.ends_of in
     let x = c.start_from-a.ensures.from in
     let y = c.start_from-b.ensures.from in
@@ -86,7 +85,7 @@ returns-then-kind-eq-COMPARISON t c =
 
 pub left_other-left-requires : goal.left_other-left-requires
 left_other-left-requires t c =
-    let p = c.requires.1 in
+    let p = c.requires in
     let o = p.two.ends_of in
     let x = c.start_from-a.ensures.from in
     let y = c.start_from-b.ensures.from in
@@ -100,7 +99,7 @@ left_other-left-requires t c =
 
 pub overflow_add-a : goal.overflow_add-a
 overflow_add-a t c =
-    let p = c.requires.1 in
+    let p = c.requires in
     let o = p.two.ends_of in
     let x = c.start_from-a.ensures.from in
     let y = c.start_from-b.ensures.from in
@@ -109,7 +108,7 @@ overflow_add-a t c =
 
 pub overflow_add-b : goal.overflow_add-b
 overflow_add-b t c =
-    let p = c.requires.1 in
+    let p = c.requires in
     let o = p.two.ends_of in
     let x = c.start_from-a.ensures.from in
     let y = c.start_from-b.ensures.from in
@@ -118,7 +117,7 @@ overflow_add-b t c =
 
 pub left_other-requires : goal.left_other-requires
 left_other-requires t c =
-    let p = c.requires.1 in
+    let p = c.requires in
     let o = p.two.ends_of in
     let x = c.start_from-a.ensures.from in
     let y = c.start_from-b.ensures.from in
@@ -132,14 +131,14 @@ left_other-requires t c =
 
 pub same_plain-requires : goal.same_plain-requires
 same_plain-requires t c =
-    let p = c.requires.1 in
+    let p = c.requires in
     let o = p.two.ends_of in
     let x = c.start_from-a.ensures.from in
     let y = c.start_from-b.ensures.from in
     let two = joined o x y c.if-x-w.false c.if-kind-eq-TRUTH.false c.if-kind-eq-COMPARISON.false in
     let i = start-inside o x in
     let l = x.further in
-    let m = c.requires.0 in (
+    let m = c.decreases in (
       omega arith,
       record {
         two = first-parts o c.args.change two p.two.change-at;
@@ -150,25 +149,25 @@ same_plain-requires t c =
 
 pub returns-then-not-same_plain : goal.returns-then-not-same_plain
 returns-then-not-same_plain t c =
-    let p = c.requires.1 in
+    let p = c.requires in
     let o = p.two.ends_of in
     let x = c.start_from-a.ensures.from in
     let y = c.start_from-b.ensures.from in
     let two = joined o x y c.if-x-w.false c.if-kind-eq-TRUTH.false c.if-kind-eq-COMPARISON.false in
-    first-differ o c.args.change two c.same_plain.ensures (not-true _ c.if-not-same_plain.true)
+    first-differ o c.args.change two c.same_plain.ensures c.if-not-same_plain.true
 
 pub returns-then-kind-eq-NOT : goal.returns-then-kind-eq-NOT
 returns-then-kind-eq-NOT t c =
-    let p = c.requires.1 in
+    let p = c.requires in
     let o = p.two.ends_of in
     let x = c.start_from-a.ensures.from in
     let y = c.start_from-b.ensures.from in
     let two = joined o x y c.if-x-w.false c.if-kind-eq-TRUTH.false c.if-kind-eq-COMPARISON.false in
-    not_same o c.args.change two c.same_plain.ensures (not-false _ c.if-not-same_plain.false) c.if-kind-eq-NOT.true
+    not_same o c.args.change two c.same_plain.ensures c.if-not-same_plain.false c.if-kind-eq-NOT.true
 
 pub overflow_add-a-2 : goal.overflow_add-a-2
 overflow_add-a-2 t c =
-    let p = c.requires.1 in
+    let p = c.requires in
     let o = p.two.ends_of in
     let x = c.start_from-a.ensures.from in
     let y = c.start_from-b.ensures.from in
@@ -177,7 +176,7 @@ overflow_add-a-2 t c =
 
 pub end_at-c-requires : goal.end_at-c-requires
 end_at-c-requires t c =
-    let p = c.requires.1 in
+    let p = c.requires in
     let o = p.two.ends_of in
     let x = c.start_from-a.ensures.from in
     let y = c.start_from-b.ensures.from in
@@ -186,7 +185,7 @@ end_at-c-requires t c =
 
 pub overflow_add-b-2 : goal.overflow_add-b-2
 overflow_add-b-2 t c =
-    let p = c.requires.1 in
+    let p = c.requires in
     let o = p.two.ends_of in
     let x = c.start_from-a.ensures.from in
     let y = c.start_from-b.ensures.from in
@@ -195,7 +194,7 @@ overflow_add-b-2 t c =
 
 pub end_at-d-requires : goal.end_at-d-requires
 end_at-d-requires t c =
-    let p = c.requires.1 in
+    let p = c.requires in
     let o = p.two.ends_of in
     let x = c.start_from-a.ensures.from in
     let y = c.start_from-b.ensures.from in
@@ -204,7 +203,7 @@ end_at-d-requires t c =
 
 pub other_of-right-requires : goal.other_of-right-requires
 other_of-right-requires t c =
-    let p = c.requires.1 in
+    let p = c.requires in
     let o = p.two.ends_of in
     let x = c.start_from-a.ensures.from in
     let y = c.start_from-b.ensures.from in
@@ -213,7 +212,7 @@ other_of-right-requires t c =
 
 pub other_of-requires : goal.other_of-requires
 other_of-requires t c =
-    let p = c.requires.1 in
+    let p = c.requires in
     let o = p.two.ends_of in
     let x = c.start_from-a.ensures.from in
     let y = c.start_from-b.ensures.from in
@@ -222,7 +221,7 @@ other_of-requires t c =
 
 pub same_plain-requires-2 : goal.same_plain-requires-2
 same_plain-requires-2 t c =
-    let p = c.requires.1 in
+    let p = c.requires in
     let o = p.two.ends_of in
     let x = c.start_from-a.ensures.from in
     let y = c.start_from-b.ensures.from in
@@ -230,7 +229,7 @@ same_plain-requires-2 t c =
     let n = (boolean-known o (first-parts o c.args.change two p.two.change-at).first).start in
     let i = start-inside o x in
     let l = x.further in
-    let m = c.requires.0 in
+    let m = c.decreases in
     let e = c.end_at-c.ensures in (
       omega arith,
       record {
@@ -242,10 +241,10 @@ same_plain-requires-2 t c =
 
 pub returns : goal.returns
 returns t c =
-    let p = c.requires.1 in
+    let p = c.requires in
     let o = p.two.ends_of in
     let x = c.start_from-a.ensures.from in
     let y = c.start_from-b.ensures.from in
     let two = joined o x y c.if-x-w.false c.if-kind-eq-TRUTH.false c.if-kind-eq-COMPARISON.false in
-    second-same o c.args.change two c.same_plain.ensures (not-false _ c.if-not-same_plain.false) c.if-kind-eq-NOT.false c.end_at-c.ensures
+    second-same o c.args.change two c.same_plain.ensures c.if-not-same_plain.false c.if-kind-eq-NOT.false c.end_at-c.ensures
     c.end_at-d.ensures c.same_plain-2.ensures

@@ -1,7 +1,7 @@
 -- `compare::plain::same_plain` meets its contract: the first words of two plain forms, then their operands. The measure is the words
 -- left from the first boolean on.
 -- Assumes nothing.
-use Prim.Native.Nat.{ℕ, ◌-◌}
+use Prim.Native.Nat.{◌-◌}
 use lib.ListN.{length}
 use Rattle.compare.proofs.plain.+same_plain.Given as goal
 

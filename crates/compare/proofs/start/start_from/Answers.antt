@@ -3,7 +3,6 @@
 -- Assumes nothing.
 use mathlib.Core.Path.{refl}
 use native.Mathlib.Omega.{arith}
-use borrow.Author.Tests.{not-true, not-false}
 use Rattle.compare.proofs.Starts.{descends_start, place_inside, other-settled, first-listed, second-boolean}
 use Rattle.compare.proofs.Starts.{second-further, left-dropped, right-dropped, and-settled}
 use Rattle.compare.proofs.Formed.{can-true}
@@ -63,7 +62,7 @@ returns-then-not-is_true c =
     let p = c.requires in
     let d = c.loop-at.invariant in
     and-settled p.ends_of p.other d c.loop-at-test.true c.end_at-second.ensures
-    c.if-second-other.false c.is_true.ensures (not-true _ c.if-not-is_true.true)
+    c.if-second-other.false c.is_true.ensures c.if-not-is_true.true
 
 pub overflow_add-at-else-second-other : goal.overflow_add-at-else-second-other
 overflow_add-at-else-second-other c =
@@ -84,7 +83,7 @@ loop-at-preserved c =
     let p = c.requires in
     let d = c.loop-at.invariant in
     right-dropped p.ends_of p.other d c.loop-at-test.true c.end_at-second.ensures
-    c.if-second-other.false c.is_true.ensures (not-false _ c.if-not-is_true.false)
+    c.if-second-other.false c.is_true.ensures c.if-not-is_true.false
 
 pub returns : goal.returns
 returns c =
