@@ -9,7 +9,6 @@ use Rattle.execution.specs.Evaluate.{Evaluation, worked, stops, in_range, tested
 use Rattle.arithmetic.specs.declared.Worked.{Worked}
 use Rattle.arithmetic.specs.declared.Worked.TheVariants.{Value, Stops}
 use Rattle.arithmetic.specs.declared.Index.{Index}
-use Rattle.arithmetic.specs.declared.Index.TheVariants as Index
 
 abbrev pub outcome : Worked → Evaluation ℤ
 outcome (Value z) = worked z

@@ -27,18 +27,16 @@ overflow_sub-result-then-a-b c =
     sub_down _ _ (held c.ranges.a) (held c.ranges.b) c.if-b-ge0.false
     c.if-a-b.true
 
--- TODO bare context c
 pub returns-then-b-a : goal.returns-then-b-a
-returns-then-b-a c = value (sub-t8 c) ∙ diff c.ranges.a c.ranges.b
+returns-then-b-a c = value (sub_up _ _ (held c.ranges.a) (held c.ranges.b) c.if-b-ge0.true c.if-b-a.true) ∙ diff c.ranges.a c.ranges.b
 
 pub returns-else-b-a : goal.returns-else-b-a
 returns-else-b-a c =
     too_large _ (sub_under _ _ (held c.ranges.a) (held c.ranges.b)
     c.if-b-ge0.true c.if-b-a.false) ∙ diff c.ranges.a c.ranges.b
 
--- TODO bare context c
 pub returns-then-a-b : goal.returns-then-a-b
-returns-then-a-b c = value (sub-t12 c) ∙ diff c.ranges.a c.ranges.b
+returns-then-a-b c = value (sub_down _ _ (held c.ranges.a) (held c.ranges.b) c.if-b-ge0.false c.if-a-b.true) ∙ diff c.ranges.a c.ranges.b
 
 pub returns-else-a-b : goal.returns-else-a-b
 returns-else-a-b c =

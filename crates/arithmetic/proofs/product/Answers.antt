@@ -28,9 +28,8 @@ overflow_mul-result c =
     c.size-n.ensures c.most.ensures c.if-n-eq0.false
     c.if-m-most.true
 
--- TODO bare context c
 pub returns-then-m-most : goal.returns-then-m-most
-returns-then-m-most c = value (mul-t9 c) ∙ ap checked (prod c.ranges.a c.ranges.b)
+returns-then-m-most c = value (mul_ok (hold c.args.a) (hold c.args.b) _ _ _ c.size-m.ensures c.size-n.ensures c.most.ensures c.if-n-eq0.false c.if-m-most.true) ∙ ap checked (prod c.ranges.a c.ranges.b)
 
 pub returns-else-m-most : goal.returns-else-m-most
 returns-else-m-most c =

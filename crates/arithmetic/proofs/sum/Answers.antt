@@ -28,18 +28,16 @@ overflow_add-result-then-b-a c =
     add_down _ _ (held c.ranges.a) (held c.ranges.b) c.if-b-ge0.false
     c.if-b-a.true
 
--- TODO bare context c
 pub returns-then-a-b : goal.returns-then-a-b
-returns-then-a-b c = value (add-t8 c) ∙ sum c.ranges.a c.ranges.b
+returns-then-a-b c = value (add_up _ _ (held c.ranges.a) (held c.ranges.b) c.if-b-ge0.true c.if-a-b.true) ∙ sum c.ranges.a c.ranges.b
 
 pub returns-else-a-b : goal.returns-else-a-b
 returns-else-a-b c =
     too_large _ (add_over _ _ (held c.ranges.a) (held c.ranges.b)
     c.if-b-ge0.true c.if-a-b.false) ∙ sum c.ranges.a c.ranges.b
 
--- TODO bare context c
 pub returns-then-b-a : goal.returns-then-b-a
-returns-then-b-a c = value (add-t12 c) ∙ sum c.ranges.a c.ranges.b
+returns-then-b-a c = value (add_down _ _ (held c.ranges.a) (held c.ranges.b) c.if-b-ge0.false c.if-b-a.true) ∙ sum c.ranges.a c.ranges.b
 
 pub returns-else-b-a : goal.returns-else-b-a
 returns-else-b-a c =
