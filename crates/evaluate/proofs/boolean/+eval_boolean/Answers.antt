@@ -10,91 +10,87 @@ use Rattle.evaluate.proofs.Results.{and-settled, or-settled}
 use Rattle.evaluate.proofs.boolean.+eval_boolean.Goals as goal
 
 pub boolean_head-head-requires : goal.boolean_head-head-requires
-boolean_head-head-requires t c = boolean-allowed c.requires.1
+boolean_head-head-requires t c = boolean-allowed c.requires
 
 pub overflow_add-at : goal.overflow_add-at
-overflow_add-at t c = let i = expression-early c.requires.1 in omega arith
+overflow_add-at t c = let i = expression-early c.requires in omega arith
 
 pub eval_operand-a-requires : goal.eval_operand-a-requires
 eval_operand-a-requires t c =
-    let p = c.requires.1 in
+    let p = c.requires in
     let x = boolean-parts p.tree p.there (sym c.boolean_head-head.ensures ∙ c.in-Compare.is) in (first-operand x).can
 
 pub overflow_add-at-in-Compare : goal.overflow_add-at-in-Compare
 overflow_add-at-in-Compare t c =
-    let i = expression-early c.requires.1 in
+    let i = expression-early c.requires in
     omega arith
 
 pub end_at-second-requires : goal.end_at-second-requires
 end_at-second-requires t c =
-    let p = c.requires.1 in
+    let p = c.requires in
     let x = boolean-parts p.tree p.there (sym c.boolean_head-head.ensures ∙ c.in-Compare.is) in let h = (first-operand x).listed in omega arith
 
 pub eval_operand-b-requires : goal.eval_operand-b-requires
 eval_operand-b-requires t c =
-    let p = c.requires.1 in
+    let p = c.requires in
     let x = boolean-parts p.tree p.there (sym c.boolean_head-head.ensures ∙ c.in-Compare.is) in (second-operand x
     c.end_at-second.ensures).can
 
 pub overflow_add-at-in-And : goal.overflow_add-at-in-And
-overflow_add-at-in-And t c = let i = expression-early c.requires.1 in omega arith
+overflow_add-at-in-And t c = let i = expression-early c.requires in omega arith
 
 pub eval_boolean-a-requires : goal.eval_boolean-a-requires
 eval_boolean-a-requires t c =
-    let p = c.requires.1 in
-    let x = boolean-parts p.tree p.there (sym c.boolean_head-head.ensures ∙ c.in-And.is) in let o = first-operand x in let m = c.requires.0 in
+    let p = c.requires in
+    let x = boolean-parts p.tree p.there (sym c.boolean_head-head.ensures ∙ c.in-And.is) in let o = first-operand x in let m = c.decreases in
     (omega arith, o.can)
 
 pub overflow_add-at-then-a : goal.overflow_add-at-then-a
-overflow_add-at-then-a t c = let i = expression-early c.requires.1 in omega arith
+overflow_add-at-then-a t c = let i = expression-early c.requires in omega arith
 
 pub end_at-requires : goal.end_at-requires
 end_at-requires t c =
-    let p = c.requires.1 in
+    let p = c.requires in
     let x = boolean-parts p.tree p.there (sym c.boolean_head-head.ensures ∙ c.in-And.is) in
     let h = (first-operand x).listed in omega arith
 
--- TODO no field pre.0
--- TODO bare context c
 pub eval_boolean-requires : goal.eval_boolean-requires
 eval_boolean-requires t c =
-    let p = c.requires.1 in
+    let p = c.requires in
     let x = boolean-parts p.tree p.there (sym c.boolean_head-head.ensures ∙ c.in-And.is) in
-    let o = second-operand x c.end_at.ensures in let m = c⟨?⟩.pre.0 in (omega arith, o.can)
+    let o = second-operand x c.end_at.ensures in let m = c.decreases in (omega arith, o.can)
 
 pub overflow_add-at-in-Or : goal.overflow_add-at-in-Or
-overflow_add-at-in-Or t c = let i = expression-early c.requires.1 in omega arith
+overflow_add-at-in-Or t c = let i = expression-early c.requires in omega arith
 
 pub eval_boolean-a-requires-in-Or : goal.eval_boolean-a-requires-in-Or
 eval_boolean-a-requires-in-Or t c =
-    let p = c.requires.1 in
+    let p = c.requires in
     let x = boolean-parts p.tree p.there (sym c.boolean_head-head.ensures ∙ c.in-Or.is) in let o = first-operand x in let m =
-    c.requires.0 in (omega arith, o.can)
+    c.decreases in (omega arith, o.can)
 
 pub overflow_add-at-else-a-2 : goal.overflow_add-at-else-a-2
-overflow_add-at-else-a-2 t c = let i = expression-early c.requires.1 in omega arith
+overflow_add-at-else-a-2 t c = let i = expression-early c.requires in omega arith
 
 pub end_at-requires-else-a-2 : goal.end_at-requires-else-a-2
 end_at-requires-else-a-2 t c =
-    let p = c.requires.1 in
+    let p = c.requires in
     let x = boolean-parts p.tree p.there (sym c.boolean_head-head.ensures ∙ c.in-Or.is) in
     let h = (first-operand x).listed in omega arith
 
--- TODO no field pre.0
--- TODO bare context c
 pub eval_boolean-requires-else-a-2 : goal.eval_boolean-requires-else-a-2
 eval_boolean-requires-else-a-2 t c =
-    let p = c.requires.1 in
+    let p = c.requires in
     let x = boolean-parts p.tree p.there (sym c.boolean_head-head.ensures ∙ c.in-Or.is) in
-    let o = second-operand x c.end_at-else-a-2.ensures in let m = c⟨?⟩.pre.0 in (omega arith, o.can)
+    let o = second-operand x c.end_at-else-a-2.ensures in let m = c.decreases in (omega arith, o.can)
 
 pub overflow_add-at-in-Not : goal.overflow_add-at-in-Not
-overflow_add-at-in-Not t c = let i = expression-early c.requires.1 in omega arith
+overflow_add-at-in-Not t c = let i = expression-early c.requires in omega arith
 
 pub eval_boolean-a-requires-in-Not : goal.eval_boolean-a-requires-in-Not
 eval_boolean-a-requires-in-Not t c =
-    let p = c.requires.1 in
-    let x = boolean-parts p.tree p.there (sym c.boolean_head-head.ensures ∙ c.in-Not.is) in let o = only-operand x in let m = c.requires.0 in
+    let p = c.requires in
+    let x = boolean-parts p.tree p.there (sym c.boolean_head-head.ensures ∙ c.in-Not.is) in let o = only-operand x in let m = c.decreases in
     (omega arith, o.can)
 
 pub returns-in-Compare : goal.returns-in-Compare
@@ -132,5 +128,5 @@ returns-in-Not t c = not_tested (sym c.boolean_head-head.ensures ∙ c.in-Not.is
 
 pub returns-in-Other : goal.returns-in-Other
 returns-in-Other t c =
-    let p = c.requires.1 in
+    let p = c.requires in
     absurd (boolean-parts p.tree p.there (sym c.boolean_head-head.ensures ∙ c.in-Other.is))

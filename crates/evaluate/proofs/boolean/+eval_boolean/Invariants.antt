@@ -1,7 +1,6 @@
 -- `evaluate::boolean::eval_boolean` meets its contract: what comes of an expression is what comes of its operands. The
 -- measure is the words left from the expression on.
 -- Assumes nothing.
-use Prim.Native.Nat.{ℕ}
 use Rattle.evaluate.proofs.Places.{left}
 use Rattle.evaluate.proofs.boolean.+eval_boolean.Given as goal
 

@@ -2,7 +2,7 @@
 -- expression is what comes of its operands. The measure is the words left from the expression on, four times, and 3 for an
 -- operand, 2 for any arithmetic expression, 1 for an array or a select.
 -- Assumes nothing.
-use Prim.Native.Nat.{ℕ, ◌+◌}
+use Prim.Native.Nat.{◌+◌}
 use Rattle.evaluate.proofs.Places.{left}
 use Rattle.evaluate.proofs.expression.+eval_arithmetic_eval_array_eval_operand_eval_select_select_whole.Given as goal
 

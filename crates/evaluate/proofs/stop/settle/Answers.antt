@@ -1,4 +1,5 @@
 -- `evaluate::stop::settle` meets its contract: a value that is in range, or 14. Assumes nothing.
+use borrow.Author.Rules.{rules}
 use mathlib.Core.Path.{sym, ap, ◌∙◌}
 use Rattle.execution.specs.Evaluate.{stops}
 use Rattle.arithmetic.specs.Worked.{outcome}
@@ -9,7 +10,7 @@ use Rattle.evaluate.proofs.stop.settle.Goals as goal
 pub returns-in-Value : goal.returns-in-Value
 returns-in-Value c z e =
     answered-as (ap outcome (sym c.in-Value.is) ∙ e)
-    (answered (back (record { sfits = c.in-Value.known_told-1-own.given.0.1 })))
+    (answered (back (search rules)))
 
 pub returns-in-Stops : goal.returns-in-Stops
 returns-in-Stops c z e =

@@ -10,15 +10,8 @@ use lib.Seq.{paste, paste-zero, paste-suc, get_or-drop}
 use mir.Syntax.{w64}
 use mir.Val.{SFits, to_z, of_z}
 use mir.Facts.{to_z-of_z}
+use Rattle.evaluate.proofs.store.copy.Invariants.{Copied}
 use Rattle.evaluate.proofs.store.copy.Goals as goal
-
--- j values are copied
-record Copied (d₀ : List ℤ) (at : ℕ) (s : List ℤ) (from n : ℕ) (d : List ℤ) (j : ℕ) : Type 0 where
-  upto : j ≤ n
-  to-fits : at + n ≤ length d₀
-  from-fits : from + n ≤ length s
-  long : length d ≡ length d₀
-  is : d ≡ paste d₀ at (drop from s) j
 
 copied_none : (d₀ : List ℤ) (at : ℕ) (s : List ℤ) (from n : ℕ) → at + n ≤ length d₀ → from + n ≤ length s →
     Copied d₀ at s from n d₀ 0
