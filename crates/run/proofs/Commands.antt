@@ -45,7 +45,7 @@ use Rattle.run.specs.Turns.{over}
 use Rattle.run.specs.Turns.{TestsLoop, Increments, EndsPass, TurnsAs, TurnAs, PassAs}
 use Rattle.run.specs.declared.Loop.{Loop}
 use Rattle.run.specs.declared.Loop.TheVariants.{Test, Count}
-use Rattle.run.proofs.Steps.{running, step-taken, step-refused, stepped_skip, given-step, left-kept, due}
+use Rattle.run.proofs.Steps.{step-taken, step-refused, stepped_skip, given-step, left-kept, due}
 use Rattle.run.proofs.Steps.{ended-on, stopped-on}
 use Rattle.run.proofs.Bodies.{command-end_is, part_end, placed}
 

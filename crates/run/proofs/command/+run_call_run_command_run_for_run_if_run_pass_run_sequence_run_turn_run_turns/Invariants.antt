@@ -3,11 +3,16 @@
 -- grow and of which a call takes one, and then the words left from the command on, five times, so that the functions for
 -- parts of a command come between it and its own parts; a loop's is the steps left.
 -- Assumes nothing.
-use Prim.Native.Nat.{ℕ, ◌+◌}
+use mathlib.Core.List.{List}
+use Prim.Native.Nat.{ℕ, ◌+◌, ◌*◌, ◌-◌}
 use Rattle.execution.specs.Lent.{lent}
 use Rattle.run.specs.Steps.{steps_left}
 use Rattle.run.proofs.Turns.{LoopGoing}
 use Rattle.run.proofs.command.+run_call_run_command_run_for_run_if_run_pass_run_sequence_run_turn_run_turns.Given as goal
+
+-- of a run's progress, and a place below 8,192: a step is more than all words
+abbrev pub left : List ℕ → ℕ → ℕ
+left s at = 40965 * steps_left s + 5 * (8192 - at)
 
 abbrev pub decreases-run_call : goal.decreases-run_call
 decreases-run_call l = left l.progress.now l.at + 1

@@ -12,11 +12,11 @@ returns-then-test c =
     c.take_step.ensures)
 
 pub bounds-progress-2 : goal.bounds-progress-2
-bounds-progress-2 c = let l = c.requires.sized in let k = c.take_step.auto.0 in simp length-set (omega arith)
+bounds-progress-2 c = let l = c.requires.sized in let k = c.take_step.auto.progress in simp length-set (omega arith)
 
 pub returns-else-test : goal.returns-else-test
 returns-else-test c =
-    asserts-false c.if-test.false (c.take_step.auto.0 ∙
+    asserts-false c.if-test.false (c.take_step.auto.progress ∙
     c.requires.sized) (subst (Stepped _ _ _)
     c.if-take_step.true c.take_step.ensures)
 
