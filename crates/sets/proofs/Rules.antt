@@ -11,7 +11,7 @@ use Rattle.language.specs.Syntax.{truth, neg}
 use Rattle.rules.specs.Assertion.{member, one}
 use Rattle.rules.specs.Replace.{replacement, replace_members}
 use Rattle.rules.specs.Sets.{under}
-use Rattle.rules.specs.Tests.{stands, same}
+use Rattle.rules.specs.Tests.{same}
 use Rattle.ends.specs.Ends.{EndsOf}
 use Rattle.matching.specs.declared.cursor.Put.{Put}
 use Rattle.compare.proofs.Halves.{is_true, is-verbatim}

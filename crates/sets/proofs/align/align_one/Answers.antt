@@ -2,7 +2,6 @@
 -- Assumes nothing.
 use mathlib.Core.Path.{refl}
 use native.Mathlib.Omega.{arith}
-use borrow.Author.Tests.{not-false}
 use Rattle.sets.proofs.Members.{member-pass}
 use Rattle.sets.proofs.Items.{pair_at}
 use Rattle.sets.proofs.Loops.{same-as}
@@ -36,4 +35,4 @@ pub returns : goal.returns
 returns c =
     let p = c.requires in
     one-aligned _ p.members c.if-n-eq0.false (same-as _ _ c.pair_item.ensures _ c.same_item.ensures)
-    (not-false _ c.if-not-same_item.false) c.past_member-next.ensures refl refl
+    c.if-not-same_item.false c.past_member-next.ensures refl refl

@@ -2,7 +2,6 @@
 -- Assumes nothing.
 use mathlib.Core.Path.{refl}
 use native.Mathlib.Omega.{arith}
-use borrow.Author.Tests.{not-false}
 use Rattle.sets.proofs.Members.{member-pass}
 use Rattle.sets.proofs.Aligned.{aligning_start, aligning_on, aligning_end, aligns_not, first_member, part-first}
 use Rattle.sets.proofs.align.align_seen.Goals as goal
@@ -43,7 +42,7 @@ pub loop-j-preserved : goal.loop-j-preserved
 loop-j-preserved c =
     aligning_on c.loop-j.invariant c.loop-j-test.true c.if-left-eq0.false
     c.same_seen.ensures
-    (not-false _ c.if-not-same_seen.false) c.past_member-i.ensures c.past_member-a.ensures
+    c.if-not-same_seen.false c.past_member-i.ensures c.past_member-a.ensures
 
 pub returns : goal.returns
 returns c = aligning_end c.loop-j.invariant c.loop-j-test.false refl refl

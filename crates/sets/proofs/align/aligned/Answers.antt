@@ -1,6 +1,5 @@
 -- `sets::align::aligned` meets its contract, one pile after the other.
 -- Assumes nothing.
-use borrow.Author.Tests.{not-false}
 use Rattle.sets.proofs.Aligned.{aligned_not, aligned_is}
 use Rattle.sets.proofs.align.aligned.Goals as goal
 
@@ -17,7 +16,7 @@ align_pile-y-requires c =
     let p = c.requires in
     record {
       ends_of = p.ends_of;
-      members = (c.align_pile-x.ensures.does (not-false _ c.if-not-same.false)).members;
+      members = (c.align_pile-x.ensures.does c.if-not-same.false).members;
       pile_at = p.piles_at.second_at;
     }
 
@@ -29,7 +28,7 @@ align_pile-z-requires c =
     let p = c.requires in
     record {
       ends_of = p.ends_of;
-      members = (c.align_pile-y.ensures.does (not-false _ c.if-not-same-2.false)).members;
+      members = (c.align_pile-y.ensures.does c.if-not-same-2.false).members;
       pile_at = p.piles_at.third_at;
     }
 
@@ -39,5 +38,5 @@ returns-then-not-same-3 c = aligned_not
 pub returns : goal.returns
 returns c =
     aligned_is c.align_pile-x.ensures
-    (not-false _ c.if-not-same.false) c.align_pile-y.ensures
-    (not-false _ c.if-not-same-2.false) c.align_pile-z.ensures (not-false _ c.if-not-same-3.false)
+    c.if-not-same.false c.align_pile-y.ensures
+    c.if-not-same-2.false c.align_pile-z.ensures c.if-not-same-3.false

@@ -1,6 +1,5 @@
 -- `sets::item::same_item` meets its contract, half by half.
 -- Assumes nothing.
-use borrow.Author.Tests.{not-true, not-false}
 use Rattle.sets.proofs.Members.{antecedent-any, consequent-any, any-known}
 use Rattle.sets.proofs.Items.{item-not, item-so}
 use Rattle.sets.proofs.item.same_item.Goals as goal
@@ -18,7 +17,7 @@ same_consequent-requires c =
 
 pub returns-then-not-same_consequent : goal.returns-then-not-same_consequent
 returns-then-not-same_consequent c =
-    item-not _ _ _ _ _ c.end_at-middle.ensures c.same_consequent.ensures (not-true _ c.if-not-same_consequent.true)
+    item-not _ _ _ _ _ c.end_at-middle.ensures c.same_consequent.ensures c.if-not-same_consequent.true
 
 pub same_antecedent-requires : goal.same_antecedent-requires
 same_antecedent-requires c =
@@ -27,5 +26,5 @@ same_antecedent-requires c =
 
 pub returns : goal.returns
 returns c =
-    item-so _ _ _ _ _ c.end_at-middle.ensures c.same_consequent.ensures (not-false _ c.if-not-same_consequent.false)
+    item-so _ _ _ _ _ c.end_at-middle.ensures c.same_consequent.ensures c.if-not-same_consequent.false
     c.same_antecedent.ensures

@@ -1,7 +1,6 @@
 -- `sets::item::same_pair` meets its contract, half by half.
 -- Assumes nothing.
 use mathlib.Core.Path.{refl}
-use borrow.Author.Tests.{not-true, not-false}
 use Rattle.compare.proofs.Forms.{of-verbatim, consequent-written}
 use Rattle.compare.proofs.Formed.{of-written, two-written, by_written}
 use Rattle.sets.proofs.Members.{antecedent-any, consequent-any, any-known}
@@ -21,7 +20,7 @@ returns-then-not-same_consequents c =
     let p = c.requires in
     item-not _ _ _ _ _ c.end_at-middle.ensures
     (consequent-written _ _ _ (any-known p.ends_of (consequent-any p.member c.end_at-middle.ensures)) _ _ refl
-    c.same_consequents.ensures) (not-true _ c.if-not-same_consequents.true)
+    c.same_consequents.ensures) c.if-not-same_consequents.true
 
 pub same_booleans-requires : goal.same_booleans-requires
 same_booleans-requires c =
@@ -33,5 +32,5 @@ returns c =
     let p = c.requires in
     item-so _ _ _ _ _ c.end_at-middle.ensures
     (consequent-written _ _ _ (any-known p.ends_of (consequent-any p.member c.end_at-middle.ensures)) _ _ refl
-    c.same_consequents.ensures) (not-false _ c.if-not-same_consequents.false)
+    c.same_consequents.ensures) c.if-not-same_consequents.false
     (by_written _ _ _ _ refl c.same_booleans.ensures)

@@ -1,6 +1,5 @@
 -- `sets::item::same_words` meets its contract, half by half.
 -- Assumes nothing.
-use borrow.Author.Tests.{not-true, not-false}
 use Rattle.sets.proofs.Members.{antecedent-any, consequent-any, any-known}
 use Rattle.sets.proofs.Items.{words-not, words-so}
 use Rattle.sets.proofs.item.same_words.Goals as goal
@@ -22,7 +21,7 @@ pub returns-then-not-same_consequents : goal.returns-then-not-same_consequents
 returns-then-not-same_consequents c =
     let p = c.requires in
     words-not p.member p.other c.end_at-middle.ensures c.end_at.ensures c.same_consequents.ensures
-    (not-true _ c.if-not-same_consequents.true)
+    c.if-not-same_consequents.true
 
 pub same_parts-requires : goal.same_parts-requires
 same_parts-requires c =
@@ -33,4 +32,4 @@ pub returns : goal.returns
 returns c =
     let p = c.requires in
     words-so p.member p.other c.end_at-middle.ensures c.end_at.ensures c.same_consequents.ensures
-    (not-false _ c.if-not-same_consequents.false) c.same_parts.ensures
+    c.if-not-same_consequents.false c.same_parts.ensures

@@ -1,7 +1,6 @@
 -- `sets::member::rest_in` meets its contract. The invariant: each of all is there exactly if each of those that are left is.
 -- Assumes nothing.
 use Rattle.sets.proofs.Members.{member-pass}
-use borrow.Author.Tests.{not-true, not-false}
 use Rattle.sets.proofs.Loops.{left-start, left-first, left-stop, left-on, left_end, rest-stop, rest-skip, end_rest}
 use Rattle.sets.proofs.member.rest_in.Goals as goal
 
@@ -24,7 +23,7 @@ returns-then-not-has_either c =
     let l = c.loop-n in
     left-stop l.invariant c.loop-n-test.true
     (rest-stop _ _ _ c.has_either.result c.has_either.ensures
-    (not-true _ c.if-not-has_either.true))
+    c.if-not-has_either.true)
 
 pub past_member-i-requires : goal.past_member-i-requires
 past_member-i-requires c =
@@ -37,7 +36,7 @@ loop-n-preserved c =
     let l = c.loop-n in
     left-on l.invariant c.loop-n-test.true c.past_member-i.ensures
     (rest-skip _ _ _ c.has_either.result
-    c.has_either.ensures (not-false _ c.if-not-has_either.false))
+    c.has_either.ensures c.if-not-has_either.false)
 
 pub returns : goal.returns
 returns c = let l = c.loop-n in left_end l.invariant c.loop-n-test.false (end_rest _ _)

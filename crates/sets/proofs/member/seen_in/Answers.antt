@@ -1,7 +1,6 @@
 -- `sets::member::seen_in` meets its contract. The invariant: each of all is there exactly if each of those that are left is.
 -- Assumes nothing.
 use Rattle.sets.proofs.Members.{member-pass}
-use borrow.Author.Tests.{not-true, not-false}
 use Rattle.sets.proofs.Items.{seen_at}
 use Rattle.sets.proofs.Loops.{left-start, left-first, left-stop, left-on, left_end, within-stop}
 use Rattle.sets.proofs.Loops.{within-skip, has-as, end-within}
@@ -29,7 +28,7 @@ pub returns-then-not-has_item : goal.returns-then-not-has_item
 returns-then-not-has_item c =
     left-stop c.loop-n.invariant c.loop-n-test.true
     (within-stop _ _ c.has_item.result (has-as _ _ c.seen_item-item.ensures _ c.has_item.ensures)
-    (not-true _ c.if-not-has_item.true))
+    c.if-not-has_item.true)
 
 pub past_member-i-requires : goal.past_member-i-requires
 past_member-i-requires c =
@@ -40,7 +39,7 @@ pub loop-n-preserved : goal.loop-n-preserved
 loop-n-preserved c =
     left-on c.loop-n.invariant c.loop-n-test.true c.past_member-i.ensures
     (within-skip _ _ c.has_item.result (has-as _ _ c.seen_item-item.ensures _ c.has_item.ensures)
-    (not-false _ c.if-not-has_item.false))
+    c.if-not-has_item.false)
 
 pub returns : goal.returns
 returns c = left_end c.loop-n.invariant c.loop-n-test.false (end-within _)

@@ -86,9 +86,7 @@ returns-in-One c =
 pub returns-in-Set : goal.returns-in-Set
 returns-in-Set c = of-set _ _ (stands_in _) _ _ _ _ c.in-Set.is c.count-k.ensures c.in_seen.ensures
 
--- TODO no field in-default.ensures
--- TODO bare context c
 pub returns-in-Without : goal.returns-in-Without
 returns-in-Without c =
     of-without _ _ (stands_in _) _ _ _ _ _ c.in-Without.is
-    c.count-k-in-Without.ensures c.count-l.ensures c⟨?⟩.in-default.ensures
+    c.count-k-in-Without.ensures c.count-l.ensures c.in_rest.ensures

@@ -1,6 +1,5 @@
 -- `sets::pile::set_in` meets its contract. The invariant: each of all stands in the piles exactly if each of those that are left does.
 -- Assumes nothing.
-use borrow.Author.Tests.{not-true, not-false}
 use Rattle.sets.proofs.Members.{member-pass}
 use Rattle.sets.proofs.Loops.{left-start, left-first, left-stop, left-on, left_end, within-stop}
 use Rattle.sets.proofs.Loops.{within-skip, end-within}
@@ -20,7 +19,7 @@ returns-then-not-in_piles c =
     let l = c.loop-n in
     left-stop l.invariant c.loop-n-test.true
     (within-stop _ _ c.in_piles.result c.in_piles.ensures
-    (not-true _ c.if-not-in_piles.true))
+    c.if-not-in_piles.true)
 
 pub past_member-i-requires : goal.past_member-i-requires
 past_member-i-requires c =
@@ -33,7 +32,7 @@ loop-n-preserved c =
     let l = c.loop-n in
     left-on l.invariant c.loop-n-test.true c.past_member-i.ensures
     (within-skip _ _ c.in_piles.result
-    c.in_piles.ensures (not-false _ c.if-not-in_piles.false))
+    c.in_piles.ensures c.if-not-in_piles.false)
 
 pub returns : goal.returns
 returns c = let l = c.loop-n in left_end l.invariant c.loop-n-test.false (end-within _)

@@ -2,7 +2,6 @@
 -- Assumes nothing.
 use mathlib.Core.Path.{refl}
 use native.Mathlib.Omega.{arith}
-use borrow.Author.Tests.{not-true, not-false}
 use Rattle.sets.proofs.Piles.{set-members}
 use Rattle.sets.proofs.Aligned.{same-found, same_not, same-last}
 use Rattle.sets.proofs.set.same_members.Goals as goal
@@ -33,7 +32,7 @@ set_in-requires c =
 pub returns-then-not-set_in : goal.returns-then-not-set_in
 returns-then-not-set_in c =
     same_not _ _ _ _ c.count-k.ensures refl c.set_in.ensures
-    (not-true _ c.if-not-set_in.true)
+    c.if-not-set_in.true
 
 pub piles_in-requires : goal.piles_in-requires
 piles_in-requires c =
@@ -47,4 +46,4 @@ piles_in-requires c =
 pub returns : goal.returns
 returns c =
     same-last _ _ _ _ c.count-k.ensures refl
-    c.set_in.ensures (not-false _ c.if-not-set_in.false) c.piles_in.ensures
+    c.set_in.ensures c.if-not-set_in.false c.piles_in.ensures
