@@ -29,7 +29,6 @@ use Rattle.context.specs.declared.Refusal.{Refusal}
 use Rattle.heads.specs.Stands.{FileInRoom, PartAt, resolved_part, BodiesAt, Runnable, CommandStands}
 use Rattle.reader.specs.declared.Places.{Places}
 use Rattle.reader.specs.declared.Layout.{Layout}
-use Rattle.reader.specs.declared.Layout.TheVariants as Layout
 use Rattle.reader.proofs.Whole.{refused-file}
 use Rattle.file.specs.Found.{FileRead}
 use Rattle.file.proofs.Found.{ReadAt, found-read}
