@@ -1,6 +1,5 @@
 -- `pre_rules::unmodified::rule_27` meets its contract.
 -- Assumes nothing.
-use borrow.Author.Tests.{not-true, not-false}
 use Rattle.pre_compound.proofs.Goal.{first-boolean, second-boolean, first-known, command-known}
 use Rattle.pre_rules.proofs.Modifies.{differs_fails, kept_rule}
 use Rattle.pre_rules.proofs.unmodified.rule_27.Goals as goal
@@ -12,8 +11,7 @@ is_same_assertion-requires c =
 
 pub returns-then-not-is_same_assertion : goal.returns-then-not-is_same_assertion
 returns-then-not-is_same_assertion c =
-    differs_fails c.requires.0 c.is_same_assertion.ensures (not-true _
-    c.if-not-is_same_assertion.true)
+    differs_fails c.requires.0 c.is_same_assertion.ensures c.if-not-is_same_assertion.true
 
 pub is_kept-requires : goal.is_kept-requires
 is_kept-requires c =
@@ -22,5 +20,5 @@ is_kept-requires c =
 
 pub returns : goal.returns
 returns c =
-    kept_rule c.requires.0 c.is_same_assertion.ensures (not-false _ c.if-not-is_same_assertion.false) c.is_kept.ensures
+    kept_rule c.requires.0 c.is_same_assertion.ensures c.if-not-is_same_assertion.false c.is_kept.ensures
     c.condition.ensures
