@@ -5,32 +5,24 @@ use Rattle.outcomes.proofs.FilePrograms.{going_start, going_step, going_refused,
 use Rattle.outcomes.proofs.FilePrograms.{count_fits, main-fits, main-accepted, main-refused}
 use Rattle.outcomes.proofs.programs.judge_programs.Goals as goal
 
--- what was asked for, seen from the loop
-abbrev start : tie.At-loop invariant-loop decreases-loop → tie.Start invariant-loop decreases-loop
-start loop = loop.before.before.before.before.before
-
 pub loop-i-init : goal.loop-i-init
 loop-i-init c = (c.procedure_count-procedures.ensures, λ h. going_start _ h)
 
--- TODO bare context loop
--- TODO bare context loop
 pub judge_at-judged-requires : goal.judge_at-judged-requires
 judge_at-judged-requires c =
-    let pre = (start loop).requires.0 in
-    (can-procedure _ pre (c.loop-i.invariant.1 pre) (omega (arith, c.loop-i.invariant.0, c.loop-i-test.true)), (start loop).requires.1)
+    let pre = c.requires.0 in
+    (can-procedure _ pre (c.loop-i.invariant.1 pre) (omega (arith, c.loop-i.invariant.0, c.loop-i-test.true)), c.requires.1)
 
--- TODO bare context loop
 pub overflow_add-count : goal.overflow_add-count
 overflow_add-count c =
-    let pre = (start loop).requires.0 in
+    let pre = c.requires.0 in
     let n = count_fits _ pre (c.loop-i.invariant.1 pre) (omega (arith, c.loop-i.invariant.0, c.loop-i-test.true))
     c.judge_at-judged.ensures c.in-Accepted.is in
     record { fits = omega (arith, n) }
 
--- TODO bare context loop
 pub returns-in-Refused : goal.returns-in-Refused
 returns-in-Refused c =
-    let pre = (start loop).requires.0 in
+    let pre = c.requires.0 in
     going_refused _ pre (c.loop-i.invariant.1 pre) (omega (arith, c.loop-i.invariant.0, c.loop-i-test.true))
     c.judge_at-judged.ensures c.in-Refused.is
 
@@ -41,31 +33,26 @@ loop-i-preserved c = (
       c.judge_at-judged.ensures c.in-Accepted.is,
 )
 
--- TODO bare context loop
--- TODO bare context loop
 pub judge_at-main-requires : goal.judge_at-main-requires
 judge_at-main-requires c =
-    let pre = (start loop).requires.0 in
-    (can-main _ pre (c.loop-i.invariant.1 pre) (omega (arith, c.loop-i.invariant.0, c.loop-i-test.false)), (start loop).requires.1)
+    let pre = c.requires.0 in
+    (can-main _ pre (c.loop-i.invariant.1 pre) (omega (arith, c.loop-i.invariant.0, c.loop-i-test.false)), c.requires.1)
 
--- TODO bare context loop
 pub overflow_add-result : goal.overflow_add-result
 overflow_add-result c =
-    let pre = (start loop).requires.0 in
+    let pre = c.requires.0 in
     let n = main-fits _ pre (c.loop-i.invariant.1 pre) (omega (arith, c.loop-i.invariant.0, c.loop-i-test.false))
     c.judge_at-main.ensures c.in-Accepted-main.is in
     record { fits = omega (arith, n) }
 
--- TODO bare context loop
 pub returns-in-Accepted-main : goal.returns-in-Accepted-main
 returns-in-Accepted-main c =
-    let pre = (start loop).requires.0 in
+    let pre = c.requires.0 in
     main-accepted _ pre (c.loop-i.invariant.1 pre) (omega (arith, c.loop-i.invariant.0, c.loop-i-test.false))
     c.judge_at-main.ensures c.in-Accepted-main.is
 
--- TODO bare context loop
 pub returns-in-Refused-main : goal.returns-in-Refused-main
 returns-in-Refused-main c =
-    let pre = (start loop).requires.0 in
+    let pre = c.requires.0 in
     main-refused _ pre (c.loop-i.invariant.1 pre) (omega (arith, c.loop-i.invariant.0, c.loop-i-test.false))
     c.judge_at-main.ensures c.in-Refused-main.is
