@@ -1,6 +1,7 @@
 // The public calls: the check on bytes (document 01, "Judging order" 1 to 9; document 02, request [3]), the parts of an accepted file, and
-// the check with masks and the workbench call (request [5]). All but `flow_check` are given settings (request [6]); those for C take them
-// as three numbers, the last ones: the most comparisons, depth and members.
+// the check with masks and the workbench call (request [5]). All but `flow_check` are given settings (request [6]). Those whose names begin
+// with `flow_` are for C, which crates/flow_c exports: they take the settings as three numbers, the last ones, the most comparisons, depth
+// and members.
 #![tactic(auto)]
 
 ghost use Rattle.std.specs.Prelude.{◌≡◌, ◌*◌, ◌≤◌, length};
@@ -82,21 +83,14 @@ pub fn check(file: &[u8], settings: Settings) -> Verdict
 
 // The check for callers in C, `uint32_t flow_check(const uint8_t *file, size_t count)`: number × 65,536 + place, or the
 // count of evidence words. It takes no settings and keeps document 01's limits.
-#[unsafe(no_mangle)]
-pub extern "C" fn flow_check(file: &[u8]) -> u32
+pub fn flow_check(file: &[u8]) -> u32
     ensures { result ≡ packed (verdict_of standard file.now) }
 {
     pack(check(file, standard_settings()))
 }
 
 // The same with settings, `uint32_t flow_check_settings(const uint8_t *file, size_t count, size_t comparisons, size_t depth, size_t members)`.
-#[unsafe(no_mangle)]
-pub extern "C" fn flow_check_settings(
-    file: &[u8],
-    comparisons: usize,
-    depth: usize,
-    members: usize,
-) -> u32
+pub fn flow_check_settings(file: &[u8], comparisons: usize, depth: usize, members: usize) -> u32
     ensures { result ≡ packed (verdict_of (settings_of comparisons depth members) file.now) }
 {
     pack(check(
@@ -151,8 +145,7 @@ fn packed_places(first: usize, past: usize) -> u32
 
 // The program's part for callers in C, `uint32_t flow_program(const uint8_t *file, size_t count, size_t comparisons, size_t depth,
 // size_t members)`: the place of its first word × 65,536 + the place past its last, or 0 if the file is refused.
-#[unsafe(no_mangle)]
-pub extern "C" fn flow_program(file: &[u8], comparisons: usize, depth: usize, members: usize) -> u32
+pub fn flow_program(file: &[u8], comparisons: usize, depth: usize, members: usize) -> u32
     ensures { result ≡ program_places (settings_of comparisons depth members) file.now }
 {
     let settings = Settings {
@@ -168,13 +161,7 @@ pub extern "C" fn flow_program(file: &[u8], comparisons: usize, depth: usize, me
 }
 
 // The precondition, alike.
-#[unsafe(no_mangle)]
-pub extern "C" fn flow_precondition(
-    file: &[u8],
-    comparisons: usize,
-    depth: usize,
-    members: usize,
-) -> u32
+pub fn flow_precondition(file: &[u8], comparisons: usize, depth: usize, members: usize) -> u32
     ensures { result ≡ precondition_places (settings_of comparisons depth members) file.now }
 {
     let settings = Settings {
@@ -190,13 +177,7 @@ pub extern "C" fn flow_precondition(
 }
 
 // The postcondition, alike.
-#[unsafe(no_mangle)]
-pub extern "C" fn flow_postcondition(
-    file: &[u8],
-    comparisons: usize,
-    depth: usize,
-    members: usize,
-) -> u32
+pub fn flow_postcondition(file: &[u8], comparisons: usize, depth: usize, members: usize) -> u32
     ensures { result ≡ postcondition_places (settings_of comparisons depth members) file.now }
 {
     let settings = Settings {
@@ -229,8 +210,7 @@ pub fn check_with_masks(file: &[u8], masks: &mut [u64], settings: Settings) -> V
 
 // The same for callers in C, `uint32_t flow_check_masks(const uint8_t *file, size_t count, uint64_t *masks, size_t n, size_t comparisons,
 // size_t depth, size_t members)`: the answer is packed as that of `flow_check`.
-#[unsafe(no_mangle)]
-pub extern "C" fn flow_check_masks(
+pub fn flow_check_masks(
     file: &[u8],
     masks: &mut [u64],
     comparisons: usize,
@@ -263,8 +243,7 @@ pub fn put(
 
 // The same for callers in C, `uint32_t flow_put(uint8_t *file, size_t count, uint64_t *masks, size_t n, size_t place, const uint8_t *command,
 // size_t k, size_t comparisons, size_t depth, size_t members)`: 0, or number × 65,536 + place.
-#[unsafe(no_mangle)]
-pub extern "C" fn flow_put(
+pub fn flow_put(
     file: &mut [u8],
     masks: &mut [u64],
     place: usize,
