@@ -9,27 +9,29 @@ ghost use Rattle.line.specs.Line.{LineFor};
 
 use answer::answer;
 use input::read_input;
-use libc::STDOUT_FILENO;
+use std::io::{Stdout, Write};
 
 // Writes the line from a byte on, by one call, and answers how many bytes were taken: 0 if the write failed. Nothing else in the
 // program writes. `file` is there for the contract: only the line of the check's answer for these bytes is written.
-fn write_from(file: &[u8], line: &[u8], from: usize) -> usize
+fn write_from(stdout: &mut Stdout, file: &[u8], line: &[u8], from: usize) -> usize
     requires line_for { LineFor file.now line.now }
     requires from_in_bounds { from < length line.now }
     ensures { from + result ≤ length line.now }
 {
-    let rest = &line[from..];
-    io::count(libc::write(STDOUT_FILENO, rest), rest)
+    match stdout.write(&line[from..]) {
+        Ok(taken) => taken,
+        Err(_) => 0,
+    }
 }
 
 // Writes the line, and goes on after a write that was cut short. If a write fails, the line lacks its end, byte 10: a program has
 // no exit status to say so.
-fn print_line(file: &[u8], line: &[u8])
+fn print_line(stdout: &mut Stdout, file: &[u8], line: &[u8])
     requires { LineFor file.now line.now }
 {
     let mut from = 0;
     while from < line.len() {
-        let taken = write_from(file, line, from);
+        let taken = write_from(stdout, file, line, from);
         if taken == 0 {
             return;
         }
@@ -37,11 +39,11 @@ fn print_line(file: &[u8], line: &[u8])
     }
 }
 
-fn main() {
+fn main(rt: HostRuntime) {
     // One byte more than a file may have, so that a longer input is over the limit too.
     let mut buffer = [0u8; 32769];
-    let n = read_input(&mut buffer);
+    let n = read_input(&mut rt.stdin(), &mut buffer);
     let mut text = [0u8; 64];
     let end = answer(&buffer[..n], &mut text);
-    print_line(&buffer[..n], &text[..end]);
+    print_line(&mut rt.stdout(), &buffer[..n], &text[..end]);
 }
