@@ -2,7 +2,7 @@
 //! `compare_calls`, `bench_check` and `bench_calls`: SECOND_FIRST_DIR is the folder
 //! of its static library, SECOND_FIRST_LIB the file in it (by default its only `*.a`).
 //! The library has the calls of include/flowcheck.h that bin/first declares; but
-//! `compare_runs`, `compare_calls` and `bench_run` take `flow_run` from librunner.a of
+//! `compare_runs`, `compare_calls` and `bench_run` take `flow_run` from librunner_c.a of
 //! the same folder.
 
 fn main() {
@@ -32,7 +32,7 @@ fn main() {
     for program in ["compare", "compare_calls", "bench_check", "bench_calls"] {
         println!("cargo:rustc-link-arg-bin={program}={}", library.display());
     }
-    let runner = dir.join("librunner.a");
+    let runner = dir.join("librunner_c.a");
     println!("cargo:rerun-if-changed={}", runner.display());
     for program in ["compare_runs", "compare_calls", "bench_run"] {
         println!("cargo:rustc-link-arg-bin={program}={}", runner.display());

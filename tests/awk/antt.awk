@@ -24,7 +24,7 @@ function declared(line,    form) {
 
 # of a line `use MODULE.{NAME, NAME as OTHER, ..}` or `use MODULE as OTHER`, in code too: the module, or the empty text
 function used_module(line) {
-    if (!sub(/^(ghost )?(pub )?use /, "", line)) return ""
+    if (!sub(/^(ghost |unfoldable )?(pub )?use /, "", line)) return ""
     sub(/\.\{.*/, "", line)
     sub(/( as .*|;)$/, "", line)
     return line
@@ -37,13 +37,19 @@ function used_names(line, names) {
     return split(line, names, /, */)
 }
 
+# whether a module is of a crate of the repository; `crates` names these, with spaces around each
+function is_own(module,    part) {
+    split(module, part, ".")
+    return part[1] == "Rattle" && index(crates, " " part[2] " ")
+}
+
 # the file of definitions that a module of the repository is; the empty text for types that the code declares, and for other modules
 function file_of(module,    crate, rest) {
-    if (module !~ /^Rattle·/ || !match(module, /\.specs\./)) return ""
+    if (!is_own(module) || !match(module, /\.specs\./)) return ""
     rest = substr(module, RSTART + RLENGTH)
     if (rest ~ /^declared\./) return ""
-    crate = substr(module, length("Rattle·") + 1)
-    sub(/(·|\.).*/, "", crate)
+    crate = substr(module, length("Rattle.") + 1)
+    sub(/\..*/, "", crate)
     gsub(/\./, "/", rest)
     return "crates/" crate "/specs/" rest ".antt"
 }

@@ -3,14 +3,19 @@
 # point may have a `requires`; a definition of a working file needs a law. `headers_table` and `names_table` are the tables; what the
 # contracts import goes to `uses_table`, as from trusted files.
 
-# a call that writes: of the C library, or of `io`
-function is_write(line) { return line ~ /(libc::p?write|io::(number::)?(write_all|print_[a-z]+))\(/ }
+# a call that writes: a method or function of std or of the C library whose name says so, or a macro
+function is_write(line) {
+    return line ~ /(\.|::)p?(write|write_[a-z_]+|print_[a-z_]+|copy)\(/ || line ~ /(^|[^a-z_])(e?print|e?println|write|writeln)!/
+}
 
 function asks(text) { return text ~ /[\n ]requires / }
 
 function tell(place, text,    n, i, word, path, told) {
     print "   " place text
     gsub(/[(){}\n]/, " ", text)
+    gsub(/\.now /, " now ", text)
+    # what the braces of a clause hold is a fact
+    if (text ~ / (requires|ensures) /) text = text " ⌜◌⌝"
     n = split(text, word, " ")
     for (i = 1; i <= n; i++) {
         if (!(word[i] in module) || word[i] in told) continue
@@ -24,13 +29,13 @@ function tell(place, text,    n, i, word, path, told) {
     }
 }
 
-# the names that a line imports, as contracts have them: an operator has no underscores there
+# the names that a line imports, as contracts have them: an operator has no `◌` there
 function import(line,    n, i, list, pair, name) {
     n = used_names(line, list)
     for (i = 1; i <= n; i++) {
         split(list[i], pair, " as ")
         name = 2 in pair ? pair[2] : pair[1]
-        if (name ~ /^_.*_$/) gsub(/_/, "", name)
+        if (name ~ /^◌.*◌$/) gsub(/◌/, "", name)
         module[name] = used_module(line)
         original[name] = pair[1]
     }
@@ -39,10 +44,10 @@ function import(line,    n, i, list, pair, name) {
 # what the toolchain lends to every contract
 function lend() {
     split("", module)
-    module["now"] = "denote.Ref"
+    module["now"] = "denote.Bor"
     original["now"] = "now"
-    module["⌜"] = "contract.Notation"
-    original["⌜"] = "⌜_⌝"
+    module["⌜◌⌝"] = "contract.Notation"
+    original["⌜◌⌝"] = "⌜◌⌝"
 }
 
 BEGIN {
@@ -55,9 +60,9 @@ FNR == 1 { lend() }
 /^ *\/\// { next }
 /^ghost use / { import($0) }
 /^pub mod / && !program { fault(FILENAME ":" FNR ": a public module: an entry crate has its public functions in lib.rt") }
-/^ *use (libc|io)::/ && /write|print/ { fault(FILENAME ":" FNR ": a write is called by its path, so that it is seen") }
+/^ *use / && /[^a-zA-Z_](write|write_[a-z_]+|print_[a-z_]+|copy|Write as|Print as)([^a-zA-Z_]|$)/ { fault(FILENAME ":" FNR ": a write is called by its path, so that it is seen") }
 
-/^ *(pub )?(extern "C" )?fn / { place = FILENAME ":" FNR; text = ""; signing = 1; entry = program ? /fn main\(/ : /^ *pub / }
+/^ *(pub )?(unsafe )?(extern "C" )?fn / { place = FILENAME ":" FNR; text = ""; signing = 1; entry = program ? /fn main\(/ : /^ *pub / }
 signing {
     body = /\{$/ || /fn .*\{.*\}$/
     line = $0

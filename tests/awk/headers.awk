@@ -15,7 +15,10 @@ function proofs_file(word, folder) {
     if (word !~ /^([a-z_]+\/)?proofs\/./) return ""
     word = word ~ /^proofs\// ? folder "/" word : "crates/" word
     if (word ~ /\.antt$/) return word
-    return is_there(word "/Proof.antt") ? word "/Proof.antt" : word ".antt"
+    # the proof of a function is a folder
+    if (is_there(word "/Answers.antt")) return word "/Answers.antt"
+    if (is_there(word "/Proof.antt")) return word "/Proof.antt"
+    return is_there(word "/Invariants.antt") ? word "/Invariants.antt" : word ".antt"
 }
 
 function is_law(name, count,    i) {

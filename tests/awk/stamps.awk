@@ -1,6 +1,6 @@
-# For each crate the text whose sum `rt` keeps in target/stamp once the crate is proved: the toolchain and machine (`toolchain`), the
-# sums of the crate's files, its dependencies and their stamps; into a file of the crate's name in `folder`. Files: the sorted sums of
-# all crates' files, then crates.txt.
+# For each crate the text whose sum `prove` keeps in target/stamp once the crate is proved: the toolchain and machine (`toolchain`), the
+# sums of the crate's files, its line of crates.txt and the stamps of what it uses; into a file of the crate's name in `folder`, of the
+# crate `only` if that is given. Files: the sorted sums of all crates' files, then crates.txt.
 FILENAME != "crates.txt" {
     crate = $2
     sub(/^crates\//, "", crate)
@@ -11,10 +11,13 @@ FILENAME != "crates.txt" {
 }
 { sub(/#.*/, "") }
 (colon = index($0, ":")) {
-    crate = substr($0, 1, colon - 1)
-    gsub(/[ \t]/, "", crate)
+    kind = substr($0, 1, colon - 1)
+    crate = kind
+    sub(/^[ \t]+/, "", crate)
+    sub(/[ \t].*/, "", crate)
+    if (only != "" && crate != only) next
     rest = substr($0, colon + 1)
-    text = toolchain "\n" sums[crate] "deps: " rest "\n"
+    text = toolchain "\n" sums[crate] "kind: " kind "\ndeps: " rest "\n"
     n = split(rest, dep, " ")
     for (i = 1; i <= n; i++) {
         if (!(dep[i] in sums)) text = text "kit " dep[i] "\n"

@@ -18,7 +18,7 @@ BEGIN {
     count = used_names($0, name)
     for (i = 1; i <= count; i++) { sub(/ as .*/, "", name[i]); print FILENAME "\t" module "\t" name[i] }
 }
-module ~ /^Rattle·/ && module !~ /\.specs\.declared\./ {
+is_own(module) && module !~ /\.specs\.declared\./ {
     file = file_of(module)
     if (!(file in kind)) fault(FILENAME ":" FNR ": a trusted file imports " module ", which is no file of definitions")
     else if (kind[file] != "Working" || file in seen) next
