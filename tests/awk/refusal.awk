@@ -1,30 +1,27 @@
 # What a check of a crate said, cut to what a reader needs: each fact that failed by itself (three at most), with its law and the line of
 # its proof; the first function that is not proved, with its contract; and how many others rest on these. `folder` is the copy of the
-# repository that was checked.
+# repository that was checked, `crate` the crate's folder there, from which places are told.
 
-# a text with a short name for each term in brackets that starts with a word
-function fold(text, word, name,    at, i, c, depth) {
-    while ((at = index(text, "(" word " ")) > 0) {
-        depth = 0
-        for (i = at; i <= length(text); i++) {
-            c = substr(text, i, 1)
-            if (c == "(") depth++
-            else if (c == ")" && --depth == 0) break
-        }
-        text = substr(text, 1, at - 1) name substr(text, i + 1)
+# names without their modules (`Rattle.flow.specs.Checked.answer_of` is `answer_of`); 420 bytes at most
+function plain(text,    told, path) {
+    while (match(text, /(^|[][ (){}`,;:\x27])(Rattle|Prim|lib|mathlib|native|mir|base|store|prog|types|contract|denote|borrow)\.[^][ (){}`,;:]+/)) {
+        path = substr(text, RSTART, RLENGTH)
+        told = told substr(text, 1, RSTART - 1)
+        text = substr(text, RSTART + RLENGTH)
+        if (path !~ /^[A-Za-z]/) { told = told substr(path, 1, 1); path = substr(path, 2) }
+        while (match(path, /^[^.]+\.[^.]/)) path = substr(path, RLENGTH)
+        told = told path
     }
-    return text
-}
-# names without their modules (`Rattle·flow.specs.Checked.answerOf` is `answerOf`); short names for the terms that the prover makes of
-# code, and `..` for paths to earlier places of it; 420 bytes at most
-function plain(text) {
-    while (match(text, /[^][ (){}`,.;:]+\.[^][ (){}`,.;:]/)) text = substr(text, 1, RSTART - 1) substr(text, RSTART + RLENGTH - 1)
-    text = fold(fold(fold(text, "resV", "result"), "dens", "arguments"), "argsV", "arguments")
-    gsub(/( \.before)+/, " ..", text)
+    text = told text
     if (length(text) <= 420) return text
     text = substr(text, 1, 420)
     sub(/[\300-\377][\200-\277]*$/, "", text)
     return text " .."
+}
+# a place from the repository's folder
+function place_in(place) {
+    sub(/^\.\//, "", place)
+    return crate "/" place
 }
 function source_line(place,    part, i, line) {
     split(place, part, ":")
@@ -41,7 +38,7 @@ function tell(path,    n, part, i, file, line, number, found) {
     if (n == 2) file = file (part[2] == "main" ? "/main" : "/lib")
     while ((getline line < (folder "/" file ".rt")) > 0) {
         number++
-        if (!found && line ~ ("^ *(pub )?(extern \"C\" )?fn " part[n] "\\(")) { found = 1; print "  not proved: " file ".rt:" number }
+        if (!found && line ~ ("^ *(pub )?(unsafe )?(extern \"C\" )?fn " part[n] "[(<]")) { found = 1; print "  not proved: " file ".rt:" number }
         if (!found) continue
         if (line ~ /^ *\{$/) break
         print "      " line
@@ -52,10 +49,12 @@ function tell(path,    n, part, i, file, line, number, found) {
 function count(n, one, more) { return n == 1 ? "1 " one : n " " more }
 
 !/^  / { showing = 0 }
-/ was not admitted .*so this cannot be checked/ { laws++; next }
+# what rests on a law that failed was not checked
+match($0, /: error: [0-9]+ declarations? that depends? on /) && / (was|were) not checked/ { laws += substr($0, RSTART + 9) + 0; next }
+/: error: this file exports no / { next }
 (at = index($0, ": error: ")) {
     if (++errors > 3) next
-    place = substr($0, length(folder) + 2, at - length(folder) - 2)
+    place = place_in(substr($0, 1, at - 1))
     if (errors == 1) first = place
     print "  " place
     print "      " plain(source_line(place))
@@ -72,10 +71,9 @@ showing && /^  (computed|expected|but this|\(expected|\(found|and the other|≟|
 # the left side of `≟` stands in the line before it
 showing { before = /^  `/ ? $0 : "" }
 
-# of a function that has no proof of its own: the fact in words, and the goal that was left
-/^note: .*: it is not proved that / && ++notes <= 3 { print "  " substr($0, length("note: " folder) + 2) }
-/^note: what antt said of a `search`/ { searching = 1 }
-searching && match($0, /the goal is `[^`]*`/) { print "    " plain(substr($0, RSTART, RLENGTH)); searching = 0 }
+# of a function whose goals were left to search: the fact in words, and the goal
+/^note: .*: it is not proved that / && ++notes <= 3 { print "  " place_in(plain(substr($0, 7))) }
+/^note: .* of proofs\/.* must prove: / && ++goals <= 3 { print "    " plain(substr($0, 7)) }
 
 /^fn .*: (not proved|no proof)/ {
     unproved++
