@@ -4,7 +4,7 @@
 
 ghost use Rattle.std.specs.Prelude.{◌≡◌, nat_abs, ◌+ℤ◌, ◌-ℤ◌, ◌*ℤ◌};
 ghost use Rattle.std.specs.Int.Signed.{lt_z, le_z};
-ghost use Rattle.language.specs.Store.{same_integer, apply, relate as relateOf};
+ghost use Rattle.language.specs.Store.{same_integer, apply, relate as relate_of};
 ghost use Rattle.execution.specs.Evaluate.{worked, index};
 ghost use Rattle.words.specs.Meaning.{operator_meant, comparison_meant};
 ghost use Rattle.arithmetic.specs.Worked.{outcome, index_outcome, checked, most_of};
@@ -136,7 +136,7 @@ pub fn at_most(a: i64, b: i64) -> bool
 }
 
 pub fn relate(c: Comparison, a: i64, b: i64) -> bool
-    ensures { result ≡ relateOf (comparison_meant c) a b }
+    ensures { result ≡ relate_of (comparison_meant c) a b }
 {
     match c {
         Comparison::Equal => equal(a, b),

@@ -1,5 +1,5 @@
 -- A table without masks of blocks: the ends of some words, the starts of their programs and the masks of their procedures.
--- Working: `marked-file` of proofs/Tables says that the masks are those of the file that was read, `Found-None` that refusal 7 is all that
+-- Working: `marked-file` of proofs/Tables says that the masks are those of the file that was read, `found_none` that refusal 7 is all that
 -- is left. Assumes nothing.
 --     Marked      such a table of words that refusals 2 to 6 and 16 let pass
 --     StartsKept, Steadied

@@ -13,8 +13,8 @@ use Rattle.rules.specs.Plain.{plain}
 use Rattle.rules.specs.Sets.{set_identifiers}
 use Rattle.rules.specs.Implies.{truth_under, comparisons}
 use Rattle.rules.specs.Tests.{every, truth_table}
-use Rattle.rules.specs.Condition.{test, byForm, ◌then◌, on_one, implication}
-use Rattle.rules.specs.Judge.{one_more, ◌also◌, judge_word, flowRule, set_rule, judge}
+use Rattle.rules.specs.Condition.{test, by_form, ◌then◌, on_one, implication}
+use Rattle.rules.specs.Judge.{one_more, ◌also◌, judge_word, flow_rule, set_rule, judge}
 use Rattle.layout.specs.Reading.{◌⊛◌, several, word_due, first_place}
 use Rattle.layout.specs.Read.{expression, command, set}
 use Rattle.layout.specs.ReadEvidence.{evidence}
@@ -29,7 +29,7 @@ use Rattle.claims.specs.Table.{AllRight, starred_rows, payload_rows, settings_ro
 
 pub table-right : AllRight starred_rows
 unfolding starred_rows verdict_of file_of bytes_read within_ranges words_of words_read programs parts finish calls_tested steady_file unsteady_at first_place
-    standard judge_programs words command_words replace plain test byForm one_more judge_word flowRule judge ◌⊛◌ several word_due expression command set
+    standard judge_programs words command_words replace plain test by_form one_more judge_word flow_rule judge ◌⊛◌ several word_due expression command set
     evidence value identifiers set_identifiers evaluate turns run run_file run_of
 table-right =
     (refl, (refl, (refl, (refl, (refl, (refl, (refl, (refl, (refl, (refl, ((refl, refl, refl), ((refl, refl, refl), ((refl, refl, refl), tt)))))))))))))
@@ -40,6 +40,6 @@ payloads-right = (refl, (refl, (refl, (refl, tt))))
 
 pub settings_right : AllRight settings_rows
 unfolding settings_rows verdict_of file_of bytes_read within_ranges words_of words_read programs parts finish calls_tested steady_file unsteady_at first_place
-    judge_programs words command_words replace plain test byForm one_more judge_word flowRule set_rule judge ◌⊛◌ several word_due expression command
+    judge_programs words command_words replace plain test by_form one_more judge_word flow_rule set_rule judge ◌⊛◌ several word_due expression command
     set evidence value identifiers set_identifiers ◌also◌ ◌then◌ on_one implication comparisons truth_under every truth_table
 settings_right = (refl, (refl, (refl, (refl, (refl, (refl, (refl, (refl, (refl, (refl, (refl, tt)))))))))))

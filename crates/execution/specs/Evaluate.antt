@@ -2,7 +2,7 @@
 -- it is worked out. A false left side settles an and, a true one an or (document 02, request [1]).
 -- Trusted. Assumes nothing.
 --     Evaluation, on_worked    what was worked out, or the number of the refusal that stops it; going on from it
---     inRange, is_index        the signed 64-bit range; an index 0 to 63
+--     in_range, is_index        the signed 64-bit range; an index 0 to 63
 --     tested, index           a value that is tested; an index, tested
 --     evaluate                an expression in a store
 use Rattle.std.specs.Prelude.{Bool, true, false, not, cond, ◌&&◌, ℕ, ℤ, pos, negsuc}

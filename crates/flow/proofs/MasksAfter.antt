@@ -35,7 +35,7 @@ use Rattle.masks.proofs.LentNumbers.{outside-lent, few-lent, enough-lent, lent-n
 use Rattle.context.specs.Contexts.{refusal}
 use Rattle.context.specs.declared.Refusal.{Refusal}
 use Rattle.file.proofs.Faults.{FaultBy, bytes-fault}
-use Rattle.replacement.specs.Put.{changed, replaceable, or_unread, read_put, answer_of as putAnswer, PutDone}
+use Rattle.replacement.specs.Put.{changed, replaceable, or_unread, read_put, answer_of as put_answer, PutDone}
 use Rattle.replacement.specs.declared.Replaced.{Replaced}
 use Rattle.replacement.specs.declared.Replaced.TheVariants as Replaced
 use Rattle.outcomes.specs.Outcome.{stored_where, OutcomeDone}
@@ -260,11 +260,11 @@ module _ (limits : Limits) (bytes lent : List ℕ) (place : ℕ) (new : List ℕ
   not_done : {A : Type 0} {x : Refusal} → Replaced.Refused x ≡ Replaced.Done → A
   not_done e = absurd (let z : ◌≡◌ {A = ℕ} 0 1 = cc in omega arith)
 
-  read_done : (x : Reading File) → Replaced.Done ≡ putAnswer x → 0 ≡ packed_put x
+  read_done : (x : Reading File) → Replaced.Done ≡ put_answer x → 0 ≡ packed_put x
   read_done (read f p) e = refl
   read_done (fault n p) e = not_done (sym e)
 
-  read-refused : (x : Reading File) (y : Refusal) → PutBy x → Replaced.Refused y ≡ putAnswer x →
+  read-refused : (x : Reading File) (y : Refusal) → PutBy x → Replaced.Refused y ≡ put_answer x →
       SmallAnswer (Refused y) × (y.number * 65536 + y.place ≡ packed_put x)
   read-refused (read f p) y h e = not_done e
   read-refused (fault n p) y h e =

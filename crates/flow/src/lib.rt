@@ -8,7 +8,7 @@ ghost use Rattle.std.specs.Prelude.{◌≡◌, ◌*◌, ◌≤◌, length};
 ghost use Rattle.rules.specs.Context.{standard, settings_of};
 ghost use Rattle.layout.specs.File.{file_of};
 ghost use Rattle.layout.specs.Verdict.{verdict_of, bytes_between, packed};
-ghost use Rattle.layout.specs.Verdict.{precondition as preconditionOf, postcondition as postconditionOf};
+ghost use Rattle.layout.specs.Verdict.{precondition as precondition_of, postcondition as postcondition_of};
 ghost use Rattle.layout.specs.Verdict.{packed_places, program_places, precondition_places, postcondition_places};
 ghost use Rattle.context.specs.Settings.{limits_given};
 ghost use Rattle.context.specs.Contexts.{refusal};
@@ -115,7 +115,7 @@ fn between(file: &[u8], from: usize, to: usize) -> &[u8]
 
 // The precondition as a part of the file, empty if the file is refused.
 pub fn precondition(file: &[u8], settings: Settings) -> &[u8]
-    ensures { result.now ≡ preconditionOf (limits_given settings) file.now }
+    ensures { result.now ≡ precondition_of (limits_given settings) file.now }
 {
     let done = outcome_under(file, settings);
     match done {
@@ -126,7 +126,7 @@ pub fn precondition(file: &[u8], settings: Settings) -> &[u8]
 
 // The postcondition, alike.
 pub fn postcondition(file: &[u8], settings: Settings) -> &[u8]
-    ensures { result.now ≡ postconditionOf (limits_given settings) file.now }
+    ensures { result.now ≡ postcondition_of (limits_given settings) file.now }
 {
     let done = outcome_under(file, settings);
     match done {

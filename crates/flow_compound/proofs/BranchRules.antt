@@ -7,9 +7,9 @@ use mathlib.Core.Bool.{Bool}
 use mathlib.Core.List.{List}
 use Prim.Native.Nat.{ℕ, ◌+◌}
 use Rattle.rules.specs.Context.{Context}
-use Rattle.rules.specs.Condition.{byForm, on_one}
+use Rattle.rules.specs.Condition.{by_form, on_one}
 use Rattle.rules.specs.Evidence.{Parts, row, flow6, members, assertion, child, done, ◌&◌}
-use Rattle.rules.specs.Judge.{misfit, flowRule, judge}
+use Rattle.rules.specs.Judge.{misfit, flow_rule, judge}
 use Rattle.layout.specs.Bytes.{kind_at}
 use Rattle.implication.specs.declared.Condition.TheVariants.{Fails}
 use Rattle.goals.specs.declared.Goal.TheVariants.{Flow}
@@ -26,12 +26,12 @@ use Rattle.flow_compound.proofs.Goal.{second, third, by-test, trees}
 
 module _ {Γ : Context} {file ends : List ℕ} {p c q at : ℕ} (can : CanTry file ends Γ 6 (Flow p c q) at) where
   pub not-if : (kind_at file c ≡ 29 → ⊥) → StepOf file ends Γ (Flow p c q) at Fails
-  unfolding flowRule
+  unfolding flow_rule
   not-if h = flow-rule can flow6 λ x y e t d end a k z s. misfit-comes (other-than_if Γ misfit e _ (other-kind k h))
 
   module _ (h : kind_at file c ≡ 29) where
     pub not-one_after : (count_at file q ≡ 1 → ⊥) → StepOf file ends Γ (Flow p c q) at Fails
-    unfolding flowRule byForm
+    unfolding flow_rule by_form
     not-one_after n = flow-rule can flow6 λ x y e t d end a k z s.
         rw (is-if can.can.ends_of k h).is (misfit-comes (not-one z misfit _ n))
 
@@ -52,7 +52,7 @@ module _ {Γ : Context} {file ends : List ℕ} {p c q at : ℕ} (can : CanTry fi
     comes : count_at file q ≡ 1 → {b : Bool} →
         SameBranches file ends p (at + 1) (second ends at) (c + 1) (third ends at) b →
         FlowComes Γ file ends p c q at flow6 (condition_of b)
-    unfolding flowRule judge byForm on_one
+    unfolding flow_rule judge by_form on_one
     comes one w x y e (members s & members t & assertion φ & child k & child l & child n & done) d end a b z
         (s-at, (t-at, (φ-at, (i, k-at, (j, l-at, (m, n-at, last)))))) =
         let f = is-if can.can.ends_of b h in

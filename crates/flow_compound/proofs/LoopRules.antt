@@ -7,9 +7,9 @@ use mathlib.Core.Bool.{Bool, true, false}
 use mathlib.Core.List.{List}
 use Prim.Native.Nat.{ℕ, ◌+◌}
 use Rattle.rules.specs.Context.{Context}
-use Rattle.rules.specs.Condition.{byForm}
+use Rattle.rules.specs.Condition.{by_form}
 use Rattle.rules.specs.Evidence.{Parts, row, flow13, flow14, command, child, done, ◌&◌}
-use Rattle.rules.specs.Judge.{misfit, flowRule, judge}
+use Rattle.rules.specs.Judge.{misfit, flow_rule, judge}
 use Rattle.layout.specs.Bytes.{kind_at}
 use Rattle.implication.specs.declared.Condition.TheVariants.{Fails}
 use Rattle.goals.specs.declared.Goal.TheVariants.{Flow}
@@ -29,7 +29,7 @@ use Rattle.flow_compound.proofs.Goal.{command-head}
 
 module _ {Γ : Context} {file ends : List ℕ} {p c q at : ℕ} (can : CanTry file ends Γ 13 (Flow p c q) at) where
   pub not-while : (kind_at file c ≡ 30 → ⊥) → StepOf file ends Γ (Flow p c q) at Fails
-  unfolding flowRule
+  unfolding flow_rule
   not-while h = flow-rule can flow13 λ x y e t d end f g z s. misfit-comes (other-than_while Γ misfit e _ (other-kind g h))
 
   module _ (h : kind_at file c ≡ 30) where
@@ -42,12 +42,12 @@ module _ {Γ : Context} {file ends : List ℕ} {p c q at : ℕ} (can : CanTry fi
 
     module _ {a : Bool} (u : SameWritten file ends p q a) where
       pub not_same : a ≡ false → StepOf file ends Γ (Flow p c q) at Fails
-      unfolding flowRule byForm
+      unfolding flow_rule by_form
       not_same n = flow-rule can flow13 λ x y e t d end f g z s.
           rw (is-while can.can.ends_of g h).is (first-fails _ refl (u.does x y f z) n)
 
       comes : a ≡ true → {b : Bool} → TestStands file ends p (c + 1) b → FlowComes Γ file ends p c q at flow13 (condition_of b)
-      unfolding flowRule judge byForm
+      unfolding flow_rule judge by_form
       comes n w x y e (child k & done) d end f g z (i, k-at, last) =
           let l = is-while can.can.ends_of g h in
           rw l.is (second-test refl (sym (u.does x y f z) ∙ n)
@@ -60,7 +60,7 @@ module _ {Γ : Context} {file ends : List ℕ} {p c q at : ℕ} (can : CanTry fi
 
 module _ {Γ : Context} {file ends : List ℕ} {p c q at : ℕ} (can : CanTry file ends Γ 14 (Flow p c q) at) where
   pub not-for : (kind_at file c ≡ 31 → ⊥) → StepOf file ends Γ (Flow p c q) at Fails
-  unfolding flowRule
+  unfolding flow_rule
   not-for h = flow-rule can flow14 λ x y e t d end f g z s. misfit-comes (other-than_for Γ misfit e _ (other-kind g h))
 
   module _ (h : kind_at file c ≡ 31) where
@@ -79,7 +79,7 @@ module _ {Γ : Context} {file ends : List ℕ} {p c q at : ℕ} (can : CanTry fi
     can-mean = let x = parts-of can flow14 in asked x.parts x.levels x.end x.parts-placed
 
     means : {b : Bool} → MeaningAt file ends (at + 1) c b → FlowComes Γ file ends p c q at flow14 (condition_of b)
-    unfolding flowRule judge byForm
+    unfolding flow_rule judge by_form
     means w x y e (command m & child k & done) d end f g z (m-at, (i, k-at, last)) =
         let l = is-for can.can.ends_of g h in
         let written = subst (λ v. CommandAt file ends Γ v c) l.is g.there in

@@ -5,9 +5,9 @@ use mathlib.Core.Path.{◌≡◌, refl}
 use mathlib.Core.List.{List}
 use Prim.Native.Nat.{ℕ}
 use Rattle.rules.specs.Context.{Context}
-use Rattle.rules.specs.Condition.{byForm}
+use Rattle.rules.specs.Condition.{by_form}
 use Rattle.rules.specs.Evidence.{flow2, members, child, done, ◌&◌}
-use Rattle.rules.specs.Judge.{misfit, flowRule, judge}
+use Rattle.rules.specs.Judge.{misfit, flow_rule, judge}
 use Rattle.layout.specs.Bytes.{kind_at}
 use Rattle.implication.specs.declared.Condition.TheVariants.{Passes, Fails}
 use Rattle.goals.specs.declared.Goal.TheVariants.{Flow}
@@ -18,12 +18,12 @@ use Rattle.rule_laws.proofs.Trying.{up-to}
 
 module _ {Γ : Context} {file ends : List ℕ} {p c q at : ℕ} (can : CanTry file ends Γ 2 (Flow p c q) at) where
   pub not-sequence : (kind_at file c ≡ 25 → ⊥) → StepOf file ends Γ (Flow p c q) at Fails
-  unfolding flowRule
+  unfolding flow_rule
   not-sequence h = flow-rule can flow2 λ x y e t d end a k z s.
       misfit-comes (other-than_sequence Γ misfit e _ (other-kind k h))
 
   passes : kind_at file c ≡ 25 → FlowComes Γ file ends p c q at flow2 Passes
-  unfolding flowRule judge byForm
+  unfolding flow_rule judge by_form
   passes h x y e (members m & child k & child l & done) d end a b z (m-at, (i, k-at, (j, l-at, last))) =
       let f = is-sequence can.can.ends_of b h in
       rw f.is (comes _ Passes refl refl

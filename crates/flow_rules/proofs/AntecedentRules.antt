@@ -8,7 +8,7 @@ use mathlib.Core.List.{List}
 use Prim.Native.Nat.{ℕ, ◌+◌}
 use Rattle.rules.specs.Context.{Context}
 use Rattle.rules.specs.Evidence.{Parts, row, flow12, members, assertion, child, done, ◌&◌}
-use Rattle.rules.specs.Judge.{flowRule, judge}
+use Rattle.rules.specs.Judge.{flow_rule, judge}
 use Rattle.implication.specs.declared.Condition.TheVariants.{Fails}
 use Rattle.goals.specs.declared.Goal.TheVariants.{Flow}
 use Rattle.goals.specs.Conditions.{condition_of}
@@ -47,14 +47,14 @@ module _ {Γ : Context} {file ends : List ℕ} {p c q at : ℕ} (can : CanTry fi
 
   module _ {a : Bool} (u : SameUnder file ends p (at + 1) (third ends at) a) where
     fails : a ≡ false → FlowComes Γ file ends p c q at flow12 Fails
-    unfolding flowRule judge
+    unfolding flow_rule judge
     fails h x y e (members s & members s' & assertion φ & assertion φ' & l) d end f g z
         (s-at, (s'-at, (φ-at, (φ'-at, _)))) =
         first-fails _ refl (u.does x s φ f s-at φ-at) h
 
     comes : a ≡ true → {b : Bool} → SameUnder file ends q (second ends at) (fourth ends at) b →
         FlowComes Γ file ends p c q at flow12 (condition_of b)
-    unfolding flowRule judge
+    unfolding flow_rule judge
     comes h w x y e (members s & members s' & assertion φ & assertion φ' & child k & child l & done) d end f g z
         (s-at, (s'-at, (φ-at, (φ'-at, (i, k-at, (j, l-at, last)))))) =
         second-test refl (sym (u.does x s φ f s-at φ-at) ∙ h)

@@ -10,9 +10,9 @@ use mathlib.Core.List.{List}
 use Prim.Native.Nat.{ℕ, ◌+◌}
 use Rattle.language.specs.Syntax.{Assignment, to_scalar, to_array}
 use Rattle.rules.specs.Context.{Context}
-use Rattle.rules.specs.Condition.{byForm}
+use Rattle.rules.specs.Condition.{by_form}
 use Rattle.rules.specs.Evidence.{flow1, flow3, flow4, flow5}
-use Rattle.rules.specs.Judge.{misfit, flowRule}
+use Rattle.rules.specs.Judge.{misfit, flow_rule}
 use Rattle.layout.specs.Bytes.{kind_at}
 use Rattle.matching.specs.declared.cursor.Put.{Put}
 use Rattle.implication.specs.declared.Condition.TheVariants.{Fails}
@@ -57,24 +57,24 @@ module _ {Γ : Context} {file ends : List ℕ} {p c q at : ℕ} where
 
   module _ (can : CanTry file ends Γ 1 (Flow p c q) at) where
     pub not-skip : (kind_at file c ≡ 24 → ⊥) → StepOf file ends Γ (Flow p c q) at Fails
-    unfolding flowRule
+    unfolding flow_rule
     not-skip h = flow-rule can flow1 λ x y e t d end a k z s. misfit-comes (other-than_skip Γ misfit e _ (other-kind k h))
 
     pub skip-comes : kind_at file c ≡ 24 → {b : Bool} → SameWritten file ends p q b →
         StepOf file ends Γ (Flow p c q) at (condition_of b)
-    unfolding flowRule byForm
+    unfolding flow_rule by_form
     skip-comes h w = flow-rule can flow1 λ x y e t d end a k z s.
         rw (is-skip k h) (by-test refl (w.does x y a z)
         (no-children (no-parts Γ file ends d t s)))
 
   module _ (can : CanTry file ends Γ 3 (Flow p c q) at) where
     pub not_scalar : (kind_at file c ≡ 27 → ⊥) → StepOf file ends Γ (Flow p c q) at Fails
-    unfolding flowRule
+    unfolding flow_rule
     not_scalar h = flow-rule can flow3 λ x y e t d end a k z s. misfit-comes (other-than_scalar Γ misfit e _ (other-kind k h))
 
     pub scalar-comes : kind_at file c ≡ 27 → {b : Bool} → SameReplaced file ends p q (putting file ends c 2) b →
         StepOf file ends Γ (Flow p c q) at (condition_of b)
-    unfolding flowRule byForm
+    unfolding flow_rule by_form
     scalar-comes h w = flow-rule can flow3 λ x y e t d end a k z s.
         let i = is-scalar can.can.ends_of k h in
         rw i.is (by-test refl (w.does x y _ a z (put-scalar (right_side 2 i)))
@@ -82,12 +82,12 @@ module _ {Γ : Context} {file ends : List ℕ} {p c q at : ℕ} where
 
   module _ (can : CanTry file ends Γ 4 (Flow p c q) at) where
     pub not-array : (kind_at file c ≡ 28 → ⊥) → StepOf file ends Γ (Flow p c q) at Fails
-    unfolding flowRule
+    unfolding flow_rule
     not-array h = flow-rule can flow4 λ x y e t d end a k z s. misfit-comes (other-than_array Γ misfit e _ (other-kind k h))
 
     pub array-comes : kind_at file c ≡ 28 → {b : Bool} → SameReplaced file ends p q (putting file ends c 16) b →
         StepOf file ends Γ (Flow p c q) at (condition_of b)
-    unfolding flowRule byForm
+    unfolding flow_rule by_form
     array-comes h w = flow-rule can flow4 λ x y e t d end a k z s.
         let i = is-array can.can.ends_of k h in
         rw i.is (by-test refl (w.does x y _ a z (put-array (right_side 16 i)))
@@ -95,12 +95,12 @@ module _ {Γ : Context} {file ends : List ℕ} {p c q at : ℕ} where
 
   module _ (can : CanTry file ends Γ 5 (Flow p c q) at) where
     pub not-assert : (kind_at file c ≡ 26 → ⊥) → StepOf file ends Γ (Flow p c q) at Fails
-    unfolding flowRule
+    unfolding flow_rule
     not-assert h = flow-rule can flow5 λ x y e t d end a k z s. misfit-comes (other-than_assert Γ misfit e _ (other-kind k h))
 
     pub assert-comes : kind_at file c ≡ 26 → {b : Bool} → SameUnder file ends p q (c + 1) b →
         StepOf file ends Γ (Flow p c q) at (condition_of b)
-    unfolding flowRule byForm
+    unfolding flow_rule by_form
     assert-comes h w = flow-rule can flow5 λ x y e t d end a k z s.
         let i = is-assert can.can.ends_of k h in
         rw i.is (by-test refl

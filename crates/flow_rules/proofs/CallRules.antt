@@ -9,9 +9,9 @@ use mathlib.Core.Bool.{Bool, true, false}
 use mathlib.Core.List.{List}
 use Prim.Native.Nat.{ℕ}
 use Rattle.rules.specs.Context.{Context}
-use Rattle.rules.specs.Condition.{byForm, on_some}
+use Rattle.rules.specs.Condition.{by_form, on_some}
 use Rattle.rules.specs.Evidence.{flow31}
-use Rattle.rules.specs.Judge.{misfit, flowRule}
+use Rattle.rules.specs.Judge.{misfit, flow_rule}
 use Rattle.layout.specs.Bytes.{kind_at, payload_at}
 use Rattle.ends.specs.Places.{end_at}
 use Rattle.ends.specs.Procedures.{start_at}
@@ -34,7 +34,7 @@ post_at file ends c = end_at ends (pre_at file ends c)
 
 module _ {Γ : Context} {file ends : List ℕ} {p c q at : ℕ} (can : CanTry file ends Γ 31 (Flow p c q) at) where
   pub not_call : (kind_at file c ≡ 38 → ⊥) → StepOf file ends Γ (Flow p c q) at Fails
-  unfolding flowRule
+  unfolding flow_rule
   not_call h = flow-rule can flow31 λ x y e t d end f g z s. misfit-comes (other-than_call Γ misfit e _ (other-kind g h))
 
   module _ (h : kind_at file c ≡ 38) where
@@ -54,14 +54,14 @@ module _ {Γ : Context} {file ends : List ℕ} {p c q at : ℕ} (can : CanTry fi
 
     module _ {a : Bool} (u : SameWritten file ends p (pre_at file ends c) a) where
       pub other-pre : a ≡ false → StepOf file ends Γ (Flow p c q) at Fails
-      unfolding flowRule byForm on_some
+      unfolding flow_rule by_form on_some
       other-pre n = flow-rule can flow31 λ x y e t d end f g z s.
           let l = is_call g h in
           rw (l.is, l.listed) (first-fails _ refl (u.does x _ f (procedure-at can.can.procedures l).pre) n)
 
       pub call-comes : a ≡ true → {b : Bool} → SameWritten file ends q (post_at file ends c) b →
           StepOf file ends Γ (Flow p c q) at (condition_of b)
-      unfolding flowRule byForm on_some
+      unfolding flow_rule by_form on_some
       call-comes n w = flow-rule can flow31 λ x y e t d end f g z s.
           let l = is_call g h in
           let k = procedure-at can.can.procedures l in

@@ -6,7 +6,7 @@ use mathlib.Core.List.{List}
 use Prim.Native.Nat.{ℕ}
 use Rattle.rules.specs.Context.{Context}
 use Rattle.rules.specs.Evidence.{flow7, flow8, members, child, done, ◌&◌}
-use Rattle.rules.specs.Judge.{flowRule, judge}
+use Rattle.rules.specs.Judge.{flow_rule, judge}
 use Rattle.implication.specs.declared.Condition.TheVariants.{Passes}
 use Rattle.goals.specs.declared.Goal.TheVariants.{Flow}
 use Rattle.goals.specs.Goals.{flow-stands, set-stands, CanTry, StepOf}
@@ -15,12 +15,12 @@ use Rattle.rule_laws.proofs.Trying.{up-to}
 
 module _ {Γ : Context} {file ends : List ℕ} (p c q at : ℕ) where
   passes-7 : FlowComes Γ file ends p c q at flow7 Passes
-  unfolding flowRule judge
+  unfolding flow_rule judge
   passes-7 x y e (members m & child n & child k & done) d end a b z (m-at, (i, n-at, (j, k-at, last))) =
       comes _ Passes refl refl (two-children (set-stands a m-at n-at) (up-to (flow-stands m-at b z k-at) last))
 
   passes-8 : FlowComes Γ file ends p c q at flow8 Passes
-  unfolding flowRule judge
+  unfolding flow_rule judge
   passes-8 x y e (members m & child k & child n & done) d end a b z (m-at, (i, k-at, (j, n-at, last))) =
       comes _ Passes refl refl (two-children (flow-stands a b m-at k-at) (up-to (set-stands m-at z n-at) last))
 

@@ -8,7 +8,7 @@ use mathlib.Core.List.{List}
 use Prim.Native.Nat.{ℕ, ◌+◌}
 use Rattle.rules.specs.Context.{Context}
 use Rattle.rules.specs.Evidence.{Parts, row, flow9, members, child, done, ◌&◌}
-use Rattle.rules.specs.Judge.{flowRule, judge}
+use Rattle.rules.specs.Judge.{flow_rule, judge}
 use Rattle.implication.specs.declared.Condition.TheVariants.{Fails}
 use Rattle.goals.specs.declared.Goal.TheVariants.{Flow}
 use Rattle.goals.specs.Conditions.{condition_of}
@@ -47,14 +47,14 @@ module _ {Γ : Context} {file ends : List ℕ} {p c q at : ℕ} (can : CanTry fi
 
   module _ {a : Bool} (u : SameUnion file ends p (at + 1) (third ends at) a) where
     fails : a ≡ false → FlowComes Γ file ends p c q at flow9 Fails
-    unfolding flowRule judge
+    unfolding flow_rule judge
     fails h x y e (members s & members s' & members t & members t' & l) d end f g z
         (s-at, (s'-at, (t-at, (t'-at, _)))) =
         first-fails _ refl (u.does x s t f s-at t-at) h
 
     comes : a ≡ true → {b : Bool} → SameUnion file ends q (second ends at) (fourth ends at) b →
         FlowComes Γ file ends p c q at flow9 (condition_of b)
-    unfolding flowRule judge
+    unfolding flow_rule judge
     comes h w x y e (members s & members s' & members t & members t' & child k & child l & done) d end f g z
         (s-at, (s'-at, (t-at, (t'-at, (i, k-at, (j, l-at, last)))))) =
         second-test refl (sym (u.does x s t f s-at t-at) ∙ h)

@@ -11,7 +11,7 @@ use Prim.Native.Nat.{ℕ, ◌+◌}
 use Rattle.rules.specs.Context.{Context}
 use Rattle.rules.specs.Condition.{on_one}
 use Rattle.rules.specs.Evidence.{flow10, flow11, child, done, ◌&◌}
-use Rattle.rules.specs.Judge.{misfit, flowRule, judge}
+use Rattle.rules.specs.Judge.{misfit, flow_rule, judge}
 use Rattle.ends.specs.Places.{end_at}
 use Rattle.masks.specs.Filled.{MasksOf}
 use Rattle.implication.specs.declared.Condition.TheVariants.{Fails}
@@ -38,24 +38,24 @@ module _ {Γ : Context} {file ends : List ℕ} {p c q at : ℕ} (can : CanTry fi
 
   module _ {a : Bool} (u : SameWritten file ends p q a) where
     pub not_same : a ≡ false → StepOf file ends Γ (Flow p c q) at Fails
-    unfolding flowRule
+    unfolding flow_rule
     not_same h = flow-rule can flow10 λ x y e t d end f g z s.
         first-fails _ refl (u.does x y f z) h
 
     pub set-kept : a ≡ true → {b : Bool} → KeptAt file ends q c b → StepOf file ends Γ (Flow p c q) at (condition_of b)
-    unfolding flowRule
+    unfolding flow_rule
     set-kept h w = flow-rule can flow10 λ x y e t d end f g z s.
         second-test refl (sym (u.does x y f z) ∙ h) (w.set Γ can.can.procedures y e z g)
         (no-children (no-parts Γ file ends d t s))
 
 module _ {Γ : Context} {file ends : List ℕ} {p c q at : ℕ} (can : CanTry file ends Γ 11 (Flow p c q) at) where
   pub not-one_before : (count_at file p ≡ 1 → ⊥) → StepOf file ends Γ (Flow p c q) at Fails
-  unfolding flowRule
+  unfolding flow_rule
   not-one_before n = flow-rule can flow11 λ x y e t d end f g z s. misfit-comes (not-one f misfit _ n)
 
   module _ (one : count_at file p ≡ 1) where
     pub not-one_after : (count_at file q ≡ 1 → ⊥) → StepOf file ends Γ (Flow p c q) at Fails
-    unfolding flowRule on_one
+    unfolding flow_rule on_one
     not-one_after n = flow-rule can flow11 λ x y e t d end f g z s.
         rw (is_one f can.can.ends_of one).is (misfit-comes (not-one z misfit _ n))
 
@@ -80,7 +80,7 @@ module _ {Γ : Context} {file ends : List ℕ} {p c q at : ℕ} (can : CanTry fi
 
       module _ {a : Bool} (u : SameAt file ends (end_at ends (p + 1)) (end_at ends (q + 1)) a) where
         pub other-consequent : a ≡ false → StepOf file ends Γ (Flow p c q) at Fails
-        unfolding flowRule on_one
+        unfolding flow_rule on_one
         other-consequent h = flow-rule can flow11 λ x y e t d end f g z s.
             let m = is_one f can.can.ends_of one in
             let n = is_one z can.can.ends_of alone in
@@ -88,7 +88,7 @@ module _ {Γ : Context} {file ends : List ℕ} {p c q at : ℕ} (can : CanTry fi
 
         kept : a ≡ true → {b : Bool} → KeptAt file ends (end_at ends (p + 1)) c b →
             FlowComes Γ file ends p c q at flow11 (condition_of b)
-        unfolding flowRule judge on_one
+        unfolding flow_rule judge on_one
         kept h w x y e (child k & done) d end f g z (i, k-at, last) =
             let m = is_one f can.can.ends_of one in
             let n = is_one z can.can.ends_of alone in

@@ -19,7 +19,7 @@ use Rattle.rules.specs.Evidence as tree
 use Rattle.rules.specs.Evidence.{Item, Rule, row, Parts}
 use Rattle.rules.specs.Condition.{Result, fails, test, ◌then◌}
 use Rattle.rules.specs.Judge.{Verdict, accepted, refused, ◌also◌, RuleStep, step, misfit, applied}
-use Rattle.rules.specs.Judge.{flowRule, set_rule, preRule, judge}
+use Rattle.rules.specs.Judge.{flow_rule, set_rule, pre_rule, judge}
 use Rattle.layout.specs.Bytes.{payload_at}
 use Rattle.layout.proofs.BackEvidence.{rule-row}
 use Rattle.implication.specs.Sides.{result_of}
@@ -108,7 +108,7 @@ module _ (Γ : Context) (file ends : List ℕ) where
   FlowComes p c q at {n} {l} r result =
       (x y : Members) (e : Command) (t : Parts l) (d end : ℕ) → SetAt file ends Γ x p → ResolvedAt file ends Γ e c →
       SetAt file ends Γ y q → Placed Γ file ends d t (at + 1) end →
-      ComesTo Γ file ends (applied l (flowRule Γ r) (judge Γ t) x e y) (children_at file ends (Flow p c q) n at) d
+      ComesTo Γ file ends (applied l (flow_rule Γ r) (judge Γ t) x e y) (children_at file ends (Flow p c q) n at) d
       (past_carried ends l (at + 1)) end result
 
   abbrev pub SetComes : (p q at : ℕ) {n : ℕ} {l : List Item} → Rule tree.implication n l → Condition → Type 0
@@ -122,7 +122,7 @@ module _ (Γ : Context) (file ends : List ℕ) where
   PreComes f c g at {n} {l} r result =
       (φ φ' : Expr Boolean) (e : Command) (t : Parts l) (d end : ℕ) → WrittenAt file ends φ f →
       ResolvedAt file ends Γ e c → WrittenAt file ends φ' g → Placed Γ file ends d t (at + 1) end →
-      ComesTo Γ file ends (applied l (preRule Γ r) (judge Γ t) φ e φ') (children_at file ends (Pre f c g) n at) d
+      ComesTo Γ file ends (applied l (pre_rule Γ r) (judge Γ t) φ e φ') (children_at file ends (Pre f c g) n at) d
       (past_carried ends l (at + 1)) end result
 
   -- what a step promises of a goal as trees

@@ -12,7 +12,7 @@ use Rattle.language.specs.Syntax.{Boolean, Expr, Command}
 use Rattle.rules.specs.Assertion.{Members}
 use Rattle.rules.specs.Context.{Context}
 use Rattle.rules.specs.Evidence.{Item, by, FlowEvidence, SetEvidence, PreEvidence}
-use Rattle.rules.specs.Judge.{Verdict, accepted, refused, ◌also◌, RuleStep, step, applied, flowRule, set_rule, preRule, judge}
+use Rattle.rules.specs.Judge.{Verdict, accepted, refused, ◌also◌, RuleStep, step, applied, flow_rule, set_rule, pre_rule, judge}
 use Rattle.layout.specs.Bytes.{payload_at}
 use Rattle.ends.specs.Ends.{EndsOf}
 use Rattle.implication.specs.Sides.{result_of}
@@ -42,9 +42,9 @@ verdicts Γ [] = accepted 0
 verdicts Γ (g ∷ l) = verdict Γ g also verdicts Γ l
 
 abbrev pub tree_step : Context → TreeGoal → RuleStep
-tree_step Γ (flow (by {l = l} r i t) p c q) = applied l (flowRule Γ r) (judge Γ t) p c q
+tree_step Γ (flow (by {l = l} r i t) p c q) = applied l (flow_rule Γ r) (judge Γ t) p c q
 tree_step Γ (set (by {l = l} r i t) p q) = applied l (set_rule Γ r) (judge Γ t) p q
-tree_step Γ (pre (by {l = l} r i t) φ c φ') = applied l (preRule Γ r) (judge Γ t) φ c φ'
+tree_step Γ (pre (by {l = l} r i t) φ c φ') = applied l (pre_rule Γ r) (judge Γ t) φ c φ'
 
 abbrev pub tree_items : TreeGoal → List Item
 tree_items (flow (by {l = l} r i t) p c q) = l

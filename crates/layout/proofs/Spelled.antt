@@ -17,7 +17,7 @@ use Rattle.layout.specs.Bytes.{kind_at}
 use Rattle.layout.specs.Reading.{Reader, several}
 use Rattle.layout.specs.Read.{operator_of, comparison_of, truth_of}
 use Rattle.layout.specs.Read.{arithmetic_word, boolean_word, array_word, expression_word}
-use Rattle.layout.specs.Read.{expression, commandWord, command, sort_of, consequent_at, member_at, set}
+use Rattle.layout.specs.Read.{expression, command_word, command, sort_of, consequent_at, member_at, set}
 use Rattle.layout.specs.Spelling.{payload_of, SpelledAt, FitsExpression, FitsCommand}
 use Rattle.layout.specs.Spelling.{member_words, members_words, set_words, FitsMembers, FitsSet}
 use Rattle.layout.proofs.Constant.{payload_of-constant, constant-fits}
@@ -116,9 +116,9 @@ module _ (file : List ℕ) where
     expression-word Array = array-word
 
     module _ (Γ : Context) (body : Reader Command) (b : (q : ℕ) → Yields file q (CommandSpelled Γ d q) body) where
-      command-word : Optional (λ r. Yields file (at + 1) (CommandSpelled Γ (suc d) at) r) (commandWord Γ part body k p)
+      command_here : Optional (λ r. Yields file (at + 1) (CommandSpelled Γ (suc d) at) r) (command_word Γ part body k p)
       unfolding command_words FitsCommand
-      command-word =
+      command_here =
           entry k 24 (λ e. up-to 0 p _ λ h. start _ (after f e (none_left h) (alone tt)))
           (entry k 25 (λ e. up-to 0 p _ λ h. start _ (λ _ _ s _ _ t. after f e (none_left h) (both s t)) ▹ b ▹ b)
           (entry k 26 (λ e. up-to 0 p _ λ h. start _ (λ _ _ s. after f e (none_left h) s) ▹ a Boolean)
@@ -145,7 +145,7 @@ module _ (file : List ℕ) where
   command-past Γ zero at = level-past at _
   command-past Γ (suc d) at =
       due-past at _ λ k p f.
-      command-word d (expression file d) (λ i q. past-yields (expression-past d i q)) at k p f Γ (command Γ file d)
+      command_here d (expression file d) (λ i q. past-yields (expression-past d i q)) at k p f Γ (command Γ file d)
       (λ q. past-yields (command-past Γ d q))
 
   -- what a consequent makes of an antecedent

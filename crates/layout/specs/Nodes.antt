@@ -1,6 +1,6 @@
 -- Expressions, commands and sets as nodes of one kind of tree: a first word, and the nodes that follow it (document 01,
 -- "Layout").
--- Working: `node_Law` of proofs/Nodes says that a node's words are its first word and then those of its parts, and that a node fits
+-- Working: `node_law` of proofs/Nodes says that a node's words are its first word and then those of its parts, and that a node fits
 -- where its payload and its parts do. Assumes nothing.
 --     Node, node_words, FitsNode, node_part    an expression, a command or a set
 --     head_of, parts_of                        its first word, its parts; a new form has one clause in `shape`

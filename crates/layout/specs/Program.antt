@@ -11,8 +11,8 @@ use Rattle.rules.specs.Assertion.{Members}
 use Rattle.rules.specs.Context.{Procedure, Context}
 use Rattle.rules.specs.Evidence.{flow, FlowEvidence}
 use Rattle.layout.specs.Reading.{Reader, here, pure, ◌⊛◌}
-use Rattle.layout.specs.Read.{command as readCommand, set}
-use Rattle.layout.specs.ReadEvidence.{evidence as readEvidence}
+use Rattle.layout.specs.Read.{command as read_command, set}
+use Rattle.layout.specs.ReadEvidence.{evidence as read_evidence}
 
 pub record Program : Type 0 where
   pub start : ℕ
@@ -42,8 +42,8 @@ made s c a p b q e k z = record {
 abbrev pub program : Context → List ℕ → Reader Program
 program Γ file =
     let d = Γ.limits.depth in
-    pure made ⊛ here ⊛ readCommand Γ file d ⊛ here ⊛ set Γ file d ⊛ here ⊛ set Γ file d ⊛ here
-    ⊛ readEvidence Γ file d flow ⊛ here
+    pure made ⊛ here ⊛ read_command Γ file d ⊛ here ⊛ set Γ file d ⊛ here ⊛ set Γ file d ⊛ here
+    ⊛ read_evidence Γ file d flow ⊛ here
 
 abbrev pub procedure_of : Program → Procedure
 procedure_of f = record { body = f.command; pre = f.pre; post = f.post }

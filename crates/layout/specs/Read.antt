@@ -2,7 +2,7 @@
 -- Trusted. Assumes nothing.
 --     operator_of, comparison_of, truth_of        payloads of kinds 3, 8 and 9
 --     arithmetic_word, boolean_word, array_word   the layout's lists, by kind and payload
---     expression_word, commandWord              the same by the sort; of commands
+--     expression_word, command_word              the same by the sort; of commands
 --     sort_of, consequent_at                     a consequent's sort by its first word; a consequent
 --     expression, command, member_at, set       the readers
 use Rattle.std.specs.Prelude.{Bool, true, false, cond, ◌&&◌, List, [], ◌∷◌, ℕ, zero, suc, ◌/◌, ◌%◌, leb}
@@ -62,9 +62,9 @@ expression file zero j at = no_level file at
 expression file (suc d) j at = word_due file (λ _ k p. expression_word (λ i q. expression file d i q) j k p) at
 
 -- `part j` reads an operand, `body` a command; a call of any number is read
-abbrev pub commandWord :
+abbrev pub command_word :
     Context → ((j : Sort) → Reader (Expr j)) → Reader Command → ℕ → ℕ → Option (Reader Command)
-commandWord Γ part body k p = allow k (
+command_word Γ part body k p = allow k (
     (24, up_to 0 p (pure skip))
     ∷ (25, up_to 0 p (pure sequence ⊛ body ⊛ body))
     ∷ (26, up_to 0 p (pure assert ⊛ part Boolean))
@@ -79,7 +79,7 @@ commandWord Γ part body k p = allow k (
 unfoldable pub command : Context → List ℕ → ℕ → Reader Command
 command Γ file zero at = no_level file at
 command Γ file (suc d) at =
-    word_due file (λ _ k p. commandWord Γ (expression file d) (λ q. command Γ file d q) k p) at
+    word_due file (λ _ k p. command_word Γ (expression file d) (λ q. command Γ file d q) k p) at
 
 -- the sort of an expression by its first word's kind; a word of no expression is refused as arithmetic refuses it
 abbrev pub sort_of : ℕ → Sort

@@ -14,7 +14,7 @@ use Rattle.language.specs.Syntax.{Sort, Expr, Command}
 use Rattle.rules.specs.Context.{Limits, Context, alone}
 use Rattle.layout.specs.Bytes.{word_count, kind_at, payload_at}
 use Rattle.layout.specs.Reading.{Reading, read, fault, Reader, allowed, word_due}
-use Rattle.layout.specs.Read.{expression, commandWord, command}
+use Rattle.layout.specs.Read.{expression, command_word, command}
 use Rattle.layout.specs.EvidenceWords.{command_part}
 use Rattle.layout.specs.Standing.{PartStands}
 use Rattle.layout.specs.Nodes.{command_node}
@@ -36,7 +36,7 @@ no_call (inl i) e = omega arith
 no_call (inr i) e = i.1 e
 
 no_word : (Γ : Context) (part : (j : Sort) → Reader (Expr j)) (body : Reader Command) (k p : ℕ) → OtherKind k →
-    commandWord Γ part body k p ≡ none
+    command_word Γ part body k p ≡ none
 no_word Γ part body k p h =
     rw (
       ne_eqb k 24 (other-than 24 (omega arith) (omega arith) h),

@@ -7,9 +7,9 @@ use mathlib.Core.Bool.{Bool}
 use mathlib.Core.List.{List}
 use Prim.Native.Nat.{ℕ, ◌+◌}
 use Rattle.rules.specs.Context.{Context}
-use Rattle.rules.specs.Condition.{byForm}
+use Rattle.rules.specs.Condition.{by_form}
 use Rattle.rules.specs.Evidence.{row, Parts, assertion, child, done, ◌&◌, pre20}
-use Rattle.rules.specs.Judge.{misfit, preRule, judge}
+use Rattle.rules.specs.Judge.{misfit, pre_rule, judge}
 use Rattle.layout.specs.Bytes.{kind_at}
 use Rattle.language.specs.Syntax.{Boolean}
 use Rattle.ends.specs.Places.{end_at}
@@ -35,7 +35,7 @@ carried Γ file ends d at end (assertion φ₁ & assertion φ₂ & t) (a, (b, x)
 
 module _ {file ends : List ℕ} {Γ : Context} {f c g at : ℕ} (can : CanTry file ends Γ 20 (Pre f c g) at) where
   pub if_fails : (kind_at file c ≡ 29 → ⊥) → StepOf file ends Γ (Pre f c g) at Fails
-  unfolding preRule
+  unfolding pre_rule
   if_fails h = misfit-rule can pre20 λ φ φ' e t y. other-than_if Γ misfit e _ (other-kind y h)
 
   module _ (h : kind_at file c ≡ 29) {q : ℕ} (i : q ≡ end_at ends (at + 1)) where
@@ -54,14 +54,14 @@ module _ {file ends : List ℕ} {Γ : Context} {f c g at : ℕ} (can : CanTry fi
 
     pub if_rule : {b : Bool} → SplitAt file ends f (c + 1) (at + 1) q b → {r : Condition} → r ≡ condition_of b →
         StepOf file ends Γ (Pre f c g) at r
-    unfolding preRule judge byForm
+    unfolding pre_rule judge by_form
     if_rule split {r} n = pre-rule can pre20 go
       where
         go : PreComes Γ file ends f c g at pre20 r
         go φ φ' e (assertion φ₁ & assertion φ₂ & child k & child l & done) d end x y z
             (a, (b, (j, k-at, (m, l-at, last)))) =
             let s = is-if can.can.ends_of y h in
-            comes _ r (ap (λ u. preRule Γ pre20 φ₁ φ₂ (judge Γ k) (judge Γ l) φ u φ') s.is)
+            comes _ r (ap (λ u. pre_rule Γ pre20 φ₁ φ₂ (judge Γ k) (judge Γ l) φ u φ') s.is)
             (tested n (split.is φ s.test φ₁ φ₂ x s.test_at a (at_place i b)))
             (two-children (pre-stands a s.first-at z k-at)
             (up-to (pre-stands b s.second_at z l-at) last))

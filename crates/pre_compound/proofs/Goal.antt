@@ -17,7 +17,7 @@ use lib.ListN.{length}
 use Rattle.language.specs.Syntax.{Boolean, Expr, Command}
 use Rattle.rules.specs.Context.{Context}
 use Rattle.rules.specs.Evidence.{Item, assertion_item, Rule, Parts, precondition, assertion, done, ◌&◌}
-use Rattle.rules.specs.Judge.{accepted, misfit, childless, applied, preRule, judge}
+use Rattle.rules.specs.Judge.{accepted, misfit, childless, applied, pre_rule, judge}
 use Rattle.implication.specs.Sides.{result_of}
 use Rattle.implication.specs.declared.Condition.{Condition}
 use Rattle.implication.specs.declared.Condition.TheVariants.{Fails}
@@ -81,7 +81,7 @@ module _ {file ends : List ℕ} {Γ : Context} {f c g at : ℕ} where
 
     pub leaf-rule : (r : Rule precondition n []) → children_at file ends (Pre f c g) n at ≡ [] → {u : Condition} →
         ((φ φ' : Expr Boolean) (e : Command) → WrittenAt file ends φ f → ResolvedAt file ends Γ e c →
-        WrittenAt file ends φ' g → preRule Γ r φ e φ' ≡ childless (result_of u)) → StepOf file ends Γ (Pre f c g) at u
+        WrittenAt file ends φ' g → pre_rule Γ r φ e φ' ≡ childless (result_of u)) → StepOf file ends Γ (Pre f c g) at u
     leaf-rule r none {u} h = pre-rule can r go
       where
         go : PreComes Γ file ends f c g at r u
@@ -91,7 +91,7 @@ module _ {file ends : List ℕ} {Γ : Context} {f c g at : ℕ} where
 
     pub misfit-rule : {l : List Item} (r : Rule precondition n l) →
         ((φ φ' : Expr Boolean) (e : Command) (t : Parts l) → ResolvedAt file ends Γ e c →
-        applied l (preRule Γ r) (judge Γ t) φ e φ' ≡ misfit) → StepOf file ends Γ (Pre f c g) at Fails
+        applied l (pre_rule Γ r) (judge Γ t) φ e φ' ≡ misfit) → StepOf file ends Γ (Pre f c g) at Fails
     misfit-rule r h = pre-rule can r λ φ φ' e t d end x y z s. misfit-comes (h φ φ' e t y)
 
 -- rules 20, 21, 23, 28, 30 and 32 alone have children

@@ -8,9 +8,9 @@ use mathlib.Core.List.{List}
 use Prim.Native.Nat.{ℕ, ◌+◌}
 use native.Mathlib.Omega.{arith}
 use Rattle.rules.specs.Context.{Context}
-use Rattle.rules.specs.Condition.{byForm}
+use Rattle.rules.specs.Condition.{by_form}
 use Rattle.rules.specs.Evidence.{row, Parts, assertion, command, child, done, ◌&◌, pre21, pre30}
-use Rattle.rules.specs.Judge.{misfit, preRule, judge}
+use Rattle.rules.specs.Judge.{misfit, pre_rule, judge}
 use Rattle.layout.specs.Bytes.{kind_at}
 use Rattle.implication.specs.declared.Condition.{Condition}
 use Rattle.implication.specs.declared.Condition.TheVariants.{Fails}
@@ -30,7 +30,7 @@ use Rattle.pre_compound.proofs.Goal.{here, command-head, first-carried, misfit-r
 
 module _ {file ends : List ℕ} {Γ : Context} {f c g at : ℕ} (can : CanTry file ends Γ 21 (Pre f c g) at) where
   pub while-fails : (kind_at file c ≡ 30 → ⊥) → StepOf file ends Γ (Pre f c g) at Fails
-  unfolding preRule
+  unfolding pre_rule
   while-fails h = misfit-rule can pre21 λ φ φ' e t y. other-than_while Γ misfit e _ (other-kind y h)
 
   module _ (h : kind_at file c ≡ 30) where
@@ -49,13 +49,13 @@ module _ {file ends : List ℕ} {Γ : Context} {f c g at : ℕ} (can : CanTry fi
 
     pub while-rule : {limit : ℕ} → Γ.limits.comparisons ≡ limit → {r : Condition} →
         RepeatsAt file ends limit (at + 1) (c + 1) g f r → StepOf file ends Γ (Pre f c g) at r
-    unfolding preRule judge byForm
+    unfolding pre_rule judge by_form
     while-rule l {r} repeats = pre-rule can pre21 go
       where
         go : PreComes Γ file ends f c g at pre21 r
         go φ φ' e (assertion φ₀ & child k & done) d end x y z (a, (i, k-at, last)) =
             let s = is-while can.can.ends_of y h in
-            comes _ r (ap (λ u. preRule Γ pre21 φ₀ (judge Γ k) φ u φ') s.is)
+            comes _ r (ap (λ u. pre_rule Γ pre21 φ₀ (judge Γ k) φ u φ') s.is)
             (repeats.is φ₀ s.test φ' φ a s.test_at z x Γ l)
             (one-child (up-to (pre-stands a s.body_at x k-at) last))
 
@@ -66,7 +66,7 @@ carried-known Γ file ends d at end o (command e & t) (a, x) = node_known o a.th
 
 module _ {file ends : List ℕ} {Γ : Context} {f c g at : ℕ} (can : CanTry file ends Γ 30 (Pre f c g) at) where
   pub for-fails : (kind_at file c ≡ 31 → ⊥) → StepOf file ends Γ (Pre f c g) at Fails
-  unfolding preRule
+  unfolding pre_rule
   for-fails h = misfit-rule can pre30 λ φ φ' e t y. other-than_for Γ misfit e _ (other-kind y h)
 
   module _ (h : kind_at file c ≡ 31) where
@@ -83,13 +83,13 @@ module _ {file ends : List ℕ} {Γ : Context} {f c g at : ℕ} (can : CanTry fi
 
     pub for-rule : {b : Bool} → MeaningAt file ends (at + 1) c b → {r : Condition} → r ≡ condition_of b →
         StepOf file ends Γ (Pre f c g) at r
-    unfolding preRule judge byForm
+    unfolding pre_rule judge by_form
     for-rule means {r} n = pre-rule can pre30 go
       where
         go : PreComes Γ file ends f c g at pre30 r
         go φ φ' e (command p & child k & done) d end x y z (a, (i, k-at, last)) =
             let s = is-for can.can.ends_of y h in
             let there = subst (λ u. CommandAt file ends Γ u c) s.is y.there in
-            comes _ r (ap (λ u. preRule Γ pre30 p (judge Γ k) φ u φ') s.is)
+            comes _ r (ap (λ u. pre_rule Γ pre30 p (judge Γ k) φ u φ') s.is)
             (tested n (means.is Γ p s.counter s.bound s.body a.there there))
             (one-child (up-to (pre-stands x a z k-at) last))

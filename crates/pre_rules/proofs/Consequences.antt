@@ -8,7 +8,7 @@ use mathlib.Core.List.{List}
 use Prim.Native.Nat.{ℕ, ◌+◌}
 use Rattle.rules.specs.Context.{Context}
 use Rattle.rules.specs.Evidence.{assertion, child, done, ◌&◌, pre28, pre29}
-use Rattle.rules.specs.Judge.{childless, preRule, judge}
+use Rattle.rules.specs.Judge.{childless, pre_rule, judge}
 use Rattle.implication.specs.declared.Condition.{Condition}
 use Rattle.goals.specs.Conditions.{condition_of}
 use Rattle.goals.specs.Goals.{CanTry, StepOf, pre-stands}
@@ -31,7 +31,7 @@ module _ {file ends : List ℕ} {Γ : Context} {f c g at : ℕ} where
     }
 
     pub stronger_rule : {r : Condition} → ImpliesAt file ends Γ (at + 1) f r → StepOf file ends Γ (Pre f c g) at r
-    unfolding preRule judge
+    unfolding pre_rule judge
     stronger_rule {r} implied = pre-rule can pre28 go
       where
         go : PreComes Γ file ends f c g at pre28 r
@@ -41,5 +41,5 @@ module _ {file ends : List ℕ} {Γ : Context} {f c g at : ℕ} where
 
   pub true-rule : CanTry file ends Γ 29 (Pre f c g) at → {b : Bool} → TrueAt file ends f b → {r : Condition} →
       r ≡ condition_of b → StepOf file ends Γ (Pre f c g) at r
-  unfolding preRule
+  unfolding pre_rule
   true-rule can holds i = leaf-rule can pre29 refl λ φ φ' e x y z. ap childless (sym (tested i (holds.is φ x)))

@@ -7,7 +7,7 @@ use mathlib.Core.List.{List}
 use Prim.Native.Nat.{ℕ}
 use Rattle.rules.specs.Context.{Context}
 use Rattle.rules.specs.Evidence.{pre27}
-use Rattle.rules.specs.Judge.{childless, preRule}
+use Rattle.rules.specs.Judge.{childless, pre_rule}
 use Rattle.implication.specs.declared.Condition.{Condition}
 use Rattle.implication.specs.declared.Condition.TheVariants.{Fails}
 use Rattle.goals.specs.Conditions.{condition_of}
@@ -21,11 +21,11 @@ use Rattle.pre_compound.proofs.Goal.{leaf-rule}
 module _ {file ends : List ℕ} {Γ : Context} {f c g at : ℕ} (can : CanTry file ends Γ 27 (Pre f c g) at) {a : Bool}
     (same : SameAssertionAt file ends f g a) where
   pub differs_fails : a ≡ false → StepOf file ends Γ (Pre f c g) at Fails
-  unfolding preRule
+  unfolding pre_rule
   differs_fails h = leaf-rule can pre27 refl λ φ φ' e x y z. ap childless (then-fails _ (sym (same.is φ φ' x z) ∙ h))
 
   pub kept_rule : a ≡ true → {b : Bool} → KeptAt file ends f c b → {r : Condition} → r ≡ condition_of b →
       StepOf file ends Γ (Pre f c g) at r
-  unfolding preRule
+  unfolding pre_rule
   kept_rule h kept i = leaf-rule can pre27 refl λ φ φ' e x y z.
       ap childless (then-passes _ (sym (same.is φ φ' x z) ∙ h) ∙ sym (tested i (kept.expression Γ can.can.procedures φ e x y)))

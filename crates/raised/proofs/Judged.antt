@@ -25,10 +25,10 @@ use Rattle.rules.specs.Evidence.{done, ◌&◌, flow1, flow2, flow3, flow4, flow
 use Rattle.rules.specs.Evidence.{flow10, flow11, flow12, flow13, flow14, flow31, set13, set14, set15, set16, set17, set18}
 use Rattle.rules.specs.Evidence.{set19, pre20, pre21, pre22, pre23, pre24, pre25, pre26, pre27, pre28, pre29}
 use Rattle.rules.specs.Evidence.{pre30, pre32}
-use Rattle.rules.specs.Condition.{Result, passes, fails, too_large, test, ◌then◌, implication, each_implies_false, byForm}
+use Rattle.rules.specs.Condition.{Result, passes, fails, too_large_kept, test, ◌then◌, implication, each_implies_false, by_form}
 use Rattle.rules.specs.Condition.{on_sequence, on_if, on_while, on_for, on_call, on_empty, on_one}
 use Rattle.rules.specs.Judge.{Verdict, accepted, refused, one_more, ◌also◌, RuleStep, step, misfit, childless, judge_word}
-use Rattle.rules.specs.Judge.{preRule, set_rule, flowRule, judge}
+use Rattle.rules.specs.Judge.{pre_rule, set_rule, flow_rule, judge}
 
 abbrev pub limited : Limits → List Procedure → Context
 limited limits l = record { limits = limits; procedures = l }
@@ -56,13 +56,13 @@ also_kept nine h = nine
 -- a result stays, or it was that a condition is too large
 data KeptResult : Result → Result → Type 0 where
   kept_result : {r : Result} → KeptResult r r
-  too_large_kept : {r : Result} → KeptResult too_large r
+  too_large_kept : {r : Result} → KeptResult too_large_kept r
 
 then-kept : {q q' r r' : Result} → KeptResult q q' → KeptResult r r' → KeptResult (q then r) (q' then r')
 unfolding ◌then◌
 then-kept {q = passes} kept_result h = h
 then-kept {q = fails} kept_result h = kept_result
-then-kept {q = too_large} kept_result h = kept_result
+then-kept {q = too_large_kept} kept_result h = kept_result
 then-kept too_large_kept h = too_large_kept
 
 data KeptStep : RuleStep → RuleStep → Type 0 where
@@ -85,7 +85,7 @@ word_kept : (i : ℕ) {s s' : RuleStep} → KeptStep s s' → Kept (judge_word i
 unfolding judge_word
 word_kept i (both-kept {r = passes} kept_result h) = more-kept h
 word_kept i (both-kept {r = fails} kept_result h) = kept
-word_kept i (both-kept {r = too_large} kept_result h) = kept
+word_kept i (both-kept {r = too_large_kept} kept_result h) = kept
 word_kept i (both-kept too_large_kept h) = nine
 
 -- ---- a command or a set, by its form: what is the same in both contexts is kept as it is
@@ -98,8 +98,8 @@ form-kept : (c : Command) {s s' : RuleStep} {q q' : Command → Command → Rule
     ((b : Expr Boolean) (c d : Command) → KeptStep (f b c d) (f' b c d)) →
     ((b : Expr Boolean) (c : Command) → KeptStep (w b c) (w' b c)) →
     ((y n : ℕ) (c : Command) → KeptStep (o y n c) (o' y n c)) → ((y : ℕ) (c : Command) → KeptStep (l y c) (l' y c)) →
-    KeptStep (byForm s q t x a f w o l c) (byForm s' q' t' x' a' f' w' o' l' c)
-unfolding byForm
+    KeptStep (by_form s q t x a f w o l c) (by_form s' q' t' x' a' f' w' o' l' c)
+unfolding by_form
 form-kept skip s q t x a f w o l = s
 form-kept (sequence c d) s q t x a f w o l = q c d
 form-kept (assert b) s q t x a f w o l = t b
@@ -156,7 +156,7 @@ module _ (low high : Limits) (more : low.comparisons ≤ high.comparisons) where
       n = length (distinct φ ψ)
 
       fits : Bool → Result
-      fits b = elim b [ true ↦ test (truth_table (distinct φ ψ) φ ψ) | false ↦ too_large ]
+      fits b = elim b [ true ↦ test (truth_table (distinct φ ψ) φ ψ) | false ↦ too_large_kept ]
 
       go : (a b : Bool) → leb n low.comparisons ≡ a → leb n high.comparisons ≡ b → KeptResult (fits a) (fits b)
       go false b e h = too_large_kept
@@ -171,7 +171,7 @@ module _ (low high : Limits) (more : low.comparisons ≤ high.comparisons) where
 
     pub pre-kept : (k : PreEvidence) (φ : Expr Boolean) (c : Command) (φ' : Expr Boolean) →
         Kept (judge (limited low l) k φ c φ') (judge (limited high l) k φ c φ')
-    unfolding judge preRule
+    unfolding judge pre_rule
     pre-kept (by pre20 i (assertion φ₁ & assertion φ₂ & child k & child n & done)) φ c φ' = word_kept i
         (if_kept c λ b c₁ c₂. children-kept (also_kept (pre-kept k φ₁ c₁ φ') (pre-kept n φ₂ c₂ φ')))
     pre-kept (by pre21 i (assertion φ₀ & child k & done)) φ c φ' = word_kept i
@@ -206,7 +206,7 @@ module _ (low high : Limits) (more : low.comparisons ≤ high.comparisons) where
 
     pub flow-kept : (k : FlowEvidence) (p : Members) (c : Command) (q : Members) →
         Kept (judge (limited low l) k p c q) (judge (limited high l) k p c q)
-    unfolding judge flowRule
+    unfolding judge flow_rule
     flow-kept (by flow1 i done) p c q = kept
     flow-kept (by flow2 i (members s & child k & child n & done)) p c q = word_kept i
         (sequence-kept c λ c₁ c₂. children-kept (also_kept (flow-kept k p c₁ s) (flow-kept n s c₂ q)))

@@ -17,7 +17,7 @@ use Rattle.layout.specs.Bytes.{kind_at, payloads}
 use Rattle.layout.specs.Reading.{Reader, pure, ◌⊛◌}
 use Rattle.layout.specs.Read.{operator_of, comparison_of, truth_of}
 use Rattle.layout.specs.Read.{arithmetic_word, boolean_word, array_word, expression_word}
-use Rattle.layout.specs.Read.{expression, commandWord, command, sort_of, consequent_at, member_at, set}
+use Rattle.layout.specs.Read.{expression, command_word, command, sort_of, consequent_at, member_at, set}
 use Rattle.layout.specs.ReadEvidence.{evidence_kind, rule_of, item_reader, parts_reader, evidence}
 use Rattle.layout.specs.Program.{program}
 use Rattle.layout.proofs.Words.{WordFound}
@@ -67,9 +67,9 @@ module _ (file : List ℕ) (most : ℕ) where
 
     -- x, y and z read a command; the procedures are the same
     module _ (low any high : Limits) (l : List Procedure) (x y z : Reader Command) (b : ReadersRaised file most x y z) where
-      command-word : RaisedAt file most at (commandWord (limited low l) r x k p) (commandWord (limited any l) t y k p)
-          (commandWord (limited high l) s z k p)
-      command-word =
+      command_here : RaisedAt file most at (command_word (limited low l) r x k p) (command_word (limited any l) t y k p)
+          (command_word (limited high l) s z k p)
+      command_here =
           entry k 24 (λ e. up-to 0 p (begin _))
           (entry k 25 (λ e. up-to 0 p (begin _ ▸ b ▸ b))
           (entry k 26 (λ e. up-to 0 p (begin _ ▸ a Boolean))
@@ -120,7 +120,7 @@ module _ (file : List ℕ) {low any high : Limits} (h : RaisedLimits low any hig
   command-raised (suc d) zero i = absurd (omega arith)
   command-raised (suc d) (suc n) i =
       past-raised (λ at. due-raised at _ _ _ λ k p f.
-      command-word file low.members (expression file d) (expression file d) (expression file n)
+      command_here file low.members (expression file d) (expression file d) (expression file n)
       (λ j. expression-raised file low.members d n (omega arith) j) at k p low any high l _ _ _ (command-raised d n (omega arith)))
       (command-past file (limited any l) (suc d))
 

@@ -17,7 +17,7 @@ use native.Mathlib.Omega.{arith}
 use Rattle.language.specs.Syntax.{Sort, Boolean, Arithmetic, Array, Expr, Assignment, to_scalar, to_array}
 use Rattle.language.specs.Syntax.{Command, skip, sequence, assert, assign, if_else, while, for, call}
 use Rattle.rules.specs.Context.{Procedure, Context, item_at}
-use Rattle.rules.specs.Condition.{byForm, on_skip, on_sequence, on_assert, on_scalar, on_array, on_if, on_while, on_for, on_call}
+use Rattle.rules.specs.Condition.{by_form, on_skip, on_sequence, on_assert, on_scalar, on_array, on_if, on_while, on_for, on_call}
 use Rattle.rules.specs.Resolved.{Resolved}
 use Rattle.layout.specs.Bytes.{kind_at, payload_at, payloads}
 use Rattle.layout.specs.Nodes.{command_node, head_of, parts_of, kind_of}
@@ -222,7 +222,7 @@ module _ {file ends : List ℕ} {Γ : Context} (o : EndsOf file ends) where
 -- a command of another form
 module _ {A : Type 0} (Γ : Context) (other : A) where
   -- by form, where each form that the command can have gives the same
-  by_form : (s : A) (q : Command → Command → A) (t : Expr Boolean → A) (x : ℕ → Expr Arithmetic → A)
+  by_form_lem : (s : A) (q : Command → Command → A) (t : Expr Boolean → A) (x : ℕ → Expr Arithmetic → A)
       (a : ℕ → Expr Array → A) (i : Expr Boolean → Command → Command → A) (w : Expr Boolean → Command → A)
       (f : ℕ → ℕ → Command → A) (l : ℕ → Command → A) (c : Command) → (command_kind Γ c ≡ 24 → s ≡ other) →
       ((c₁ c₂ : Command) → command_kind Γ c ≡ 25 → q c₁ c₂ ≡ other) → ((b : Expr Boolean) → command_kind Γ c ≡ 26 → t b ≡ other) →
@@ -231,72 +231,72 @@ module _ {A : Type 0} (Γ : Context) (other : A) where
       ((b : Expr Boolean) (c₁ c₂ : Command) → command_kind Γ c ≡ 29 → i b c₁ c₂ ≡ other) →
       ((b : Expr Boolean) (c₁ : Command) → command_kind Γ c ≡ 30 → w b c₁ ≡ other) →
       ((y m : ℕ) (c₁ : Command) → command_kind Γ c ≡ 31 → f y m c₁ ≡ other) →
-      ((y : ℕ) (c₁ : Command) → command_kind Γ c ≡ 38 → l y c₁ ≡ other) → byForm s q t x a i w f l c ≡ other
-  unfolding byForm
-  by_form s q t x a i w f l skip h₁ h₂ h₃ h₄ h₅ h₆ h₇ h₈ h₉ = h₁ refl
-  by_form s q t x a i w f l (sequence c d) h₁ h₂ h₃ h₄ h₅ h₆ h₇ h₈ h₉ = h₂ c d refl
-  by_form s q t x a i w f l (assert b) h₁ h₂ h₃ h₄ h₅ h₆ h₇ h₈ h₉ = h₃ b refl
-  by_form s q t x a i w f l (assign (to_scalar y e)) h₁ h₂ h₃ h₄ h₅ h₆ h₇ h₈ h₉ = h₄ y e refl
-  by_form s q t x a i w f l (assign (to_array y e)) h₁ h₂ h₃ h₄ h₅ h₆ h₇ h₈ h₉ = h₅ y e refl
-  by_form s q t x a i w f l (if_else b c d) h₁ h₂ h₃ h₄ h₅ h₆ h₇ h₈ h₉ = h₆ b c d refl
-  by_form s q t x a i w f l (while b c) h₁ h₂ h₃ h₄ h₅ h₆ h₇ h₈ h₉ = h₇ b c refl
-  by_form s q t x a i w f l (for y m c) h₁ h₂ h₃ h₄ h₅ h₆ h₇ h₈ h₉ = h₈ y m c refl
-  by_form s q t x a i w f l (call y c) h₁ h₂ h₃ h₄ h₅ h₆ h₇ h₈ h₉ = h₉ y c refl
+      ((y : ℕ) (c₁ : Command) → command_kind Γ c ≡ 38 → l y c₁ ≡ other) → by_form s q t x a i w f l c ≡ other
+  unfolding by_form
+  by_form_lem s q t x a i w f l skip h₁ h₂ h₃ h₄ h₅ h₆ h₇ h₈ h₉ = h₁ refl
+  by_form_lem s q t x a i w f l (sequence c d) h₁ h₂ h₃ h₄ h₅ h₆ h₇ h₈ h₉ = h₂ c d refl
+  by_form_lem s q t x a i w f l (assert b) h₁ h₂ h₃ h₄ h₅ h₆ h₇ h₈ h₉ = h₃ b refl
+  by_form_lem s q t x a i w f l (assign (to_scalar y e)) h₁ h₂ h₃ h₄ h₅ h₆ h₇ h₈ h₉ = h₄ y e refl
+  by_form_lem s q t x a i w f l (assign (to_array y e)) h₁ h₂ h₃ h₄ h₅ h₆ h₇ h₈ h₉ = h₅ y e refl
+  by_form_lem s q t x a i w f l (if_else b c d) h₁ h₂ h₃ h₄ h₅ h₆ h₇ h₈ h₉ = h₆ b c d refl
+  by_form_lem s q t x a i w f l (while b c) h₁ h₂ h₃ h₄ h₅ h₆ h₇ h₈ h₉ = h₇ b c refl
+  by_form_lem s q t x a i w f l (for y m c) h₁ h₂ h₃ h₄ h₅ h₆ h₇ h₈ h₉ = h₈ y m c refl
+  by_form_lem s q t x a i w f l (call y c) h₁ h₂ h₃ h₄ h₅ h₆ h₇ h₈ h₉ = h₉ y c refl
 
   pub other-than_skip : (c : Command) (g : A) → (command_kind Γ c ≡ 24 → ⊥) → on_skip c other g ≡ other
   other-than_skip c g n =
-      by_form _ _ _ _ _ _ _ _ _ c
+      by_form_lem _ _ _ _ _ _ _ _ _ c
       (λ k. absurd (n k)) (λ _ _ k. refl) (λ _ k. refl) (λ _ _ k. refl)
       (λ _ _ k. refl) (λ _ _ _ k. refl) (λ _ _ k. refl) (λ _ _ _ k. refl) (λ _ _ k. refl)
 
   pub other-than_sequence : (c : Command) (g : Command → Command → A) → (command_kind Γ c ≡ 25 → ⊥) →
       on_sequence c other g ≡ other
   other-than_sequence c g n =
-      by_form _ _ _ _ _ _ _ _ _ c
+      by_form_lem _ _ _ _ _ _ _ _ _ c
       (λ k. refl) (λ _ _ k. absurd (n k)) (λ _ k. refl) (λ _ _ k. refl)
       (λ _ _ k. refl) (λ _ _ _ k. refl) (λ _ _ k. refl) (λ _ _ _ k. refl) (λ _ _ k. refl)
 
   pub other-than_assert : (c : Command) (g : Expr Boolean → A) → (command_kind Γ c ≡ 26 → ⊥) → on_assert c other g ≡ other
   other-than_assert c g n =
-      by_form _ _ _ _ _ _ _ _ _ c
+      by_form_lem _ _ _ _ _ _ _ _ _ c
       (λ k. refl) (λ _ _ k. refl) (λ _ k. absurd (n k)) (λ _ _ k. refl)
       (λ _ _ k. refl) (λ _ _ _ k. refl) (λ _ _ k. refl) (λ _ _ _ k. refl) (λ _ _ k. refl)
 
   pub other-than_scalar : (c : Command) (g : ℕ → Expr Arithmetic → A) → (command_kind Γ c ≡ 27 → ⊥) → on_scalar c other g ≡ other
   other-than_scalar c g n =
-      by_form _ _ _ _ _ _ _ _ _ c
+      by_form_lem _ _ _ _ _ _ _ _ _ c
       (λ k. refl) (λ _ _ k. refl) (λ _ k. refl) (λ _ _ k. absurd (n k))
       (λ _ _ k. refl) (λ _ _ _ k. refl) (λ _ _ k. refl) (λ _ _ _ k. refl) (λ _ _ k. refl)
 
   pub other-than_array : (c : Command) (g : ℕ → Expr Array → A) → (command_kind Γ c ≡ 28 → ⊥) → on_array c other g ≡ other
   other-than_array c g n =
-      by_form _ _ _ _ _ _ _ _ _ c
+      by_form_lem _ _ _ _ _ _ _ _ _ c
       (λ k. refl) (λ _ _ k. refl) (λ _ k. refl) (λ _ _ k. refl)
       (λ _ _ k. absurd (n k)) (λ _ _ _ k. refl) (λ _ _ k. refl) (λ _ _ _ k. refl) (λ _ _ k. refl)
 
   pub other-than_if : (c : Command) (g : Expr Boolean → Command → Command → A) → (command_kind Γ c ≡ 29 → ⊥) →
       on_if c other g ≡ other
   other-than_if c g n =
-      by_form _ _ _ _ _ _ _ _ _ c
+      by_form_lem _ _ _ _ _ _ _ _ _ c
       (λ k. refl) (λ _ _ k. refl) (λ _ k. refl) (λ _ _ k. refl)
       (λ _ _ k. refl) (λ _ _ _ k. absurd (n k)) (λ _ _ k. refl) (λ _ _ _ k. refl) (λ _ _ k. refl)
 
   pub other-than_while : (c : Command) (g : Expr Boolean → Command → A) → (command_kind Γ c ≡ 30 → ⊥) →
       on_while c other g ≡ other
   other-than_while c g n =
-      by_form _ _ _ _ _ _ _ _ _ c
+      by_form_lem _ _ _ _ _ _ _ _ _ c
       (λ k. refl) (λ _ _ k. refl) (λ _ k. refl) (λ _ _ k. refl)
       (λ _ _ k. refl) (λ _ _ _ k. refl) (λ _ _ k. absurd (n k)) (λ _ _ _ k. refl) (λ _ _ k. refl)
 
   pub other-than_for : (c : Command) (g : ℕ → ℕ → Command → A) → (command_kind Γ c ≡ 31 → ⊥) → on_for c other g ≡ other
   other-than_for c g n =
-      by_form _ _ _ _ _ _ _ _ _ c
+      by_form_lem _ _ _ _ _ _ _ _ _ c
       (λ k. refl) (λ _ _ k. refl) (λ _ k. refl) (λ _ _ k. refl)
       (λ _ _ k. refl) (λ _ _ _ k. refl) (λ _ _ k. refl) (λ _ _ _ k. absurd (n k)) (λ _ _ k. refl)
 
   pub other-than_call : (c : Command) (g : ℕ → Command → A) → (command_kind Γ c ≡ 38 → ⊥) → on_call c other g ≡ other
   other-than_call c g n =
-      by_form _ _ _ _ _ _ _ _ _ c
+      by_form_lem _ _ _ _ _ _ _ _ _ c
       (λ k. refl) (λ _ _ k. refl) (λ _ k. refl) (λ _ _ k. refl)
       (λ _ _ k. refl) (λ _ _ _ k. refl) (λ _ _ k. refl) (λ _ _ _ k. refl) (λ _ _ k. absurd (n k))
 

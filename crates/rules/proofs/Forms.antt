@@ -10,7 +10,7 @@ use Prim.Native.Nat.{ℕ}
 use Rattle.language.specs.Syntax.{Arithmetic, Boolean, Array, Expr, to_scalar, to_array}
 use Rattle.language.specs.Syntax.{Command, skip, sequence, assert, assign, if_else, while, for, call}
 use Rattle.rules.specs.Assertion.{Member, Members}
-use Rattle.rules.specs.Condition.{byForm, on_skip, on_sequence, on_assert, on_scalar, on_array, on_if, on_while, on_for}
+use Rattle.rules.specs.Condition.{by_form, on_skip, on_sequence, on_assert, on_scalar, on_array, on_if, on_while, on_for}
 use Rattle.rules.specs.Condition.{on_call, on_empty, on_one, on_some}
 
 module _ {A : Type 0} (P : A → Type 0) (R : Command → Type 0) where
@@ -24,8 +24,8 @@ module _ {A : Type 0} (P : A → Type 0) (R : Command → Type 0) where
       ((b : Expr Boolean) (c d : Command) → P (i b c d) → R (if_else b c d)) →
       ((b : Expr Boolean) (c : Command) → P (w b c) → R (while b c)) →
       ((y m : ℕ) (c : Command) → P (f y m c) → R (for y m c)) →
-      ((y : ℕ) (c : Command) → P (l y c) → R (call y c)) → (c : Command) → P (byForm s q t x a i w f l c) → R c
-  unfolding byForm
+      ((y : ℕ) (c : Command) → P (l y c) → R (call y c)) → (c : Command) → P (by_form s q t x a i w f l c) → R c
+  unfolding by_form
   form-is s q t x a i w f l s' q' t' x' a' i' w' f' l' skip h = s' h
   form-is s q t x a i w f l s' q' t' x' a' i' w' f' l' (sequence c d) h = q' c d h
   form-is s q t x a i w f l s' q' t' x' a' i' w' f' l' (assert b) h = t' b h

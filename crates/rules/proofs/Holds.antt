@@ -20,10 +20,10 @@ use Rattle.rules.specs.Evidence.{PreEvidence, flow1, flow2, flow3, flow4, flow5,
 use Rattle.rules.specs.Evidence.{flow10, flow11, flow12, flow13, flow14, flow31, set13, set14, set15, set16, set17, set18}
 use Rattle.rules.specs.Evidence.{set19, pre20, pre21, pre22, pre23, pre24, pre25, pre26, pre27, pre28, pre29}
 use Rattle.rules.specs.Evidence.{pre30, pre32}
-use Rattle.rules.specs.Condition.{Result, passes, fails, too_large, byForm, on_skip, on_sequence, on_assert, on_scalar}
+use Rattle.rules.specs.Condition.{Result, passes, fails, too_large, by_form, on_skip, on_sequence, on_assert, on_scalar}
 use Rattle.rules.specs.Condition.{on_array, on_if, on_while, on_for, on_call, on_empty, on_one, on_some}
 use Rattle.rules.specs.Judge.{Verdict, accepted, refused, one_more, ◌also◌, RuleStep, step, misfit, childless, judge_word}
-use Rattle.rules.specs.Judge.{Judge, GivenItem, GivenItems, Given, applied, preRule, set_rule, flowRule, judge}
+use Rattle.rules.specs.Judge.{Judge, GivenItem, GivenItems, Given, applied, pre_rule, set_rule, flow_rule, judge}
 
 -- the count of evidence: what is carried has none
 abbrev pub tally : {s : Standing} → Tree s → ℕ
@@ -127,8 +127,8 @@ module _ {H : ℕ → Type 0} {P : Verdict → ℕ → Type 0} (holding : Holdin
         ((y : ℕ) (e : Expr Array) → StepHolds (a y e) m) →
         ((b : Expr Boolean) (c d : Command) → StepHolds (f b c d) m) →
         ((b : Expr Boolean) (c : Command) → StepHolds (w b c) m) → ((y n : ℕ) (c : Command) → StepHolds (o y n c) m) →
-        ((y : ℕ) (c : Command) → StepHolds (l y c) m) → StepHolds (byForm s q t x a f w o l c) m
-    unfolding byForm
+        ((y : ℕ) (c : Command) → StepHolds (l y c) m) → StepHolds (by_form s q t x a f w o l c) m
+    unfolding by_form
     form-holds skip s q t x a f w o l = s
     form-holds (sequence c d) s q t x a f w o l = q c d
     form-holds (assert b) s q t x a f w o l = t b
@@ -219,8 +219,8 @@ module _ {H : ℕ → Type 0} {P : Verdict → ℕ → Type 0} (holding : Holdin
 
   module _ (Γ : Context) where
     pre-rule : {n : ℕ} {l : List Item} (r : Rule precondition n l) (g : GivenItems l) (m : PartCounts l) → PartsHold l g m →
-        (φ : Expr Boolean) (c : Command) (φ' : Expr Boolean) → StepHolds (applied l (preRule Γ r) g φ c φ') (total l m)
-    unfolding preRule
+        (φ : Expr Boolean) (c : Command) (φ' : Expr Boolean) → StepHolds (applied l (pre_rule Γ r) g φ c φ') (total l m)
+    unfolding pre_rule
     pre-rule pre20 (φ₁, (φ₂, _)) m (_, (_, (k, (l, _)))) φ c φ' =
         if_holds _ c λ b c₁ c₂. passing _ (also_holds (k φ₁ c₁ φ') (l φ₂ c₂ φ'))
     pre-rule pre21 (φ₀, _) m (_, (k, _)) φ c φ' = while-holds _ c λ b c₁. passing _ (k φ₀ c₁ φ)
@@ -248,8 +248,8 @@ module _ {H : ℕ → Type 0} {P : Verdict → ℕ → Type 0} (holding : Holdin
     set-rule set19 g m h p q = one_holds _ q λ x. some_holds _ (operands x.antecedent x.consequent) λ r. leaf-holds _
 
     flow-rule : {n : ℕ} {l : List Item} (r : Rule flow n l) (g : GivenItems l) (m : PartCounts l) → PartsHold l g m →
-        (p : Members) (c : Command) (q : Members) → StepHolds (applied l (flowRule Γ r) g p c q) (total l m)
-    unfolding flowRule
+        (p : Members) (c : Command) (q : Members) → StepHolds (applied l (flow_rule Γ r) g p c q) (total l m)
+    unfolding flow_rule
     flow-rule flow1 g m h p c q = skip-holds _ c (leaf-holds _)
     flow-rule flow2 (s, _) m (_, (k, (l, _))) p c q =
         sequence-holds _ c λ c₁ c₂. passing _ (also_holds (k p c₁ s) (l s c₂ q))

@@ -23,9 +23,9 @@ use Rattle.rules.specs.Derivation.{rule-27, rule-28, rule-29, rule-30, rule-32, 
 use Rattle.rules.specs.Derivation.{set_rule-15, set_rule-16, set_rule-17, set_rule-18, set_rule-19}
 use Rattle.rules.specs.Derivation.{rule-1, rule-2, rule-3, rule-4, rule-5, rule-6, rule-7, rule-8, rule-9}
 use Rattle.rules.specs.Derivation.{rule-10, rule-11, rule-12, rule-13, rule-14, rule-31}
-use Rattle.rules.specs.Condition.{Result, passes, fails, too_large, test, ◌then◌, byForm, on_empty, on_one, on_some}
+use Rattle.rules.specs.Condition.{Result, passes, fails, too_large, test, ◌then◌, by_form, on_empty, on_one, on_some}
 use Rattle.rules.specs.Judge.{Verdict, accepted, refused, one_more, ◌also◌, RuleStep, step, childless, misfit, judge_word}
-use Rattle.rules.specs.Judge.{preRule, set_rule, flowRule, judge}
+use Rattle.rules.specs.Judge.{pre_rule, set_rule, flow_rule, judge}
 use Rattle.rules.proofs.Decides.{same_words-decides, same_antecedent-decides, same_consequent-decides}
 use Rattle.rules.proofs.Decides.{stands-decides, within-decides, same-decides, unmodified-decides}
 use Rattle.rules.proofs.Decides.{is_empty-decides}
@@ -90,7 +90,7 @@ also_accepts (refused j l) w g h = g
 module _ (Γ : Context) where
   necessary-sound : (k : PreEvidence) (φ : Expr Boolean) (c : Command) (φ' : Expr Boolean) →
       Accepts (judge Γ k φ c φ') → Necessary Γ k φ c φ'
-  unfolding judge preRule
+  unfolding judge pre_rule
   necessary-sound (by pre20 i (assertion φ₁ & assertion φ₂ & child k & child l & done)) φ c φ' h =
       if_is (WordAccepted i) _ (misfits i) (λ c. Necessary Γ (by pre20 i (assertion φ₁ & assertion φ₂ & child k & child l & done)) φ c φ') c _ h λ b c₁ c₂ h.
       word-is i _ _ h λ g h. also_is _ _ h λ u v.
@@ -134,7 +134,7 @@ module _ (Γ : Context) where
 
   necessary-complete : {k : PreEvidence} {φ : Expr Boolean} {c : Command} {φ' : Expr Boolean} →
       Necessary Γ k φ c φ' → Accepts (judge Γ k φ c φ')
-  unfolding judge preRule byForm
+  unfolding judge pre_rule by_form
   necessary-complete (rule-20 {i = i} g u v) =
       word-accepts i _ _ ((test-passes (same_antecedent-decides _ _)).complete g)
       (also_accepts _ _ (necessary-complete u) (necessary-complete v))
@@ -207,7 +207,7 @@ module _ (Γ : Context) where
 
   flow-sound : (k : FlowEvidence) (p : Members) (c : Command) (q : Members) →
       Accepts (judge Γ k p c q) → Flow Γ k p c q
-  unfolding judge flowRule
+  unfolding judge flow_rule
   flow-sound (by flow1 i done) p c q h =
       skip_is (WordAccepted i) _ (misfits i) (λ c. Flow Γ (by flow1 i done) p c q) c _ h λ h.
       word-is i _ _ h λ g u. rule-1 ((test-passes (same-decides p q)).sound g)
@@ -273,7 +273,7 @@ module _ (Γ : Context) where
 
   flow-complete : {k : FlowEvidence} {p q : Members} {c : Command} →
       Flow Γ k p c q → Accepts (judge Γ k p c q)
-  unfolding judge flowRule byForm on_one on_some
+  unfolding judge flow_rule by_form on_one on_some
   flow-complete (rule-1 {i = i} g) = leaf-accepts i _ ((test-passes (same-decides _ _)).complete g)
   flow-complete (rule-2 {i = i} u v) = word-accepts i _ _ tt (also_accepts _ _ (flow-complete u) (flow-complete v))
   flow-complete (rule-3 {i = i} g) = leaf-accepts i _ ((test-passes (same-decides _ _)).complete g)

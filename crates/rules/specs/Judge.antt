@@ -8,7 +8,7 @@
 --     Judge, GivenItem, GivenItems    how evidence is judged against a goal; what a rule is given of its parts
 --     Takes, applied                  a rule as what takes these one after the other
 --     Given                           what any tree gives to the rule above it
---     preRule, set_rule, flowRule      the rules
+--     pre_rule, set_rule, flow_rule      the rules
 --     judge                           evidence against a goal
 use Rattle.std.specs.Prelude.{true, List, [], ◌∷◌, ◌++◌, ℕ, suc, ◌+◌}
 use Rattle.language.specs.Syntax.{Boolean, Expr, truth, and, or, neg, to_scalar, to_array, Command}
@@ -93,27 +93,27 @@ Given (evidence.evidence j) = Judge j
 Given (item x) = GivenItem x
 Given (items l) = GivenItems l
 
-unfoldable pub preRule :
+unfoldable pub pre_rule :
     Context → {n : ℕ} {l : List Item} → Rule evidence.precondition n l → Takes l (Expr Boolean → Command → Expr Boolean → RuleStep)
-preRule Γ pre20 = λ φ₁ φ₂ k l φ c φ'. on_if c misfit λ b c₁ c₂.
+pre_rule Γ pre20 = λ φ₁ φ₂ k l φ c φ'. on_if c misfit λ b c₁ c₂.
     step (test (same_antecedent φ (or (and φ₁ b) (and φ₂ (neg b)))))
     (k φ₁ c₁ φ' also l φ₂ c₂ φ')
-preRule Γ pre21 = λ φ₀ k φ c φ'. on_while c misfit λ b c₁.
+pre_rule Γ pre21 = λ φ₀ k φ c φ'. on_while c misfit λ b c₁.
     step (implication Γ (and φ₀ b) φ then implication Γ (and φ' (neg b)) φ) (k φ₀ c₁ φ)
-preRule Γ pre22 = λ φ c φ'. on_skip c misfit (childless (test (same_antecedent φ φ')))
-preRule Γ pre23 = λ φ₁ k l φ c φ'. on_sequence c misfit λ c₁ c₂.
+pre_rule Γ pre22 = λ φ c φ'. on_skip c misfit (childless (test (same_antecedent φ φ')))
+pre_rule Γ pre23 = λ φ₁ k l φ c φ'. on_sequence c misfit λ c₁ c₂.
     step passes (k φ c₁ φ₁ also l φ₁ c₂ φ')
-preRule Γ pre24 = λ φ c φ'. on_scalar c misfit λ x e.
+pre_rule Γ pre24 = λ φ c φ'. on_scalar c misfit λ x e.
     childless (test (same_antecedent φ (replace φ' (replacement (to_scalar x e)))))
-preRule Γ pre25 = λ φ c φ'. on_array c misfit λ a e.
+pre_rule Γ pre25 = λ φ c φ'. on_array c misfit λ a e.
     childless (test (same_antecedent φ (replace φ' (replacement (to_array a e)))))
-preRule Γ pre26 = λ φ c φ'. on_assert c misfit λ b. childless (test (same_antecedent φ (and φ' b)))
-preRule Γ pre27 = λ φ c φ'. childless (test (same_antecedent φ φ') then test (unmodified (identifiers φ) c))
-preRule Γ pre28 = λ φ₁ k φ c φ'. step (implication Γ φ₁ φ) (k φ₁ c φ')
-preRule Γ pre29 = λ φ c φ'. childless (test (same_antecedent φ (truth true)))
-preRule Γ pre30 = λ d k φ c φ'. on_for c misfit λ q m c₁.
+pre_rule Γ pre26 = λ φ c φ'. on_assert c misfit λ b. childless (test (same_antecedent φ (and φ' b)))
+pre_rule Γ pre27 = λ φ c φ'. childless (test (same_antecedent φ φ') then test (unmodified (identifiers φ) c))
+pre_rule Γ pre28 = λ φ₁ k φ c φ'. step (implication Γ φ₁ φ) (k φ₁ c φ')
+pre_rule Γ pre29 = λ φ c φ'. childless (test (same_antecedent φ (truth true)))
+pre_rule Γ pre30 = λ d k φ c φ'. on_for c misfit λ q m c₁.
     step (test (same_words (command_words d) (command_words (meaning q m c₁)))) (k φ d φ')
-preRule Γ pre32 = λ k φ c φ'. on_call c misfit λ n d. step passes (k φ d φ')
+pre_rule Γ pre32 = λ k φ c φ'. on_call c misfit λ n d. step passes (k φ d φ')
 
 unfoldable pub set_rule : Context → {n : ℕ} {l : List Item} → Rule evidence.implication n l → Takes l (Members → Members → RuleStep)
 set_rule Γ set13 = λ p q. childless (test (within q p))
@@ -130,43 +130,43 @@ set_rule Γ set18 = λ p q. on_one p misfit λ m. on_one q misfit λ n.
 set_rule Γ set19 = λ p q. on_one q misfit λ n.
     on_some (operands n.antecedent n.consequent) misfit λ r. childless (test (same p r))
 
-unfoldable pub flowRule :
+unfoldable pub flow_rule :
     Context → {n : ℕ} {l : List Item} → Rule evidence.flow n l → Takes l (Members → Command → Members → RuleStep)
-flowRule Γ flow1 = λ p c q. on_skip c misfit (childless (test (same p q)))
-flowRule Γ flow2 = λ m k l p c q. on_sequence c misfit λ c₁ c₂.
+flow_rule Γ flow1 = λ p c q. on_skip c misfit (childless (test (same p q)))
+flow_rule Γ flow2 = λ m k l p c q. on_sequence c misfit λ c₁ c₂.
     step passes (k p c₁ m also l m c₂ q)
-flowRule Γ flow3 = λ p c q. on_scalar c misfit λ x e.
+flow_rule Γ flow3 = λ p c q. on_scalar c misfit λ x e.
     childless (test (same p (replace_members q (replacement (to_scalar x e)))))
-flowRule Γ flow4 = λ p c q. on_array c misfit λ a e.
+flow_rule Γ flow4 = λ p c q. on_array c misfit λ a e.
     childless (test (same p (replace_members q (replacement (to_array a e)))))
-flowRule Γ flow5 = λ p c q. on_assert c misfit λ b. childless (test (same p (under q b)))
-flowRule Γ flow6 = λ s t φ₀ k l n p c q. on_if c misfit λ b c₁ c₂. on_one q misfit λ m.
+flow_rule Γ flow5 = λ p c q. on_assert c misfit λ b. childless (test (same p (under q b)))
+flow_rule Γ flow6 = λ s t φ₀ k l n p c q. on_if c misfit λ b c₁ c₂. on_one q misfit λ m.
     step (test (same p (under s b ++ (under t (neg b) ++ one φ₀ b))))
     (k s c₁ q also l t c₂ q also n φ₀ c m.antecedent)
-flowRule Γ flow7 = λ m n k p c q. step passes (n p m also k m c q)
-flowRule Γ flow8 = λ m k n p c q. step passes (k p c m also n m q)
-flowRule Γ flow9 = λ s s' t t' k l p c q.
+flow_rule Γ flow7 = λ m n k p c q. step passes (n p m also k m c q)
+flow_rule Γ flow8 = λ m k n p c q. step passes (k p c m also n m q)
+flow_rule Γ flow9 = λ s s' t t' k l p c q.
     step (test (same p (s ++ t)) then test (same q (s' ++ t')))
     (k s c s' also l t c t')
-flowRule Γ flow10 = λ p c q. childless (test (same p q) then test (unmodified (set_identifiers q) c))
-flowRule Γ flow11 = λ n p c q. on_one p misfit λ m. on_one q misfit λ m'.
+flow_rule Γ flow10 = λ p c q. childless (test (same p q) then test (unmodified (set_identifiers q) c))
+flow_rule Γ flow11 = λ n p c q. on_one p misfit λ m. on_one q misfit λ m'.
     step
     (test (same_consequent m.consequent m'.consequent) then test (unmodified (identifiers m.consequent) c))
     (n m.antecedent c m'.antecedent)
-flowRule Γ flow12 = λ s s' φ φ' k n p c q.
+flow_rule Γ flow12 = λ s s' φ φ' k n p c q.
     step (test (same p (under s φ)) then test (same q (under s' φ')))
     (k s c s' also n φ c φ')
-flowRule Γ flow13 = λ k p c q. on_while c misfit λ b c₁.
+flow_rule Γ flow13 = λ k p c q. on_while c misfit λ b c₁.
     step (test (same p q) then test (stands (member (truth true) b) p)) (k p c₁ q)
-flowRule Γ flow14 = λ d k p c q. on_for c misfit λ v m c₁.
+flow_rule Γ flow14 = λ d k p c q. on_for c misfit λ v m c₁.
     step (test (same_words (command_words d) (command_words (meaning v m c₁)))) (k p d q)
-flowRule Γ flow31 = λ p c q. on_call c misfit λ n d. on_some (item_at Γ.procedures n) misfit λ k.
+flow_rule Γ flow31 = λ p c q. on_call c misfit λ n d. on_some (item_at Γ.procedures n) misfit λ k.
     childless (test (same p k.pre) then test (same q k.post))
 
 unfoldable pub judge : Context → {s : Standing} → Tree s → Given s
-judge Γ (by {j = evidence.flow} {l = l} r i t) = λ p c q. judge_word i (applied l (flowRule Γ r) (judge Γ t) p c q)
+judge Γ (by {j = evidence.flow} {l = l} r i t) = λ p c q. judge_word i (applied l (flow_rule Γ r) (judge Γ t) p c q)
 judge Γ (by {j = evidence.implication} {l = l} r i t) = λ p q. judge_word i (applied l (set_rule Γ r) (judge Γ t) p q)
-judge Γ (by {j = evidence.precondition} {l = l} r i t) = λ φ c φ'. judge_word i (applied l (preRule Γ r) (judge Γ t) φ c φ')
+judge Γ (by {j = evidence.precondition} {l = l} r i t) = λ φ c φ'. judge_word i (applied l (pre_rule Γ r) (judge Γ t) φ c φ')
 judge Γ (assertion φ) = φ
 judge Γ (command c) = c
 judge Γ (members p) = p

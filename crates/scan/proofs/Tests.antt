@@ -22,7 +22,7 @@ use Rattle.language.specs.Modifies.{scalar_of, modifies}
 use Rattle.rules.specs.Words.{for_word, command_words}
 use Rattle.rules.specs.Context.{Limits, Context}
 use Rattle.rules.specs.Resolved.{Resolved}
-use Rattle.rules.specs.Condition.{byForm}
+use Rattle.rules.specs.Condition.{by_form}
 use Rattle.layout.specs.Bytes.{word_count, kind_at, payload_at}
 use Rattle.layout.specs.Reading.{read, first_place}
 use Rattle.layout.specs.Read.{command}
@@ -64,7 +64,7 @@ record Over (file : List ℕ) (Δ : Context) (at q m : ℕ) (c : Command) : Type
   resolved : Resolved Δ.procedures c
 
 for-steady : (q m : ℕ) (c : Command) (p : ℕ) → unsteady (read (for q m c) p) ≡ not (steady q m c)
-unfolding byForm
+unfolding by_form
 for-steady q m c p = refl
 
 module _ (file ends : List ℕ) (at : ℕ) where

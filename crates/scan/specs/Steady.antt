@@ -1,5 +1,5 @@
 -- Refusal 7 (document 01, "Judging order") on words: each word of kind 31 is a `for`, and its body is a range of words.
--- Working: `file-fors` of layout/proofs/Fors, `found_Here` and `Found-None` of proofs/Tests tie it to the layout's `unsteady_at`.
+-- Working: `file-fors` of layout/proofs/Fors, `found_here` and `found_none` of proofs/Tests tie it to the layout's `unsteady_at`.
 -- Assumes nothing.
 --     MaskedFile       a file that refusals 2 to 6 and 16 let pass, and the masks of its procedures
 --     steadiness_of     the answer of the scan for the first `for` that refusal 7 refuses

@@ -1,5 +1,5 @@
 -- The trees that stand where sets are compared, and what the comparisons promise of them.
--- Working: `can-same` and `set_Does` of proofs/Rules tie it to the halves that are compared. Assumes nothing.
+-- Working: `can-same` and `set_does` of proofs/Rules tie it to the halves that are compared. Assumes nothing.
 --     MemberWritten, MembersWritten    a member at its place; members one after the other
 --     PileStands                       a pile is a set that a rule makes of written ones
 --     HasSet, HasPile                  some such tree is there

@@ -12,7 +12,7 @@ use Rattle.language.specs.Syntax as syntax
 use Rattle.language.specs.Syntax.{Sort, Expr, operation, compare, truth}
 use Rattle.rules.specs.Context.{Context}
 use Rattle.layout.specs.Reading.{Reader, pure, ◌⊛◌, up_to, on_option}
-use Rattle.layout.specs.Read.{arithmetic_word, boolean_word, array_word, commandWord}
+use Rattle.layout.specs.Read.{arithmetic_word, boolean_word, array_word, command_word}
 use Rattle.words.specs.Decode.{within, arithmetic_of, boolean_of, array_of, command_of}
 use Rattle.words.specs.Meaning.{arithmetic_meaning, boolean_meaning, array_meaning, command_meaning}
 
@@ -64,7 +64,7 @@ module _ (part : (j : Sort) → Reader (Expr j)) (k p : ℕ) where
       (both id f (eqb k 18) (up f 0 p refl refl) refl))
 
   pub command-of : (Γ : Context) (body : Reader syntax.Command) →
-      commandWord Γ part body k p ≡ command_meaning Γ part body (command_of k p)
+      command_word Γ part body k p ≡ command_meaning Γ part body (command_of k p)
   unfolding command_of
   command-of Γ body =
       let f = command_meaning Γ part body in
