@@ -17,7 +17,7 @@ use Rattle.laws.proofs.Bools.{clash}
 use Rattle.laws.proofs.Decides.{Decides, decides_same, decides_map}
 use Rattle.language.specs.Syntax.{Boolean, Expr, compare, truth, and, or, neg}
 use Rattle.rules.specs.Words.{words, same_words}
-use Rattle.rules.specs.Plain.{is_true_lem, plain}
+use Rattle.rules.specs.Plain.{is_true, plain}
 use Rattle.rules.specs.Replace.{replace}
 use Rattle.rules.specs.Tests.{same_antecedent, same_consequent}
 use Rattle.rules.proofs.Unique.{expression-unique}
@@ -120,28 +120,28 @@ pub antecedent-by : (φ ψ χ : Expr Boolean) → plain ψ ≡ plain χ → same
 antecedent-by φ ψ χ e = ap (λ p. same_words (words (plain φ)) (words p)) e
 
 module _ (b : Expr Boolean) {r : Bool} (e : r ≡ same_antecedent b (truth true)) where
-  pub told_true : r ≡ true → is_true_lem (plain b) ≡ true
+  pub told_true : r ≡ true → is_true (plain b) ≡ true
   unfolding plain
-  told_true h = ap is_true_lem ((plain-told b (truth true) e).sound h)
+  told_true h = ap is_true ((plain-told b (truth true) e).sound h)
 
-  pub told_other : r ≡ false → is_true_lem (plain b) ≡ false
+  pub told_other : r ≡ false → is_true (plain b) ≡ false
   unfolding plain
-  told_other h = go (is_true_lem (plain b)) refl
+  told_other h = go (is_true (plain b)) refl
     where
-      go : (t : Bool) → is_true_lem (plain b) ≡ t → is_true_lem (plain b) ≡ false
+      go : (t : Bool) → is_true (plain b) ≡ t → is_true (plain b) ≡ false
       go true k = clash ((plain-told b (truth true) e).complete (is_true_lem (plain b) k)) h
       go false k = k
 
 module _ (b c : Expr Boolean) where
-  pub and_left-true : is_true_lem (plain b) ≡ true → plain (and b c) ≡ plain c
+  pub and_left-true : is_true (plain b) ≡ true → plain (and b c) ≡ plain c
   unfolding plain
-  and_left-true h = ap (λ t. cond t (plain c) (cond (is_true_lem (plain c)) (plain b) (and (plain b) (plain c)))) h
+  and_left-true h = ap (λ t. cond t (plain c) (cond (is_true (plain c)) (plain b) (and (plain b) (plain c)))) h
 
-  module _ (h : is_true_lem (plain b) ≡ false) where
-    pub and_right-true : is_true_lem (plain c) ≡ true → plain (and b c) ≡ plain b
+  module _ (h : is_true (plain b) ≡ false) where
+    pub and_right-true : is_true (plain c) ≡ true → plain (and b c) ≡ plain b
     unfolding plain
     and_right-true k = ap₂ (λ t u. cond t (plain c) (cond u (plain b) (and (plain b) (plain c)))) h k
 
-    pub and-neither : is_true_lem (plain c) ≡ false → plain (and b c) ≡ and (plain b) (plain c)
+    pub and-neither : is_true (plain c) ≡ false → plain (and b c) ≡ and (plain b) (plain c)
     unfolding plain
     and-neither k = ap₂ (λ t u. cond t (plain c) (cond u (plain b) (and (plain b) (plain c)))) h k

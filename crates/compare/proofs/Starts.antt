@@ -24,7 +24,7 @@ use lib.Dec.{eqb}
 use lib.ListN.{length, get_or}
 use Rattle.laws.proofs.Bools.{and_left, and_right, and_both, or-second}
 use Rattle.language.specs.Syntax.{Boolean, Expr, compare, truth, and, or, neg}
-use Rattle.rules.specs.Plain.{is_true_lem, plain_and, plain}
+use Rattle.rules.specs.Plain.{is_true, plain_and, plain}
 use Rattle.rules.specs.Tests.{same_antecedent}
 use Rattle.rules.proofs.Plain.{is_true_lem}
 use Rattle.layout.specs.Bytes.{word_of, kind_at}
@@ -40,10 +40,10 @@ use Rattle.compare.proofs.PlainTests.{plain-answer, told_true, told_other, and_l
 
 -- ---- words
 
-true-and : (b c : Expr Boolean) → is_true_lem (plain_and b c) ≡ (is_true_lem b && is_true_lem c)
-true-and b c = go (is_true_lem b) (is_true_lem c) refl refl
+true-and : (b c : Expr Boolean) → is_true (plain_and b c) ≡ (is_true b && is_true c)
+true-and b c = go (is_true b) (is_true c) refl refl
   where
-    go : (t u : Bool) → is_true_lem b ≡ t → is_true_lem c ≡ u → is_true_lem (cond t c (cond u b (and b c))) ≡ (t && u)
+    go : (t u : Bool) → is_true b ≡ t → is_true c ≡ u → is_true (cond t c (cond u b (and b c))) ≡ (t && u)
     go true u h k = k
     go false true h k = h
     go false false h k = refl
@@ -58,7 +58,7 @@ module _ {file ends : List ℕ} (o : EndsOf file ends) where
   abbrev AllAndTrue : ℕ → Type 0
   AllAndTrue at = (p : ℕ) → at ≤ p → p < end_at ends at → AndOrTrue file p
 
-  pub true-words : (φ : Expr Boolean) {at : ℕ} → WrittenAt file ends φ at → is_true_lem (plain φ) ≡ true → AllAndTrue at
+  pub true-words : (φ : Expr Boolean) {at : ℕ} → WrittenAt file ends φ at → is_true (plain φ) ≡ true → AllAndTrue at
   unfolding plain
   true-words (compare r a b) x h p l u = absurd (false≢true h)
   true-words (truth true) {at} x h p l u =
@@ -73,15 +73,15 @@ module _ {file ends : List ℕ} (o : EndsOf file ends) where
       let t = sym (true-and (plain b) (plain c)) ∙ h in
       elim (lt_or_le at p) [
         | inl i ↦ elim (lt_or_le p (end_at ends (at + 1))) [
-          | inl j ↦ true-words b y.0 (and_left (is_true_lem (plain b)) _ t) p (omega arith) j
-          | inr j ↦ true-words c y.1.0 (and_right (is_true_lem (plain b)) _ t) p j (omega (arith, y.1.1))
+          | inl j ↦ true-words b y.0 (and_left (is_true (plain b)) _ t) p (omega arith) j
+          | inr j ↦ true-words c y.1.0 (and_right (is_true (plain b)) _ t) p j (omega (arith, y.1.1))
         ]
         | inr i ↦ let here : p ≡ at = omega arith in inl (ap (λ i. get_or file i 0) here ∙ omega (arith, e.kind, e.content))
       ]
   true-words (or b c) x h p l u = absurd (false≢true h)
   true-words (neg b) x h p l u = absurd (false≢true h)
 
-  pub words-true : (φ : Expr Boolean) {at : ℕ} → WrittenAt file ends φ at → AllAndTrue at → is_true_lem (plain φ) ≡ true
+  pub words-true : (φ : Expr Boolean) {at : ℕ} → WrittenAt file ends φ at → AllAndTrue at → is_true (plain φ) ≡ true
   unfolding plain
   words-true (compare r a b) {at} x f =
       let e = node_head x in
@@ -123,7 +123,7 @@ module _ {file ends : List ℕ} (o : EndsOf file ends) where
         complete = λ h.
             eq-eqb r to
             (elim (lt_or_le r (end_at ends f)) [
-              | inl l ↦ absurd (q.stopped l (true-words (boolean_at file f) (tree-at x) (ap is_true_lem h) r q.low l))
+              | inl l ↦ absurd (q.stopped l (true-words (boolean_at file f) (tree-at x) (ap is_true h) r q.low l))
               | inr l ↦ omega (arith, q.high)
             ]);
       })
@@ -275,13 +275,13 @@ module _ {file ends : List ℕ} (o : EndsOf file ends) where
         pub first-listed : s + 1 < length ends
         first-listed = let i = node_inside operands.left_at in omega (arith, i.start, i.within, o.long)
 
-        left-true : second ≤ p → is_true_lem (plain operands.left) ≡ true
+        left-true : second ≤ p → is_true (plain operands.left) ≡ true
         left-true k = words-true o operands.left operands.left_at λ i l u. q.passed i (omega (arith, d.further)) (omega (arith, e))
 
-        left_other : p < second → is_true_lem (plain operands.left) ≡ false
-        left_other k = go (is_true_lem (plain operands.left)) refl
+        left_other : p < second → is_true (plain operands.left) ≡ false
+        left_other k = go (is_true (plain operands.left)) refl
           where
-            go : (t : Bool) → is_true_lem (plain operands.left) ≡ t → is_true_lem (plain operands.left) ≡ false
+            go : (t : Bool) → is_true (plain operands.left) ≡ t → is_true (plain operands.left) ≡ false
             go true i =
                 absurd
                 (q.stopped (omega (arith, second-start, d.inside))
@@ -313,7 +313,7 @@ module _ {file ends : List ℕ} (o : EndsOf file ends) where
             same =
                 sym
                 (and_right-true operands.left operands.right (left_other k)
-                (ap (λ c. is_true_lem (plain c)) (sym right_is) ∙ told_true (boolean_at file second) t i))
+                (ap (λ c. is_true (plain c)) (sym right_is) ∙ told_true (boolean_at file second) t i))
                 ∙ ap plain (sym operands.is) ∙ d.same;
           }
 
@@ -327,7 +327,7 @@ module _ {file ends : List ℕ} (o : EndsOf file ends) where
               same = ap plain (sym operands.is) ∙ d.same;
               settled = (
                 left_other k,
-                ap (λ c. is_true_lem (plain c)) (sym right_is) ∙ told_other (boolean_at file second) t i,
+                ap (λ c. is_true (plain c)) (sym right_is) ∙ told_other (boolean_at file second) t i,
               );
             };
             left_other = λ _. record {

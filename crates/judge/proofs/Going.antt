@@ -15,7 +15,7 @@ use native.Mathlib.Omega.{arith}
 use lib.ListN.{length, get_or, drop}
 use Rattle.rules.specs.Context.{Context}
 use Rattle.rules.specs.Evidence.{Item, by}
-use Rattle.rules.specs.Judge.{Verdict, accepted, refused, one_more_lem, ◌also◌, step, judge_word, judge}
+use Rattle.rules.specs.Judge.{Verdict, accepted, refused, one_more, ◌also◌, step, judge_word, judge}
 use Rattle.layout.specs.Bytes.{payload_at}
 use Rattle.layout.specs.EvidenceWords.{FitsTree}
 use Rattle.words.specs.Rows.{packed_items, row_of}
@@ -101,8 +101,8 @@ module _ {file ends : List ℕ} {Γ : Context} {goal : Goal} {at left : ℕ} (p 
   pub judged-passed : {x : Judged} → Goes file ends Γ goal at (left - 1) x → JudgedOf file ends Γ goal at left x
   judged-passed {x} h = subst (λ n. JudgedOf file ends Γ goal at n x) (sym less_one) h
 
-one_more_lem : (v : Verdict) → one_more_lem v ≡ accepted 1 also v
-unfolding one_more_lem ◌also◌
+one_more_lem : (v : Verdict) → one_more v ≡ accepted 1 also v
+unfolding one_more ◌also◌
 one_more_lem (accepted n) = ap accepted (omega arith)
 one_more_lem (refused k i) = refl
 

@@ -36,11 +36,11 @@ module _ {file ends : List ℕ} {x : Context} {i : ℕ} where
     abbrev start : ℕ
     start = start_at file ends i
 
-    pub pre_is : end_at ends start ≡ g.pre_there
-    pre_is = ap (end_at ends) h.start ∙ o.command-end Γ g.command Γ.limits.depth g.start g.pre_there h.stands.command
+    pub pre_is : end_at ends start ≡ g.pre_at
+    pre_is = ap (end_at ends) h.start ∙ o.command-end Γ g.command Γ.limits.depth g.start g.pre_at h.stands.command
 
     pub post_is : end_at ends (end_at ends start) ≡ g.post_at
-    post_is = ap (end_at ends) pre_is ∙ o.set-end Γ g.pre Γ.limits.depth g.pre_there g.post_at h.stands.pre
+    post_is = ap (end_at ends) pre_is ∙ o.set-end Γ g.pre Γ.limits.depth g.pre_at g.post_at h.stands.pre
 
     pub evidence-is : end_at ends (end_at ends (end_at ends start)) ≡ g.evidence_at
     evidence-is = ap (end_at ends) post_is ∙ o.set-end Γ g.post Γ.limits.depth g.post_at g.evidence_at h.stands.post

@@ -25,7 +25,7 @@ use Rattle.rules.specs.Evidence.{done, ◌&◌, flow1, flow2, flow3, flow4, flow
 use Rattle.rules.specs.Evidence.{flow10, flow11, flow12, flow13, flow14, flow31, set13, set14, set15, set16, set17, set18}
 use Rattle.rules.specs.Evidence.{set19, pre20, pre21, pre22, pre23, pre24, pre25, pre26, pre27, pre28, pre29}
 use Rattle.rules.specs.Evidence.{pre30, pre32}
-use Rattle.rules.specs.Condition.{Result, passes, fails, too_large_kept, test, ◌then◌, implication, each_implies_false, by_form}
+use Rattle.rules.specs.Condition.{Result, passes, fails, too_large, test, ◌then◌, implication, each_implies_false, by_form}
 use Rattle.rules.specs.Condition.{on_sequence, on_if, on_while, on_for, on_call, on_empty, on_one}
 use Rattle.rules.specs.Judge.{Verdict, accepted, refused, one_more, ◌also◌, RuleStep, step, misfit, childless, judge_word}
 use Rattle.rules.specs.Judge.{pre_rule, set_rule, flow_rule, judge}
@@ -56,13 +56,13 @@ also_kept nine h = nine
 -- a result stays, or it was that a condition is too large
 data KeptResult : Result → Result → Type 0 where
   kept_result : {r : Result} → KeptResult r r
-  too_large_kept : {r : Result} → KeptResult too_large_kept r
+  too_large_kept : {r : Result} → KeptResult too_large r
 
 then-kept : {q q' r r' : Result} → KeptResult q q' → KeptResult r r' → KeptResult (q then r) (q' then r')
 unfolding ◌then◌
 then-kept {q = passes} kept_result h = h
 then-kept {q = fails} kept_result h = kept_result
-then-kept {q = too_large_kept} kept_result h = kept_result
+then-kept {q = too_large} kept_result h = kept_result
 then-kept too_large_kept h = too_large_kept
 
 data KeptStep : RuleStep → RuleStep → Type 0 where
@@ -85,7 +85,7 @@ word_kept : (i : ℕ) {s s' : RuleStep} → KeptStep s s' → Kept (judge_word i
 unfolding judge_word
 word_kept i (both-kept {r = passes} kept_result h) = more-kept h
 word_kept i (both-kept {r = fails} kept_result h) = kept
-word_kept i (both-kept {r = too_large_kept} kept_result h) = kept
+word_kept i (both-kept {r = too_large} kept_result h) = kept
 word_kept i (both-kept too_large_kept h) = nine
 
 -- ---- a command or a set, by its form: what is the same in both contexts is kept as it is
@@ -156,7 +156,7 @@ module _ (low high : Limits) (more : low.comparisons ≤ high.comparisons) where
       n = length (distinct φ ψ)
 
       fits : Bool → Result
-      fits b = elim b [ true ↦ test (truth_table (distinct φ ψ) φ ψ) | false ↦ too_large_kept ]
+      fits b = elim b [ true ↦ test (truth_table (distinct φ ψ) φ ψ) | false ↦ too_large ]
 
       go : (a b : Bool) → leb n low.comparisons ≡ a → leb n high.comparisons ≡ b → KeptResult (fits a) (fits b)
       go false b e h = too_large_kept

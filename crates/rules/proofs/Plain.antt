@@ -16,12 +16,12 @@ use mathlib.Core.Bool.{Bool, true, false, not, ◌&&◌, ◌||◌, cond, false�
 use Rattle.language.specs.Syntax.{Boolean, Expr, compare, truth, and, or, neg}
 use Rattle.language.specs.Store.{Store, value}
 use Rattle.rules.specs.Words.{words}
-use Rattle.rules.specs.Plain.{is_true_lem, plain_and, plain}
+use Rattle.rules.specs.Plain.{is_true, plain_and, plain}
 use Rattle.rules.specs.Replace.{Replacement, replace}
 use Rattle.rules.specs.Sets.{SamePlain, SameByWords}
 use Rattle.rules.proofs.Unique.{expression-unique}
 
-pub is_true_lem : (b : Expr Boolean) → is_true_lem b ≡ true → b ≡ truth true
+pub is_true_lem : (b : Expr Boolean) → is_true b ≡ true → b ≡ truth true
 is_true_lem (compare r x y) h = absurd (false≢true h)
 is_true_lem (truth t) h = ap truth h
 is_true_lem (and x y) h = absurd (false≢true h)
@@ -32,14 +32,14 @@ is_true_lem (neg x) h = absurd (false≢true h)
 abbrev pub NoneLeft : Expr Boolean → Type 0
 NoneLeft (compare r a b) = Unit {0}
 NoneLeft (truth t) = Unit {0}
-NoneLeft (and b c) = (is_true_lem b ≡ false) × (is_true_lem c ≡ false) × NoneLeft b × NoneLeft c
+NoneLeft (and b c) = (is_true b ≡ false) × (is_true c ≡ false) × NoneLeft b × NoneLeft c
 NoneLeft (or b c) = NoneLeft b × NoneLeft c
 NoneLeft (neg b) = NoneLeft b
 
 and-leaves_none : (b c : Expr Boolean) → NoneLeft b → NoneLeft c → NoneLeft (plain_and b c)
-and-leaves_none b c f g = go (is_true_lem b) (is_true_lem c) refl refl
+and-leaves_none b c f g = go (is_true b) (is_true c) refl refl
   where
-    go : (t u : Bool) → is_true_lem b ≡ t → is_true_lem c ≡ u → NoneLeft (cond t c (cond u b (and b c)))
+    go : (t u : Bool) → is_true b ≡ t → is_true c ≡ u → NoneLeft (cond t c (cond u b (and b c)))
     go true u h k = g
     go false true h k = f
     go false false h k = (h, k, f, g)
@@ -76,9 +76,9 @@ pub data Dropped : Expr Boolean → Expr Boolean → Type 0 where
   drops_more : {b c d : Expr Boolean} → Dropped b c → Dropped c d → Dropped b d
 
 and-dropped : (b c : Expr Boolean) → Dropped (and b c) (plain_and b c)
-and-dropped b c = go (is_true_lem b) (is_true_lem c) refl refl
+and-dropped b c = go (is_true b) (is_true c) refl refl
   where
-    go : (t u : Bool) → is_true_lem b ≡ t → is_true_lem c ≡ u → Dropped (and b c) (cond t c (cond u b (and b c)))
+    go : (t u : Bool) → is_true b ≡ t → is_true c ≡ u → Dropped (and b c) (cond t c (cond u b (and b c)))
     go true u h k = subst (λ x. Dropped (and x c) c) (sym (is_true_lem b h)) drops_left
     go false true h k = subst (λ x. Dropped (and b x) b) (sym (is_true_lem c k)) drops_right
     go false false h k = drops_none
@@ -92,9 +92,9 @@ plain-dropped (or b c) = drops_in_or (plain-dropped b) (plain-dropped c)
 plain-dropped (neg b) = drops_in_not (plain-dropped b)
 
 and-true_plain : (b : Expr Boolean) → plain_and b (truth true) ≡ b
-and-true_plain b = go (is_true_lem b) refl
+and-true_plain b = go (is_true b) refl
   where
-    go : (t : Bool) → is_true_lem b ≡ t → cond t (truth true) b ≡ b
+    go : (t : Bool) → is_true b ≡ t → cond t (truth true) b ≡ b
     go true h = sym (is_true_lem b h)
     go false h = refl
 
@@ -127,7 +127,7 @@ plain_value φ s = dropped_value (plain-dropped φ) s
 
 -- ---- substitution
 module _ (f : Replacement) where
-  true-replace : (b : Expr Boolean) → is_true_lem (replace b f) ≡ is_true_lem b
+  true-replace : (b : Expr Boolean) → is_true (replace b f) ≡ is_true b
   unfolding replace
   true-replace (compare r x y) = refl
   true-replace (truth t) = refl

@@ -19,7 +19,7 @@ use Rattle.execution.specs.Run.{ended, stopped, on_ended, step, turns}
 use Rattle.heads.specs.Stands.{Runnable, CommandStands}
 use Rattle.evaluate.specs.Evaluated.{number}
 use Rattle.run.specs.Steps.{steps_left}
-use Rattle.run.specs.Turns.{loop_test, loop_body, Turned, again, over, turned_at, go_on_lem, turn_by, turn_of, TurnsAs}
+use Rattle.run.specs.Turns.{loop_test, loop_body, Turned, again, over, turned_at, go_on, turn_by, turn_of, TurnsAs}
 use Rattle.run.specs.Turns.{TurnAs}
 use Rattle.run.proofs.Bounds.{Bounded, body-bounded}
 
@@ -31,7 +31,7 @@ abbrev after_turn : Turned → (ℕ → Lent → definition.End) → definition.
 after_turn (again n m) f = f n m
 after_turn (over e) f = e
 
-go_on_lem : (e : definition.End) (f : ℕ → Lent → definition.End) → on_ended e f ≡ after_turn (go_on_lem e) f
+go_on_lem : (e : definition.End) (f : ℕ → Lent → definition.End) → on_ended e f ≡ after_turn (go_on e) f
 go_on_lem (ended n m) f = refl
 go_on_lem (stopped k p n m) f = refl
 
@@ -76,7 +76,7 @@ module _ (b : Expr syntax.Boolean) (body : ℕ → Lent → definition.End) (at 
     turns_same (suc k) (suc j) n m x y =
         same_step k j n m (evaluate b (store_of m)) x y (λ i l p q. turns_same k j i l p q)
 
-    less-after : (l : ℕ) (e : definition.End) → Bounded past l e → {n : ℕ} {m : Lent} → again n m ≡ go_on_lem e → n ≤ l
+    less-after : (l : ℕ) (e : definition.End) → Bounded past l e → {n : ℕ} {m : Lent} → again n m ≡ go_on e → n ≤ l
     less-after l (ended i x) h {n} e = let q : n ≡ i = cc in omega arith
     less-after l (stopped k p i x) h e = never (cc)
 

@@ -26,7 +26,7 @@ use Rattle.compare.specs.Trees.{PutStands}
 use Rattle.compare.proofs.Trees.{put-replaces}
 use Rattle.compare.proofs.Halves.{AntecedentIs, is-written, is-and, is-and_not, is-replaced, ConsequentIs, is-verbatim, is-exchanged}
 use Rattle.sets.specs.Items.{past_member, Halves, seen_item, pair_item, item_halves, seen_as}
-use Rattle.sets.specs.Lists.{seen_all_lem, same_all, without_all}
+use Rattle.sets.specs.Lists.{seen_all, same_all, without_all}
 use Rattle.sets.specs.Standing.{MemberAt, MembersAt, ViewAt}
 use Rattle.sets.specs.Piles.{count_at, written_set, pile_numbers, piles_numbers, AnySetAt, PileAt}
 use Rattle.sets.specs.Trees.{MemberWritten, MembersWritten, PileStands}
@@ -99,8 +99,8 @@ item-shows x y = (
 
 module _ {file ends : List ℕ} {view : View} {g : Member → Member} (s : Shows file ends view g) where
   seen-each : (p : Members) (at : ℕ) → MembersWritten file ends p at →
-      AllShown file ends (seen_all_lem file ends view (length p) at) (map g p)
-  unfolding seen_all_lem members_numbers
+      AllShown file ends (seen_all file ends view (length p) at) (map g p)
+  unfolding seen_all members_numbers
   seen-each [] at m = record { numbers-are = refl; fit_all = tt }
   seen-each (x ∷ p) at m =
       let h = s.shows x at m.0 in
@@ -108,11 +108,11 @@ module _ {file ends : List ℕ} {view : View} {g : Member → Member} (s : Shows
       record { numbers-are = ap₂ ◌∷◌ h.0 r.numbers-are; fit_all = (h.1, r.fit_all) }
 
   pub seen_all_lem : {Γ : Context} {p : Members} {at : ℕ} → EndsOf file ends → NodeAt file ends (set_node Γ p) at →
-      AllShown file ends (seen_all_lem file ends view (count_at file at) (at + 1)) (map g p)
+      AllShown file ends (seen_all file ends view (count_at file at) (at + 1)) (map g p)
   seen_all_lem {p = p} {at} o x =
       let r = seen-each p (at + 1) (set-written o x) in
       record {
-        numbers-are = ap (λ k. seen_all_lem file ends view k (at + 1)) (set-count x) ∙ r.numbers-are;
+        numbers-are = ap (λ k. seen_all file ends view k (at + 1)) (set-count x) ∙ r.numbers-are;
         fit_all = r.fit_all;
       }
 
