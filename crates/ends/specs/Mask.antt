@@ -1,5 +1,5 @@
 -- Identifiers as the bits of a number: bit x is scalar x, bit 32 + a is array a.
--- Working: `modified_tree` of scan/proofs/Trees says that the mask of a command's words has what it modifies; `bit_or`
+-- Working: `modified_tree` of scan/proofs/Trees says that the mask of a command's words has what it modifies; `bit-or`
 -- and `bit-power` of proofs/Bits are the laws of its bits. Assumes nothing.
 --     bit            a bit of a number
 --     Low, slot      an identifier's number is at most 31; its bit

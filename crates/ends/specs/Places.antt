@@ -1,5 +1,5 @@
 -- What stands at a place, up to its end in the list of ends.
--- Working: `Node-at` of proofs/Places says that what stands in a file with its ends listed stands so, `parts_at` that its parts
+-- Working: `node_at` of proofs/Places says that what stands in a file with its ends listed stands so, `parts_at` that its parts
 -- do. Assumes nothing.
 --     end_at                          the place past the part that starts at a place
 --     PartKnown                      a place is in the list of ends, and its end lies further on, in the file

@@ -1,5 +1,5 @@
 -- The children of an evidence word whose conditions pass, judged one after the other.
--- Working: `judged-passed`, `Going-start`, `Going-step` and `Going-end` of proofs/Going tie it to the verdict of the word
+-- Working: `judged-passed`, `going_start`, `going_step` and `going_end` of proofs/Going tie it to the verdict of the word
 -- that has the children. Assumes nothing.
 --     CanChild, GoalLow    what the goal of a child is asked for under: places of a small file, and a number that a child has
 --     CanGo, Goes          what judging the children asks for and promises

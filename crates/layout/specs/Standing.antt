@@ -1,5 +1,5 @@
 -- Words and parts between two places of a file.
--- Working: `spelled` of proofs/Spelled and `Stands-from` of proofs/Back say that it is to be spelled there. Assumes nothing.
+-- Working: `spelled` of proofs/Spelled and `stands_from` of proofs/Back say that it is to be spelled there. Assumes nothing.
 --     StandsTo, Stands     words stand from a place up to another; with what is said to fit there
 --     PartStands, Chain    a part of a file stands there, with so many levels left; parts one after the other
 use Rattle.std.specs.Prelude.{◌≡◌, List, [], ◌∷◌, ℕ, ◌+◌, ◌<◌}

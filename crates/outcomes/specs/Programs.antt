@@ -1,5 +1,5 @@
 -- The programs of a file, judged one after the other (document 01, "Judging order" 8 and 9; document 02, request [3]).
--- Working: `judged-at` of proofs/ProgramGoal ties it to the judge, and `Going-start`, `Going-step` and `main-accepted` of
+-- Working: `judged-at` of proofs/ProgramGoal ties it to the judge, and `going_start`, `going_step` and `main-accepted` of
 -- proofs/FilePrograms to `judge_programs`. Assumes nothing.
 --     context_at                        what program i is judged under: the procedures before it
 --     ProgramAt                        program i stands, and its calls hold the bodies of these
