@@ -1,6 +1,6 @@
 # Entry points: signature and contract as written, and where each definition in the contract stands. Of a library these are its public
-# functions; of a program (`program` is 1) its `main`, and the one function that writes, whose `requires` says what is written. No entry
-# point may have a `requires`; a definition of a working file needs a law. `headers_table` and `names_table` are the tables; what the
+# functions; of a program (`program` is 1) its `main`, `answer_input`, which is all that `main` calls, and the one function that writes, whose
+# `requires` says what is written. No entry point may have a `requires`; a definition of a working file needs a law. `headers_table` and `names_table` are the tables; what the
 # contracts import goes to `uses_table`, as from trusted files.
 
 # a call that writes: a method or function of std or of the C library whose name says so, or a macro
@@ -62,7 +62,7 @@ FNR == 1 { lend() }
 /^pub mod / && !program { fault(FILENAME ":" FNR ": a public module: an entry crate has its public functions in lib.rt") }
 /^ *use / && /[^a-zA-Z_](write|write_[a-z_]+|print_[a-z_]+|copy|Write as|Print as)([^a-zA-Z_]|$)/ { fault(FILENAME ":" FNR ": a write is called by its path, so that it is seen") }
 
-/^ *(pub )?(unsafe )?(extern "C" )?fn / { place = FILENAME ":" FNR; text = ""; signing = 1; entry = program ? /fn main\(/ : /^ *pub / }
+/^ *(pub )?(unsafe )?(extern "C" )?fn / { place = FILENAME ":" FNR; text = ""; signing = 1; entry = program ? /fn (main|answer_input)[(<]/ : /^ *pub / }
 signing {
     body = /\{$/ || /fn .*\{.*\}$/
     line = $0
