@@ -5,15 +5,13 @@ use Rattle.context.proofs.Limits.{many-comparisons, no-depth, much_depth, few-me
 use Rattle.context.proofs.settings.are_within_ranges.Goals as goal
 
 pub returns-then-settings-gt16 : goal.returns-then-settings-gt16
-returns-then-settings-gt16 c = many-comparisons _ c.if-settings-gt16.true
+returns-then-settings-gt16 c = many-comparisons _ (omega arith)
 
 pub returns-then-settings-lt1 : goal.returns-then-settings-lt1
-returns-then-settings-lt1 c = no-depth _ (omega (arith, c.if-settings-gt16.false)) c.if-settings-lt1.true
+returns-then-settings-lt1 c = no-depth _ (omega arith) (omega arith)
 
 pub returns-then-settings-gt256 : goal.returns-then-settings-gt256
-returns-then-settings-gt256 c =
-    much_depth _ (omega (arith, c.if-settings-gt16.false)) (omega (arith, c.if-settings-lt1.false)) c.if-settings-gt256.true
+returns-then-settings-gt256 c = much_depth _ (omega arith) (omega arith) (omega arith)
 
 pub returns : goal.returns
-returns c =
-    few-members _ (omega (arith, c.if-settings-gt16.false)) (omega (arith, c.if-settings-lt1.false)) (omega (arith, c.if-settings-gt256.false))
+returns c = few-members _ (omega arith) (omega arith) (omega arith)

@@ -9,14 +9,14 @@ use Rattle.reader.proofs.file.read_procedures.Goals as goal
 pub returns-then-count-le16 : goal.returns-then-count-le16
 returns-then-count-le16 c =
     some-table (limits_of c.args.context) c.args.w.now c.requires.1 (c.wide-count.ensures ∙ c.payload.ensures)
-    c.if-count-ge1.true c.if-count-le16.true c.read_programs.ensures
+    (omega arith) (omega arith) c.read_programs.ensures
 
 pub returns-else-count-le16 : goal.returns-else-count-le16
 returns-else-count-le16 c =
     wrong_table (limits_of c.args.context) c.args.w.now c.requires.1 (c.wide-count.ensures ∙ c.payload.ensures)
-    (λ a b. omega (arith, c.if-count-le16.false)) refl
+    (λ a b. omega arith) refl
 
 pub returns-else-count-ge1 : goal.returns-else-count-ge1
 returns-else-count-ge1 c =
     wrong_table (limits_of c.args.context) c.args.w.now c.requires.1 (c.wide-count.ensures ∙ c.payload.ensures)
-    (λ a b. omega (arith, c.if-count-ge1.false)) refl
+    (λ a b. omega arith) refl
