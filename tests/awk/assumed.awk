@@ -10,6 +10,7 @@ function finish(    n, i, part, pair, value, line) {
     }
     if (!n) { fault("target/log/" crate ".say has no verdict: rm target/stamp/" crate "; ./prove " crate); return }
     printf "   %-12s functions=%-3s axioms=%s%s\n", crate, value["functions"], value["axioms"] + 0, assumed
+    if ("foreign" in value) fault("crates/" crate ": a function of another language")
     if (value["axioms"] > 0 && (getline line < ("crates/" crate "/src/main.rt")) < 0)
         fault("crates/" crate ": a library that assumes something")
     if (sum != "" && sum != value["sum"]) fault("crates/" crate " was proved by another logic than the crates before it: ./prove")

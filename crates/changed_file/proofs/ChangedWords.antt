@@ -23,7 +23,6 @@ use Rattle.context.specs.declared.Context.{Context}
 use Rattle.reader.specs.File.{places_of}
 use Rattle.reader.specs.declared.Places.{Places}
 use Rattle.reader.specs.declared.Layout.{Layout}
-use Rattle.reader.specs.declared.Layout.TheVariants as Layout
 use Rattle.splice.specs.SimpleWords.{read_to}
 use Rattle.splice.proofs.ReadTo.{read-ends}
 use Rattle.changed_file.specs.Changed.{ChangedKnown}

@@ -66,7 +66,6 @@ use Rattle.reader.specs.File.{places_of, read_of}
 use Rattle.reader.proofs.Whole.{words-read}
 use Rattle.reader.specs.declared.Places.{Places}
 use Rattle.reader.specs.declared.Layout.{Layout}
-use Rattle.reader.specs.declared.Layout.TheVariants as Layout
 use Rattle.file.specs.Found.{CallsRight, TableRoom, Tabled}
 use Rattle.file.proofs.Found.{ReadAt, found-read, read-file, words-steady, words-unsteady}
 use Rattle.file.proofs.Files.{starts-moved, steady-none, unsteady-some}

@@ -31,7 +31,6 @@ use Rattle.context.specs.declared.Context.{Context}
 use Rattle.reader.specs.File.{places_of, read_of}
 use Rattle.reader.specs.declared.Places.{Places}
 use Rattle.reader.specs.declared.Layout.{Layout}
-use Rattle.reader.specs.declared.Layout.TheVariants as Layout
 
 pub record Marked (file : List ℕ) (Γ : Context) (s : Places) (table : List ℕ) : Type 0 where
   pub listed : EndsListed file table

@@ -35,7 +35,6 @@ use Rattle.context.specs.declared.Context.{Context}
 use Rattle.context.specs.declared.Refusal.{Refusal}
 use Rattle.reader.specs.declared.Places.{Places}
 use Rattle.reader.specs.declared.Layout.{Layout}
-use Rattle.reader.specs.declared.Layout.TheVariants as Layout
 use Rattle.scan.specs.Programs.{StartsFrom, StartsListed, Masked}
 use Rattle.scan.specs.Calls.{wrong_at, rightness_of}
 use Rattle.scan.specs.Steady.{MaskedFile, steadiness_of, FirstFound}

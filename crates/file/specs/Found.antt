@@ -27,7 +27,6 @@ use Rattle.context.specs.declared.Context.{Context}
 use Rattle.context.specs.declared.Refusal.{Refusal}
 use Rattle.reader.specs.declared.Places.{Places}
 use Rattle.reader.specs.declared.Layout.{Layout}
-use Rattle.reader.specs.declared.Layout.TheVariants as Layout
 
 pub record TableRoom (file table : List ℕ) : Type 0 where
   pub size : length file ≤ 8192

@@ -27,7 +27,6 @@ use Rattle.outcomes.specs.declared.Outcome.TheVariants.{Refused}
 use Rattle.flow.specs.Answer.{answer_from}
 use Rattle.flow.specs.Checked.{answer_of, Checked}
 use Rattle.flow.specs.declared.Verdict.{Verdict}
-use Rattle.flow.specs.declared.Verdict.TheVariants as Verdict
 
 -- limits in range are small enough
 pub settings_within : (context : Context) → Settable context → WithinLimits context

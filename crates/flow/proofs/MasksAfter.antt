@@ -37,7 +37,6 @@ use Rattle.context.specs.declared.Refusal.{Refusal}
 use Rattle.file.proofs.Faults.{FaultBy, bytes-fault}
 use Rattle.replacement.specs.Put.{changed, replaceable, or_unread, read_put, answer_of as put_answer, PutDone}
 use Rattle.replacement.specs.declared.Replaced.{Replaced}
-use Rattle.replacement.specs.declared.Replaced.TheVariants as Replaced
 use Rattle.outcomes.specs.Outcome.{stored_where, OutcomeDone}
 use Rattle.outcomes.specs.declared.Outcome.{Outcome}
 use Rattle.outcomes.specs.declared.Outcome.TheVariants as outcome

@@ -1,8 +1,8 @@
 -- What the program reads of its input and writes of a line, where the bytes of the one and of the other are known.
 -- Trusted. Assumes nothing.
---     ReadAll     the first bytes of the input, as many as there is room for; or none, if a read failed
---     WrittenOf   what was written is a front part of the line: all of it, if no write failed
-use Rattle.std.specs.Prelude.{◌≡◌, ◌⊎◌, List, [], ℕ, length, take, IfSome, Option}
+--     ReadAll     the first bytes of the input, as many as there is room for; or none
+--     WrittenOf   what was written is a front part of the line
+use Rattle.std.specs.Prelude.{◌≡◌, ◌⊎◌, List, [], ℕ, take, IfSome, Option}
 use Rattle.std.specs.Io.KnownBytes.{Appends}
 
 abbrev pub ReadAll : Option (List ℕ) → ℕ → List ℕ → Type 0

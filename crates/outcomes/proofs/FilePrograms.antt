@@ -29,7 +29,6 @@ use Rattle.context.specs.Contexts.{limits_of}
 use Rattle.context.specs.declared.Context.{Context}
 use Rattle.context.specs.declared.Refusal.{Refusal}
 use Rattle.goals.specs.declared.Judged.{Judged}
-use Rattle.goals.specs.declared.Judged.TheVariants as Judged
 use Rattle.goals.specs.Goals as goals
 use Rattle.judge.proofs.Counts.{goal-counts}
 use Rattle.judge.proofs.Going.{also_sum, accepted-is, refused-is}

@@ -29,7 +29,6 @@ use Rattle.reader.specs.File.{places_of}
 use Rattle.reader.specs.Program.{places}
 use Rattle.reader.specs.declared.Places.{Places}
 use Rattle.reader.specs.declared.Layout.{Layout}
-use Rattle.reader.specs.declared.Layout.TheVariants as Layout
 use Rattle.reader.proofs.Whole.{refused-file}
 use Rattle.file.specs.Found.{CanLoad, FileRead}
 use Rattle.file.proofs.Found.{found-read}
@@ -41,7 +40,6 @@ use Rattle.masks.proofs.Stored.{filled_masks, filled_stored}
 use Rattle.masks.proofs.Stored as stored
 use Rattle.goals.specs.Goals.{judged_of}
 use Rattle.goals.specs.declared.Judged.{Judged}
-use Rattle.goals.specs.declared.Judged.TheVariants as Judged
 use Rattle.outcomes.specs.Outcome.{with_places, outcome_of, stored_where, WordsDone, OutcomeDone, WithinLimits, FitsRoom}
 use Rattle.outcomes.specs.Programs.{judged_file, CanJudgeFile}
 use Rattle.outcomes.specs.declared.Outcome.{Outcome}

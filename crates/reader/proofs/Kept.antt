@@ -41,7 +41,6 @@ use Rattle.reader.specs.declared.Walk.{Walk}
 use Rattle.reader.specs.declared.Walk.TheVariants.{Next, Refused}
 use Rattle.reader.specs.declared.Places.{Places}
 use Rattle.reader.specs.declared.Layout.{Layout}
-use Rattle.reader.specs.declared.Layout.TheVariants as Layout
 use Rattle.reader.proofs.Walks.{onto, alone as alone-walk, rule_reader}
 use Rattle.reader.proofs.Sets.{several-walk}
 use Rattle.reader.proofs.Contexts.{command-walk}

@@ -14,7 +14,6 @@ use Rattle.layout.specs.Program.{Program}
 use Rattle.context.specs.Contexts.{refusal}
 use Rattle.reader.specs.Walk.{walk_of}
 use Rattle.reader.specs.declared.Walk.{Walk}
-use Rattle.reader.specs.declared.Walk.TheVariants as Walk
 use Rattle.reader.specs.declared.Places.{Places}
 use Rattle.reader.specs.declared.Layout.{Layout}
 use Rattle.reader.specs.declared.Layout.TheVariants.{Found, Refused}

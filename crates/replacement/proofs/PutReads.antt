@@ -23,7 +23,6 @@ use Rattle.context.specs.declared.Context.{Context}
 use Rattle.context.specs.declared.Refusal.{Refusal}
 use Rattle.reader.specs.declared.Places.{Places}
 use Rattle.reader.specs.declared.Layout.{Layout}
-use Rattle.reader.specs.declared.Layout.TheVariants as Layout
 use Rattle.file.specs.Found.{CallsRight, Called, TableRoom, CanLoad}
 use Rattle.file.proofs.Found.{found-read}
 use Rattle.file.proofs.Files.{loaded-all}

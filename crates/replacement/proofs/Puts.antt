@@ -47,7 +47,6 @@ use Rattle.context.specs.declared.Refusal.{Refusal}
 use Rattle.reader.specs.File.{places_of}
 use Rattle.reader.specs.declared.Places.{Places}
 use Rattle.reader.specs.declared.Layout.{Layout}
-use Rattle.reader.specs.declared.Layout.TheVariants as Layout
 use Rattle.file.specs.Found.{CallsRight, TableRoom}
 use Rattle.file.proofs.Found.{found-read}
 use Rattle.splice.specs.Simple.{simple_to}

@@ -25,7 +25,6 @@ use Rattle.context.specs.declared.Context.{Context}
 use Rattle.reader.specs.File.{places_of}
 use Rattle.reader.specs.declared.Places.{Places}
 use Rattle.reader.specs.declared.Layout.{Layout}
-use Rattle.reader.specs.declared.Layout.TheVariants as Layout
 use Rattle.file.specs.Found.{CallsRight}
 use Rattle.splice.specs.Simple.{simple_to}
 use Rattle.splice.specs.SimpleWords.{read_to}

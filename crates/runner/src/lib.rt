@@ -61,8 +61,8 @@ fn pack(ran: Ran) -> u64
 }
 
 // The runner for callers in C, which crates/runner_c exports: `uint64_t flow_run(const uint8_t *file, size_t count, int64_t *scalars,
-// size_t n, int64_t *values, size_t k, size_t budget, size_t comparisons, size_t depth, size_t members)`. The upper 32 bits are the steps finished;
-// the lower are 0 if the run ended, else number × 65,536 + place.
+// size_t n, int64_t *values, size_t k, size_t budget, size_t comparisons, size_t depth, size_t members)`. The upper 32 bits are the
+// steps finished; the lower are 0 if the run ended, else number × 65,536 + place.
 pub fn flow_run(
     file: &[u8],
     scalars: &mut [i64],

@@ -12,7 +12,7 @@ use Prim.Native.Nat.{ℕ, suc, ◌+◌, ◌*◌, ◌/◌, ◌%◌, ◌<◌, ◌�
 use native.Mathlib.Omega.{arith}
 use lib.Dec.{eqb, ltb}
 use lib.ListN.{length, get_or}
-use Rattle.rules.specs.Context.{Limits, Context, alone, standard}
+use Rattle.rules.specs.Context.{Limits, alone, standard}
 use Rattle.layout.specs.Bytes.{word_count, number_at, kind_at, payload_at, payloads}
 use Rattle.layout.specs.Reading.{Reading, read, fault, first_place}
 use Rattle.layout.specs.Program.{Program}
@@ -36,7 +36,7 @@ use Rattle.scan.proofs.FilePrograms.{count-procedures}
 use Rattle.scan.proofs.WrongCalls.{wrong_other, wrong_calls}
 use Rattle.context.specs.Contexts.{limits_of}
 use Rattle.context.specs.declared.Context as code
-use Rattle.file.specs.Found.{Found, CallsRight}
+use Rattle.file.specs.Found.{CallsRight}
 use Rattle.file.proofs.Found.{found-read, read-file}
 use Rattle.splice.specs.Splice.{spliced}
 use Rattle.splice.specs.SimpleWords.{read_to}

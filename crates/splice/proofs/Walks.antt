@@ -33,7 +33,6 @@ use Rattle.ends.proofs.Sizes.{lt_or_le}
 use Rattle.context.specs.declared.Context.{Context}
 use Rattle.reader.specs.declared.Places.{Places}
 use Rattle.reader.specs.declared.Layout.{Layout}
-use Rattle.reader.specs.declared.Layout.TheVariants as Layout
 use Rattle.file.specs.Found.{CallsRight, Called, TableRoom}
 use Rattle.splice.specs.Splice.{spliced}
 use Rattle.splice.specs.SimpleWords.{read_to}

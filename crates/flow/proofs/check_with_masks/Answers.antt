@@ -1,7 +1,6 @@
 -- `flow::check_with_masks` meets its contract: 19, 17, or the answer for the outcome.
 -- Assumes nothing.
 use mathlib.Core.Path.{sym, ◌∙◌}
-use borrow.Author.Tests.{not-true, not-false}
 use Rattle.context.proofs.Limits.{settable-under}
 use Rattle.flow.proofs.Answers.{settings_within}
 use Rattle.flow.proofs.MasksAfter.{outside-checked, few-checked, masks-checked}

@@ -1,7 +1,6 @@
 -- `flow::outcome_under` meets its contract: 19, and then the rest.
 -- Assumes nothing.
 use mathlib.Core.Path.{sym, ◌∙◌}
-use borrow.Author.Tests.{not-true, not-false}
 use Rattle.context.proofs.Limits.{settable-under}
 use Rattle.flow.proofs.Answers.{settings_within, outside-outcome, within-outcome}
 use Rattle.flow.proofs.outcome_under.Goals as goal

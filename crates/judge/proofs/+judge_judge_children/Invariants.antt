@@ -3,7 +3,7 @@
 -- is twice their number; one more for the children of a word.
 -- Assumes nothing.
 use mathlib.Core.Path.{◌≡◌}
-use Prim.Native.Nat.{ℕ, ◌+◌, ◌*◌}
+use Prim.Native.Nat.{◌+◌, ◌*◌}
 use Rattle.context.specs.Contexts.{context_in}
 use Rattle.layout.specs.Bytes.{payload_at}
 use Rattle.judge.proofs.Going.{Going}

@@ -2,7 +2,6 @@
 -- The measure is that place. Assumes nothing.
 use native.Mathlib.Omega.{arith}
 use borrow.Author.Rules.{rules}
-use borrow.Author.Tests.{not-true}
 use Rattle.masks.proofs.Joined.{with_first}
 use Rattle.masks.proofs.Filling.{filling_none, filling_more, filling_all, can-mask}
 use Rattle.masks.proofs.fill.Goals as goal

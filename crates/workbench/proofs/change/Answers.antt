@@ -1,7 +1,6 @@
 -- `workbench::change` meets its contract: the new command is one, by as many levels as are known or by all, or the call is refused as 18.
 -- Assumes nothing.
 use mathlib.Core.Path.{sym, ◌∙◌}
-use borrow.Author.Tests.{not-true, not-false}
 use Rattle.splice.proofs.ReadTo.{read-deeper}
 use Rattle.changed_file.proofs.Tables.{tabled_again}
 use Rattle.replacement.proofs.Puts.{change-not, settled}

@@ -1,7 +1,6 @@
 -- `workbench::put` meets its contract: 19, and then the rest.
 -- Assumes nothing.
 use mathlib.Core.Path.{sym, ◌∙◌}
-use borrow.Author.Tests.{not-true, not-false}
 use Rattle.context.proofs.Limits.{settable-under}
 use Rattle.replacement.proofs.Puts.{same-put, outside-put}
 use Rattle.workbench.proofs.put.Goals as goal

@@ -1,7 +1,6 @@
 -- `workbench::replace` meets its contract: the old command is none or of another length, or the words of the changed file are loaded.
 -- Assumes nothing.
 use native.Mathlib.Omega.{arith}
-use borrow.Author.Tests.{not-true, not-false}
 use Rattle.replacement.proofs.Puts.{word_count, ends-here, replace-past, replace-part, replace-not, can-change, changed-count, changed-known}
 use Rattle.workbench.proofs.replace.Goals as goal
 

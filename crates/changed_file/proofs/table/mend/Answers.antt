@@ -1,7 +1,6 @@
 -- `changed_file::table::mend` meets its contract: the ends of the words that changed, and the masks of the procedures unless they stay.
 -- Assumes nothing.
 use native.Mathlib.Omega.{arith}
-use borrow.Author.Tests.{not-true, not-false}
 use Rattle.changed_file.proofs.Tables.{mended_masks, mended_stays}
 use Rattle.changed_file.proofs.table.mend.Goals as goal
 

@@ -1,7 +1,6 @@
 -- `flow_compound::loops::rule_13` meets its contract.
 -- Assumes nothing.
 use native.Mathlib.Omega.{arith}
-use borrow.Author.Tests.{not-true, not-false}
 use Rattle.flow_compound.proofs.Goal.{command-head, can-two}
 use Rattle.flow_compound.proofs.LoopRules.{can-test, not-while, not_same, while-comes}
 use Rattle.flow_compound.proofs.loops.rule_13.Goals as goal

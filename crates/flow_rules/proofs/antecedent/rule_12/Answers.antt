@@ -1,7 +1,6 @@
 -- `flow_rules::antecedent::rule_12` meets its contract.
 -- Assumes nothing.
 use native.Mathlib.Omega.{arith}
-use borrow.Author.Tests.{not-true, not-false}
 use Rattle.rule_laws.proofs.Trying.{step-head}
 use Rattle.flow_rules.proofs.AntecedentRules.{can-first, can-second, under-fails, under-comes}
 use Rattle.flow_rules.proofs.antecedent.rule_12.Goals as goal

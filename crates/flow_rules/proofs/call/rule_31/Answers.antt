@@ -1,7 +1,6 @@
 -- `flow_rules::call::rule_31` meets its contract.
 -- Assumes nothing.
 use native.Mathlib.Omega.{arith}
-use borrow.Author.Tests.{not-true, not-false}
 use Rattle.flow_compound.proofs.Goal.{command-head}
 use Rattle.flow_rules.proofs.CallRules.{not_call, can-pre, can-post, other-pre, call-comes}
 use Rattle.flow_rules.proofs.call.rule_31.Goals as goal

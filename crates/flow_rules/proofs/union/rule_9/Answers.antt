@@ -1,7 +1,6 @@
 -- `flow_rules::union::rule_9` meets its contract.
 -- Assumes nothing.
 use native.Mathlib.Omega.{arith}
-use borrow.Author.Tests.{not-true, not-false}
 use Rattle.rule_laws.proofs.Trying.{step-head}
 use Rattle.flow_rules.proofs.UnionRules.{can-first, can-second, union_fails, union_comes}
 use Rattle.flow_rules.proofs.union.rule_9.Goals as goal

@@ -1,6 +1,5 @@
 -- `flow_rules::unmodified::rule_10` meets its contract.
 -- Assumes nothing.
-use borrow.Author.Tests.{not-true, not-false}
 use Rattle.flow_compound.proofs.Goal.{can-two}
 use Rattle.flow_rules.proofs.UnmodifiedRules.{can-keep_set, not_same, set-kept}
 use Rattle.flow_rules.proofs.unmodified.rule_10.Goals as goal

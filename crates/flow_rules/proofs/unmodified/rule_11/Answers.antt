@@ -2,7 +2,6 @@
 -- Assumes nothing.
 use mathlib.Core.Path.{sym, ◌∙◌}
 use native.Mathlib.Omega.{arith}
-use borrow.Author.Tests.{not-true, not-false}
 use Rattle.flow_compound.proofs.Goal.{before_head, after-head}
 use Rattle.flow_rules.proofs.UnmodifiedRules.{can-same, can-keep, not-one_before, not-one_after}
 use Rattle.flow_rules.proofs.UnmodifiedRules.{other-consequent, consequent-kept}

@@ -1,5 +1,5 @@
 -- `flowcheck::input::read_input` meets its contract: a read goes on where the last one ended.
-use Rattle.std.proofs.Common.{arith, rules}
+use Rattle.std.proofs.Common.{rules}
 use Rattle.flowcheck.proofs.Known.{read-more}
 use Rattle.flowcheck.proofs.input.read_input.Goals as goal
 

@@ -1,7 +1,7 @@
 -- The readers of commands meet their contracts: each goes by the word that is due. The measure is the words left from the
 -- command on, twice; one more for a part.
 -- Assumes nothing.
-use Prim.Native.Nat.{ℕ, ◌+◌, ◌*◌}
+use Prim.Native.Nat.{◌+◌, ◌*◌}
 use Rattle.reader.proofs.Forward.{words_left}
 use Rattle.reader.specs.declared.Walk.TheVariants.{Next}
 use Rattle.reader.proofs.command.+read_body_read_command.Given as goal

@@ -5,7 +5,7 @@
 use Rattle.context.specs.Contexts.{context_of}
 use Rattle.layout.specs.Bytes.{word_count}
 use Rattle.reader.proofs.Items.{Reached}
-use Prim.Native.Nat.{ℕ, ◌+◌, ◌-◌, ◌*◌}
+use Prim.Native.Nat.{◌+◌, ◌-◌, ◌*◌}
 use Rattle.reader.proofs.evidence.+read_evidence_read_item_read_items.Given as goal
 
 abbrev pub decreases-read_evidence : goal.decreases-read_evidence

@@ -1,7 +1,7 @@
 -- The readers of the three sorts meet their contracts: each goes by the word that is due. The measure is the words left
 -- from the expression on, twice; one more for an operand.
 -- Assumes nothing.
-use Prim.Native.Nat.{ℕ, ◌+◌, ◌*◌}
+use Prim.Native.Nat.{◌+◌, ◌*◌}
 use Rattle.reader.proofs.Forward.{words_left}
 use Rattle.reader.specs.declared.Walk.TheVariants.{Next}
 use Rattle.reader.proofs.expression.+read_arithmetic_read_array_read_boolean_read_operand.Given as goal

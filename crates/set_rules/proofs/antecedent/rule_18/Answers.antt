@@ -1,7 +1,6 @@
 -- `set_rules::antecedent::rule_18` meets its contract.
 -- Assumes nothing.
 use native.Mathlib.Omega.{arith}
-use borrow.Author.Tests.{not-true, not-false}
 use Rattle.set_unions.proofs.Goal.{left_in, right-in, low-left, low-right}
 use Rattle.set_rules.proofs.Antecedents.{can-same, can-imply, left-fails, right-fails, differ_fails, implied-rule}
 use Rattle.set_rules.proofs.antecedent.rule_18.Goals as goal

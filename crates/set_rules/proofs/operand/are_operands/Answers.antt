@@ -2,7 +2,6 @@
 -- Assumes nothing.
 use mathlib.Core.Path.{sym, ◌∙◌}
 use native.Mathlib.Omega.{arith}
-use borrow.Author.Tests.{not-true, not-false}
 use Rattle.set_rules.proofs.Operands.{whole_in, can-one_same, first-known, can-two_same, one_split}
 use Rattle.set_rules.proofs.Operands.{none-split, two-split}
 use Rattle.set_rules.proofs.operand.are_operands.Goals as goal

@@ -1,7 +1,6 @@
 -- `set_unions::union::rule_16` meets its contract, by the two tests.
 -- Assumes nothing.
 use native.Mathlib.Omega.{arith}
-use borrow.Author.Tests.{not-true, not-false}
 use Rattle.rule_laws.proofs.Trying.{low-head}
 use Rattle.set_unions.proofs.Unions.{can-first, can-second, first-fails, union_rule}
 use Rattle.set_unions.proofs.union.rule_16.Goals as goal

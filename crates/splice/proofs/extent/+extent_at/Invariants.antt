@@ -1,7 +1,6 @@
 -- `splice::extent::extent_at` meets its contract: in the loop, so many parts are ahead. The levels left fall, and in the loop the
 -- parts that are ahead.
 -- Assumes nothing.
-use Prim.Native.Nat.{ℕ}
 use Rattle.splice.proofs.Extents.{Ahead}
 use Rattle.splice.proofs.extent.+extent_at.Given as goal
 

@@ -1,7 +1,6 @@
 -- `splice::simple::is_read_to` meets its contract: past the file, by the kind of the word there, by the walk.
 -- Assumes nothing.
 use mathlib.Core.Path.{sym, ◌∙◌}
-use borrow.Author.Tests.{not-true, not-false}
 use Rattle.splice.proofs.ReadTo.{read_past, read-other, read_next, read-refused}
 use Rattle.splice.proofs.simple.is_read_to.Goals as goal
 

@@ -2,7 +2,6 @@
 -- Assumes nothing.
 use mathlib.Core.Path.{sym, ◌∙◌}
 use native.Mathlib.Omega.{arith}
-use borrow.Author.Tests.{not-true, not-false}
 use Rattle.splice.proofs.SimpleWords.{simple-past, simple-other, simple-here}
 use Rattle.splice.proofs.simple.is_simple_to.Goals as goal
 

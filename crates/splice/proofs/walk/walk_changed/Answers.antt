@@ -1,6 +1,5 @@
 -- `splice::walk::walk_changed` meets its contract: the new command takes no more levels or is none, or the changed words are walked.
 -- Assumes nothing.
-use borrow.Author.Tests.{not-false}
 use Rattle.splice.proofs.Walks.{new-count, new-read}
 use Rattle.splice.proofs.walk.walk_changed.Goals as goal
 
