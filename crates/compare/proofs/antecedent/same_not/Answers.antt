@@ -38,10 +38,10 @@ pub same_booleans-requires : goal.same_booleans-requires
 same_booleans-requires c =
     let p = c.requires in
     let x = c.plain_start-start.ensures in
-    two-written p.ends_of (not-operand p.ends_of x c.if-w-start-ne-NOT_WORD.false) p.second
+    two-written p.ends_of (not-operand p.ends_of x (omega arith)) p.second
 
 pub returns : goal.returns
 returns c =
     let p = c.requires in
     let x = c.plain_start-start.ensures in
-    not_on p.ends_of x _ c.if-w-start-ne-NOT_WORD.false c.same_booleans.ensures
+    not_on p.ends_of x _ (omega arith) c.same_booleans.ensures

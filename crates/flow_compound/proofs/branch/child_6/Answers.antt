@@ -1,5 +1,6 @@
 -- `flow_compound::branch::child_6` meets its contract.
 -- Assumes nothing.
+use native.Mathlib.Omega.{arith}
 use Rattle.flow_compound.proofs.Children.{last-of_three}
 use Rattle.flow_compound.proofs.branch.child_6.Goals as goal
 
@@ -19,7 +20,7 @@ pub returns : goal.returns
 returns c =
     rw (
       last-of_three c.requires.child
-          c.if-k-eq0.false c.if-k-eq1.false,
+          (omega arith) (omega arith),
       c.end_or_zero-f.ensures,
       c.end_or_zero-t.ensures,
     )

@@ -18,22 +18,22 @@ pub start_of-body-requires : goal.start_of-body-requires
 start_of-body-requires c = (c.requires.can.size, command-head c.requires.can)
 
 pub same_written-requires : goal.same_written-requires
-same_written-requires c = rw (c.end_or_zero-pre.ensures, c.start_of-body.ensures) (can-pre c.requires c.if-w-c-ne-CALL.false)
+same_written-requires c = rw (c.end_or_zero-pre.ensures, c.start_of-body.ensures) (can-pre c.requires (omega arith))
 
 pub returns-then-not-same_written : goal.returns-then-not-same_written
 returns-then-not-same_written c =
-    other-pre c.requires c.if-w-c-ne-CALL.false
+    other-pre c.requires (omega arith)
     (rw (c.end_or_zero-pre.ensures, c.start_of-body.ensures) at c.same_written.ensures)
     c.if-not-same_written.true
 
 pub same_written-requires-2 : goal.same_written-requires-2
 same_written-requires-2 c =
     rw (c.end_or_zero-post.ensures, c.end_or_zero-pre.ensures, c.start_of-body.ensures)
-    (can-post c.requires c.if-w-c-ne-CALL.false)
+    (can-post c.requires (omega arith))
 
 pub returns : goal.returns
 returns c =
-    rw c.condition.ensures (call-comes c.requires c.if-w-c-ne-CALL.false
+    rw c.condition.ensures (call-comes c.requires (omega arith)
     (rw (c.end_or_zero-pre.ensures, c.start_of-body.ensures) at c.same_written.ensures)
     c.if-not-same_written.false
     (rw (c.end_or_zero-post.ensures, c.end_or_zero-pre.ensures, c.start_of-body.ensures) at

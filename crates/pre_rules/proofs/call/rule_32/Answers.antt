@@ -15,4 +15,4 @@ pub returns-then-w-c-ne-CALL : goal.returns-then-w-c-ne-CALL
 returns-then-w-c-ne-CALL c = call-fails c.requires c.if-w-c-ne-CALL.true
 
 pub returns : goal.returns
-returns c = call-rule c.requires c.if-w-c-ne-CALL.false
+returns c = call-rule c.requires (omega arith)

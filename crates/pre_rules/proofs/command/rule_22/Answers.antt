@@ -20,4 +20,4 @@ is_same_assertion-requires c =
     record { ends_of = p.can.ends_of; first = first-boolean p; second = second-boolean p }
 
 pub returns : goal.returns
-returns c = skip_rule c.requires c.if-w-c-ne-SKIP.false c.is_same_assertion.ensures c.condition.ensures
+returns c = skip_rule c.requires (omega arith) c.is_same_assertion.ensures c.condition.ensures

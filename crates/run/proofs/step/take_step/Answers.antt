@@ -1,4 +1,5 @@
 -- `run::step::take_step` meets its contract. Assumes nothing.
+use native.Mathlib.Omega.{arith}
 use Rattle.run.proofs.Steps.{stepped_none, stepped_one, stepped_held}
 use Rattle.run.proofs.step.take_step.Goals as goal
 
@@ -8,9 +9,9 @@ returns-then-progress-eq0 c =
     c.if-progress-eq0.true
 
 pub returns-then-progress-ne0 : goal.returns-then-progress-ne0
-returns-then-progress-ne0 c = stepped_held c.args.at c.args.progress.now c.requires.sized c.if-progress-eq0.false c.if-progress-ne0.true
+returns-then-progress-ne0 c = stepped_held c.args.at c.args.progress.now c.requires.sized (omega arith) c.if-progress-ne0.true
 
 pub returns : goal.returns
 returns c =
-    stepped_one c.args.at c.args.progress.now c.requires.sized c.if-progress-eq0.false
+    stepped_one c.args.at c.args.progress.now c.requires.sized (omega arith)
     c.if-progress-ne0.false
