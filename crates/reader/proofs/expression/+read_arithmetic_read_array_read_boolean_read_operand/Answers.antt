@@ -201,8 +201,6 @@ read_boolean-returns-in-Other t c =
 pub read_operand-returns-in-Refused : goal.read_operand-returns-in-Refused
 read_operand-returns-in-Refused t c = rw c.in-Refused.is
 
--- TODO no field is_leaf.ensures
--- TODO bare context c
 pub read_operand-overflow_add-result : goal.read_operand-overflow_add-result
 read_operand-overflow_add-result t c =
     omega (
@@ -211,8 +209,6 @@ read_operand-overflow_add-result t c =
       (leaf-walk _ _ _ _ (sym c.is_leaf.ensures ∙ c.if-is_leaf.true)).inside,
     )
 
--- TODO no field is_leaf.ensures
--- TODO bare context c
 pub read_operand-returns-then-is_leaf : goal.read_operand-returns-then-is_leaf
 read_operand-returns-then-is_leaf t c =
     rw c.in-Next.is
