@@ -15,7 +15,7 @@ pub struct Context {
 
 // A refusal's number and place (document 01, "Judging order"). The place is first: in an answer it then stands where the place
 // that a reader goes on from would.
-#[derive(Clone, Copy)]
+#[derive(Clone, Copy, Debug, PartialEq, Eq)]
 pub struct Refusal {
     pub place: usize,
     pub number: u32,
