@@ -13,15 +13,14 @@ use mathlib.Core.List.{List, [], ◌∷◌}
 use mathlib.Core.Option.{Option, none, some}
 use Prim.Native.Nat.{ℕ, zero, suc, ◌+◌}
 use lib.Dec.{eqb, ltb, leb}
+use Rattle.std.specs.Prelude.{Ok, Err}
 use Rattle.rules.specs.Context.{Limits, Context, alone, standard}
 use Rattle.rules.specs.Evidence.{Judgement, Item, assertion_item, command_item, members_item, child_item, rules}
 use Rattle.layout.specs.Bytes.{word_count, kind_at, payload_at}
 use Rattle.layout.specs.Reading.{fault, Reader, pure, ◌⊛◌, several, allowed, word_due, allow, up_to, on_option}
 use Rattle.layout.specs.Read.{command, member_at, set}
 use Rattle.layout.specs.ReadEvidence.{evidence_kind, rule_of, item_reader, parts_reader, evidence}
-use Rattle.reader.specs.Walk.{walk_of, onward, command_walk}
-use Rattle.reader.specs.declared.Walk.{Walk}
-use Rattle.reader.specs.declared.Walk.TheVariants.{Next, Refused}
+use Rattle.reader.specs.Walk.{Walk, walk_of, onward, command_walk}
 use Rattle.reader.proofs.Walks.{onto}
 
 pub record SameWalk {A B : Type 0} (x : Reader A) (y : Reader B) : Type 0 where
@@ -34,8 +33,8 @@ first : {A B : Type 0} {a : A} {b : B} → SameWalk (pure a) (pure b)
 first = record { walks = λ p. refl }
 
 onward-same : {f g : ℕ → Walk} (s : Walk) → ((p : ℕ) → f p ≡ g p) → onward s f ≡ onward s g
-onward-same (Next p) h = h p
-onward-same (Refused x) h = refl
+onward-same (Ok p) h = h p
+onward-same (Err x) h = refl
 
 then :
     {A B C D : Type 0} {x : Reader (A → B)} {t : Reader A} {y : Reader (C → D)} {u : Reader C} → SameWalk x y →

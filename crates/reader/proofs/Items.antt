@@ -9,6 +9,8 @@ use mathlib.Core.List.{List, [], ◌∷◌}
 use mathlib.Core.Option.{Option}
 use Prim.Native.Nat.{ℕ, ◌-◌, ◌/◌, ◌%◌, ◌≤◌}
 use native.Mathlib.Omega.{arith}
+use Rattle.std.specs.Prelude.{Ok, Err}
+use Rattle.std.specs.Result.{IsErrAnd}
 use Rattle.rules.specs.Context.{Context}
 use Rattle.rules.specs.Evidence as tree
 use Rattle.rules.specs.Evidence.{Judgement, Item, assertion_item, command_item, members_item, child_item, Row, ◌&◌}
@@ -19,14 +21,11 @@ use Rattle.words.specs.Rows.{item_of, packed_items, rule_due, row_due}
 use Rattle.words.proofs.RowItems.{item-first, digit-rest, no_item, row-none, row-some}
 use Rattle.context.specs.Contexts.{refusal}
 use Rattle.context.specs.declared.Refusal.{Refusal}
-use Rattle.reader.specs.Walk.{walk_of, onward, due_of}
+use Rattle.reader.specs.Walk.{Walk, walk_of, onward, due_of}
 use Rattle.reader.specs.Items.{item_walk, ItemsRead}
-use Rattle.reader.specs.declared.Walk.{Walk}
-use Rattle.reader.specs.declared.Walk.TheVariants.{Next, Refused}
 use Rattle.reader.specs.declared.FirstWord.{FirstWord}
-use Rattle.reader.specs.declared.FirstWord.TheVariants.{There}
-use Rattle.reader.proofs.Walks.{onto, alone, on, off, rule_reader, evidence-goes, arm, none-arm}
-use Rattle.reader.proofs.Forward.{words_left, item-left}
+use Rattle.reader.proofs.Walks.{onto, alone, exit, on, off, rule_reader, evidence-goes, arm, none-arm}
+use Rattle.reader.proofs.Forward.{item-left}
 
 module _ (Γ : Context) (file : List ℕ) (d : ℕ) where
   item-walk : (x : Item) (p : ℕ) → item_walk Γ file d x p ≡ walk_of (item_reader Γ file d (evidence Γ file d) x p)
@@ -65,51 +64,48 @@ module _ (Γ : Context) (file : List ℕ) (d : ℕ) where
   items-start row at = record { left = omega arith; items = λ l e. (l, e, refl) }
 
   module _ {row at rest p : ℕ} (h : Reached row at rest p) where
-    pub items-done : rest ≡ 0 → ItemsRead Γ file d row at (Next p)
+    pub items-done : rest ≡ 0 → ItemsRead Γ file d row at (Ok p)
     items-done z = record {
       items = λ l e.
           let m = h.items l e in
           ap (λ k. items_walk k p) (sym (no_item m.0 (sym m.1 ∙ z))) ∙ m.2;
     }
 
-    -- r is what was returned for the first item
-    module _ {r : Walk} (n : rest ≡ 0 → ⊥) (e : r ≡ item_walk Γ file d (item_of (rest % 8)) p) where
-      pub items-stop : {x : Refusal} → r ≡ Refused x → ItemsRead Γ file d row at r
-      items-stop f = record {
+    -- what was returned for the first item
+    module _ (n : rest ≡ 0 → ⊥) where
+      pub items-stop : {x : Refusal} {r : Walk} → Err x ≡ item_walk Γ file d (item_of (rest % 8)) p → IsErrAnd r (λ y. y ≡ x) →
+          ItemsRead Γ file d row at r
+      items-stop e f = record {
         items = λ l k.
             let m = h.items l k in
             let s = row_step p m.0 m.1 n in
-            off (λ q. items_walk s.0 q) f ∙ ap (λ (z : Walk). onward z (λ q. items_walk s.0 q)) e ∙ s.2 ∙ m.2;
+            exit f (off (λ q. items_walk s.0 q) e ∙ s.2 ∙ m.2);
       }
 
-      pub items-next : {q : ℕ} → r ≡ Next q → Reached row at (rest / 8) q
-      items-next {q} f = record {
-        left =
-            let i = item-left Γ file d (item_of (rest % 8)) p in
-            let k : words_left file (item_walk Γ file d (item_of (rest % 8)) p) ≡ word_count file - q =
-            ap (words_left file) (sym e ∙ f) in
-            omega (arith, h.left);
+      pub items-next : {q : ℕ} → Ok q ≡ item_walk Γ file d (item_of (rest % 8)) p → Reached row at (rest / 8) q
+      items-next {q} e = record {
+        left = let i = item-left file d p Γ (item_of (rest % 8)) e in omega (arith, h.left);
         items = λ l k.
             let m = h.items l k in
             let s = row_step p m.0 m.1 n in (
               s.0,
               s.1,
-              on (λ q. items_walk s.0 q) f refl ∙ ap (λ (z : Walk). onward z (λ q. items_walk s.0 q)) e ∙ s.2 ∙ m.2,
+              on (λ q. items_walk s.0 q) e refl ∙ s.2 ∙ m.2,
             );
       }
 
--- ---- as the code has them: r is what `word_due` returned, `row` the row of the word
-module _ (Γ : Context) (file : List ℕ) (d : ℕ) (j : Judgement) (at : ℕ) {r : FirstWord} (due : r ≡ due_of file d at)
-    {k p q b row : ℕ} (there : r ≡ There k p q b) (e : row ≡ row_due j k p) where
-  pub rule-none : row ≡ 7 → Refused (refusal 5 at) ≡ walk_of (evidence Γ file d j at)
+-- ---- as the code has them: f is the word that is due, `row` its row
+module _ (Γ : Context) (file : List ℕ) (d : ℕ) (j : Judgement) (at : ℕ) {f : FirstWord} (due : Ok f ≡ due_of file d at)
+    {row : ℕ} (e : row ≡ row_due j f.kind f.payload) where
+  pub rule-none : row ≡ 7 → Err (refusal 5 at) ≡ walk_of (evidence Γ file d j at)
   unfolding row_due
   rule-none h =
-      none-arm (evidence-goes file Γ d j at) due there refl
-      (ap (λ (o : Option (Row j)). on_option o (rule_reader file Γ j at b)) (row-none (rule_due j k p) (sym e ∙ h)))
+      none-arm (evidence-goes file Γ d j at) due refl
+      (ap (λ (o : Option (Row j)). on_option o (rule_reader file Γ j at f.below)) (row-none (rule_due j f.kind f.payload) (sym e ∙ h)))
 
-  pub rule-some : {x : Walk} → (row ≡ 7 → ⊥) → ItemsRead Γ file b row q x → x ≡ walk_of (evidence Γ file d j at)
+  pub rule-some : {x : Walk} → (row ≡ 7 → ⊥) → ItemsRead Γ file f.below row f.next x → x ≡ walk_of (evidence Γ file d j at)
   unfolding row_due
   rule-some h i =
-      let s = row-some (rule_due j k p) (λ z. h (e ∙ z)) in
-      arm (evidence-goes file Γ d j at) due there refl s.1
-      (i.items s.0.after (e ∙ s.2) ∙ alone _ (parts_reader Γ file b (evidence Γ file b) s.0.after) q)
+      let s = row-some (rule_due j f.kind f.payload) (λ z. h (e ∙ z)) in
+      arm (evidence-goes file Γ d j at) due refl s.1
+      (i.items s.0.after (e ∙ s.2) ∙ alone _ (parts_reader Γ file f.below (evidence Γ file f.below) s.0.after) f.next)

@@ -19,6 +19,7 @@ use Prim.Native.Nat.{ℕ, zero, suc, ◌+◌, ◌*◌, ◌/◌, ◌%◌, ◌<◌
 use native.Mathlib.Omega.{arith}
 use borrow.Author.Tests.{eq-eqb, ne_eqb, eqb-true, eqb-false}
 use lib.Dec.{eqb, ltb, leb}
+use Rattle.std.specs.Prelude.{Ok, Err}
 use Rattle.language.specs.Syntax.{Sort, Arithmetic, Boolean, Array}
 use Rattle.rules.specs.Assertion.{member}
 use Rattle.rules.specs.Context.{Limits, Context, alone}
@@ -34,13 +35,10 @@ use Rattle.layout.proofs.Nodes.{with_levels}
 use Rattle.layout.proofs.Forms.{sort-kind, low-kind}
 use Rattle.layout.proofs.Yields.{PastBy}
 use Rattle.layout.proofs.Spelled.{ExpressionSpelled, expression-past}
-use Rattle.reader.specs.Walk.{walk_of, onward, command_walk}
-use Rattle.reader.specs.Program.{places, program_layout, by_walk, from_pre, from_post, from_evidence}
+use Rattle.reader.specs.Walk.{Walk, walk_of, onward, command_walk}
+use Rattle.reader.specs.Program.{Layout, places, program_layout, from_pre, from_post, from_evidence}
 use Rattle.reader.specs.File.{ended, headed, read_of}
-use Rattle.reader.specs.declared.Walk.{Walk}
-use Rattle.reader.specs.declared.Walk.TheVariants.{Next, Refused}
 use Rattle.reader.specs.declared.Places.{Places}
-use Rattle.reader.specs.declared.Layout.{Layout}
 use Rattle.reader.proofs.Walks.{onto, alone as alone-walk, rule_reader}
 use Rattle.reader.proofs.Sets.{several-walk}
 use Rattle.reader.proofs.Contexts.{command-walk}
@@ -54,16 +52,16 @@ pub record Swapped (w v : List ℕ) (place to : ℕ) : Type 0 where
   pub old-least : 24 ≤ kind_at w place
   pub old-most : kind_at w place ≤ 28
   pub new-most : kind_at v place ≤ 28
-  pub fits : (d p : ℕ) → command_walk w d place ≡ Next p → (command_walk v d place ≡ Next p) × (to ≤ p)
+  pub fits : (d p : ℕ) → command_walk w d place ≡ Ok p → (command_walk v d place ≡ Ok p) × (to ≤ p)
 
 -- a walk that goes on is one of what was read
-pub walk-read : {A : Type 0} (x : Reading A) (p : ℕ) → walk_of x ≡ Next p → (a : A) × (x ≡ read a p)
+pub walk-read : {A : Type 0} (x : Reading A) (p : ℕ) → walk_of x ≡ Ok p → (a : A) × (x ≡ read a p)
 walk-read (read a q) p e = let h : q ≡ p = cc in (a, ap (read a) h)
 walk-read (fault n q) p e = absurd (let z : ◌≡◌ {A = ℕ} 0 1 = cc in omega arith)
 
-onward-next : (s : Walk) (k : ℕ → Walk) (p : ℕ) → onward s k ≡ Next p → (q : ℕ) × (s ≡ Next q) × (k q ≡ Next p)
-onward-next (Next q) k p e = (q, refl, e)
-onward-next (Refused x) k p e = absurd (let z : ◌≡◌ {A = ℕ} 0 1 = cc in omega arith)
+onward-next : (s : Walk) (k : ℕ → Walk) (p : ℕ) → onward s k ≡ Ok p → (q : ℕ) × (s ≡ Ok q) × (k q ≡ Ok p)
+onward-next (Ok q) k p e = (q, refl, e)
+onward-next (Err x) k p e = absurd (let z : ◌≡◌ {A = ℕ} 0 1 = cc in omega arith)
 
 module _ (place to : ℕ) where
   pub record Outside (at : ℕ) : Type 0 where
@@ -71,15 +69,15 @@ module _ (place to : ℕ) where
 
   -- y goes on to p, outside
   pub record Goes {B : Type 0} (y : Reader B) (at p : ℕ) : Type 0 where
-    pub goes : walk_of (y at) ≡ Next p
+    pub goes : walk_of (y at) ≡ Ok p
     pub outside : Outside p
 
   pub record Kept {A B : Type 0} (x : Reader A) (y : Reader B) : Type 0 where
-    pub keeps : (at p : ℕ) → Outside at → walk_of (x at) ≡ Next p → Goes y at p
+    pub keeps : (at p : ℕ) → Outside at → walk_of (x at) ≡ Ok p → Goes y at p
 
   -- entries of a table, at a word that stands outside and is not the command's first
   record KeptEntry {A B : Type 0} (o : Option (Reader A)) (u : Option (Reader B)) : Type 0 where
-    keeps : (at p : ℕ) → Outside (at + 1) → walk_of (allowed o at) ≡ Next p → Goes (allowed u) at p
+    keeps : (at p : ℕ) → Outside (at + 1) → walk_of (allowed o at) ≡ Ok p → Goes (allowed u) at p
 
 module _ {place to : ℕ} where
   first : {A B : Type 0} {a : A} {b : B} → Kept place to (pure a) (pure b)
@@ -93,7 +91,7 @@ module _ {place to : ℕ} where
         let s = onward-next (walk_of (x at)) (λ q. walk_of (t q)) p (onto x t at refl refl ∙ e) in
         let a = h.keeps at s.0 o s.1 in
         let b = k.keeps s.0 p a.outside s.2 in
-        record { goes = sym (onto y u at {s = Next s.0} (sym b.goes) (sym a.goes)); outside = b.outside };
+        record { goes = sym (onto y u at {s = Ok s.0} (sym b.goes) (sym a.goes)); outside = b.outside };
   }
 
   times : {A B : Type 0} {x : Reader A} {y : Reader B} (n : ℕ) → Kept place to x y → Kept place to (several n x) (several n y)
@@ -130,21 +128,21 @@ module _ {place to : ℕ} where
     if-any (some r) h = given (h r)
 
 -- ---- by the word that is due
-level-not : (A : Type 0) (w : List ℕ) (at p : ℕ) → walk_of (no_level {A = A} w at) ≡ Next p → ⊥
+level-not : (A : Type 0) (w : List ℕ) (at p : ℕ) → walk_of (no_level {A = A} w at) ≡ Ok p → ⊥
 level-not A w at p e = go (ltb at (word_count w)) e
   where
-    go : (t : Bool) → walk_of {A = A} (cond t (fault 4 at) (fault 3 (word_count w))) ≡ Next p → ⊥
+    go : (t : Bool) → walk_of {A = A} (cond t (fault 4 at) (fault 3 (word_count w))) ≡ Ok p → ⊥
     go true e = let z : ◌≡◌ {A = ℕ} 0 1 = cc in omega arith
     go false e = let z : ◌≡◌ {A = ℕ} 0 1 = cc in omega arith
 
 -- a word of another kind than the one that a table allows
 due-not : {A : Type 0} (w : List ℕ) (at n p : ℕ) (o : ℕ → ℕ → Option (Reader A)) → (kind_at w at ≡ n → ⊥) →
-    walk_of (word_due w (λ i k q. cond (eqb k n) (o i q) none) at) ≡ Next p → ⊥
+    walk_of (word_due w (λ i k q. cond (eqb k n) (o i q) none) at) ≡ Ok p → ⊥
 unfolding word_due
 due-not {A} w at n p o h e = go (ltb at (word_count w)) (eqb (kind_at w at) n) (ne_eqb (kind_at w at) n h) e
   where
     go : (t c : Bool) → c ≡ false →
-        walk_of {A = A} (elim t [ true ↦ allowed (cond c (o at (payload_at w at)) none) at | false ↦ fault 3 (word_count w) ]) ≡ Next p → ⊥
+        walk_of {A = A} (elim t [ true ↦ allowed (cond c (o at (payload_at w at)) none) at | false ↦ fault 3 (word_count w) ]) ≡ Ok p → ⊥
     go true true x e = let z : ◌≡◌ {A = ℕ} 0 1 = cc in omega arith
     go true false x e = let z : ◌≡◌ {A = ℕ} 0 1 = cc in omega arith
     go false c x e = let z : ◌≡◌ {A = ℕ} 0 1 = cc in omega arith
@@ -173,7 +171,7 @@ module _ {w v : List ℕ} {place to : ℕ} (h : Swapped w v place to) where
 
   due-kept : {A B : Type 0} {s : ℕ → ℕ → ℕ → Option (Reader A)} {t : ℕ → ℕ → ℕ → Option (Reader B)} →
       ((i k p : ℕ) → KeptEntry place to (s i k p) (t i k p)) → (at p : ℕ) → Out at → (at ≡ place → ⊥) →
-      walk_of (word_due w s at) ≡ Next p → Goes place to (word_due v t) at p
+      walk_of (word_due w s at) ≡ Ok p → Goes place to (word_due v t) at p
   unfolding word_due
   due-kept {A} {B} {s} {t} f at p o n e =
       let same = h.other at n o.past in
@@ -184,29 +182,29 @@ module _ {w v : List ℕ} {place to : ℕ} (h : Swapped w v place to) where
           walk_of {A = A} (elim b [
             | true ↦ allowed (s at (kind_at w at) (payload_at w at)) at
             | false ↦ fault 3 (word_count w)
-          ]) ≡ Next p →
+          ]) ≡ Ok p →
           (walk_of {A = B} (elim b [
             | true ↦ allowed (t at (kind_at w at) (payload_at w at)) at
             | false ↦ fault 3 (word_count w)
-          ]) ≡ Next p) × Out p
+          ]) ≡ Ok p) × Out p
       go true e =
           let g = (f at (kind_at w at) (payload_at w at)).keeps at p (out-next o n) e in
           (g.goes, g.outside)
       go false e = absurd (let z : ◌≡◌ {A = ℕ} 0 1 = cc in omega arith)
 
   -- a reader that does not go on from the command, by what it does elsewhere
-  elsewhere : {A B : Type 0} {x : Reader A} {y : Reader B} → ((p : ℕ) → walk_of (x place) ≡ Next p → Goes place to y place p) →
-      ((at p : ℕ) → Out at → (at ≡ place → ⊥) → walk_of (x at) ≡ Next p → Goes place to y at p) → Kept place to x y
+  elsewhere : {A B : Type 0} {x : Reader A} {y : Reader B} → ((p : ℕ) → walk_of (x place) ≡ Ok p → Goes place to y place p) →
+      ((at p : ℕ) → Out at → (at ≡ place → ⊥) → walk_of (x at) ≡ Ok p → Goes place to y at p) → Kept place to x y
   elsewhere {A} {B} {x} {y} f g = record { keeps = λ at p o e. go at p o e (eqb at place) refl }
     where
-      go : (at p : ℕ) → Out at → walk_of (x at) ≡ Next p → (t : Bool) → eqb at place ≡ t → Goes place to y at p
+      go : (at p : ℕ) → Out at → walk_of (x at) ≡ Ok p → (t : Bool) → eqb at place ≡ t → Goes place to y at p
       go at p o e true t =
           let k = eqb-true at place t in
           subst (λ i. Goes place to y i p) (sym k) (f p (ap (λ i. walk_of (x i)) (sym k) ∙ e))
       go at p o e false t = g at p o (eqb-false at place t) e
 
   -- no expression starts where the command does
-  no-expression : (d : ℕ) (j : Sort) (p : ℕ) → walk_of (expression w d j place) ≡ Next p → ⊥
+  no-expression : (d : ℕ) (j : Sort) (p : ℕ) → walk_of (expression w d j place) ≡ Ok p → ⊥
   no-expression d j p e =
       let r = walk-read (expression w d j place) p e in
       let s = subst (PastBy w place (ExpressionSpelled w d place)) r.1 (expression-past w d j place).past in
@@ -321,36 +319,36 @@ module _ {w v : List ℕ} {place to : ℕ} (h : Swapped w v place to) where
 
     -- ---- programs
     by-kept : {A B : Type 0} {x : Reader A} {y : Reader B} {f g : ℕ → Layout} {s : Places} → Kept place to x y →
-        ((q : ℕ) → Out q → f q ≡ Layout.Found s → (g q ≡ Layout.Found s) × Out s.end) → (at : ℕ) → Out at →
-        by_walk (walk_of (x at)) f ≡ Layout.Found s → (by_walk (walk_of (y at)) g ≡ Layout.Found s) × Out s.end
+        ((q : ℕ) → Out q → f q ≡ Ok s → (g q ≡ Ok s) × Out s.end) → (at : ℕ) → Out at →
+        onward (walk_of (x at)) f ≡ Ok s → (onward (walk_of (y at)) g ≡ Ok s) × Out s.end
     by-kept {x = x} {y} {f} {g} {s} k next at o e = go (walk_of (x at)) refl e
       where
-        go : (z : Walk) → walk_of (x at) ≡ z → by_walk z f ≡ Layout.Found s →
-            (by_walk (walk_of (y at)) g ≡ Layout.Found s) × Out s.end
-        go (Next q) z e =
+        go : (z : Walk) → walk_of (x at) ≡ z → onward z f ≡ Ok s →
+            (onward (walk_of (y at)) g ≡ Ok s) × Out s.end
+        go (Ok q) z e =
             let a = k.keeps at q o z in
             let b = next q a.outside e in
-            (ap (λ (u : Walk). by_walk u g) a.goes ∙ b.0, b.1)
-        go (Refused r) z e = absurd (let z : ◌≡◌ {A = ℕ} 0 1 = cc in omega arith)
+            (ap (λ (u : Walk). onward u g) a.goes ∙ b.0, b.1)
+        go (Err r) z e = absurd (let z : ◌≡◌ {A = ℕ} 0 1 = cc in omega arith)
 
-    pub program-kept : (at : ℕ) {s : Places} → Out at → program_layout (program Γ w at) ≡ Layout.Found s →
-        (program_layout (program Γ v at) ≡ Layout.Found s) × Out s.end
+    pub program-kept : (at : ℕ) {s : Places} → Out at → program_layout (program Γ w at) ≡ Ok s →
+        (program_layout (program Γ v at) ≡ Ok s) × Out s.end
     program-kept at {s} o e =
         let d = Γ.limits.depth in
         let g =
         by-kept {f = from_pre Γ w at} {g = from_pre Γ v at} {s = s} (command-kept Γ d) (λ a oa ea.
         by-kept {f = from_post Γ w at a} {g = from_post Γ v at a} {s = s} (set-kept d) (λ b ob eb.
         by-kept {f = from_evidence Γ w at a b} {g = from_evidence Γ v at a b} {s = s} (set-kept d) (λ c oc ec.
-        by-kept {f = λ z. Layout.Found (places at a b c z)} {g = λ z. Layout.Found (places at a b c z)} {s = s} (evidence-kept d flow)
+        by-kept {f = λ z. Ok (places at a b c z)} {g = λ z. Ok (places at a b c z)} {s = s} (evidence-kept d flow)
         (λ z oz ez. let q : s ≡ places at a b c z = cc in (ez, rw q oz)) c oc ec) b ob eb) a oa ea) at o
         (sym (program-places Γ w at) ∙ e) in
         (program-places Γ v at ∙ g.0, g.1)
 
     -- ---- programs one after the other
     on-found : (x : Layout) (f : Places → Trace) (l : List ℕ) (s : Places) → on_places x f ≡ ends l s →
-        (t : Places) × (x ≡ Layout.Found t) × (f t ≡ ends l s)
-    on-found (Layout.Found t) f l s e = (t, refl, e)
-    on-found (Layout.Refused r) f l s e = absurd (let z : ◌≡◌ {A = ℕ} 0 1 = cc in omega arith)
+        (t : Places) × (x ≡ Ok t) × (f t ≡ ends l s)
+    on-found (Ok t) f l s e = (t, refl, e)
+    on-found (Err r) f l s e = absurd (let z : ◌≡◌ {A = ℕ} 0 1 = cc in omega arith)
 
     prepend-ends : (x : Trace) (m l : List ℕ) (s : Places) → prepend m x ≡ ends l s → (k : List ℕ) × (x ≡ ends k s) × (m ++ k ≡ l)
     prepend-ends (ends k t) m l s e = let z : t ≡ s = cc in let y : m ++ k ≡ l = cc in (k, ap (ends k) z, y)

@@ -1,11 +1,11 @@
 -- A reading goes on past an operand of one word.
 -- Assumes nothing.
 --     LeafAt, leaf-walk     the law
---     due-none, due-some    as the code has them: r is what `word_due` returned
 use mathlib.Core.Path.{◌≡◌, refl, sym, ◌∙◌, ap}
-use mathlib.Core.Bool.{Bool, true, false, false≢true}
+use mathlib.Core.Bool.{true, false≢true}
 use mathlib.Core.List.{List}
 use Prim.Native.Nat.{ℕ, ◌+◌, ◌<◌}
+use Rattle.std.specs.Prelude.{Result, Ok, Err}
 use Rattle.language.specs.Syntax as syntax
 use Rattle.language.specs.Syntax.{Expr}
 use Rattle.layout.specs.Bytes.{word_count}
@@ -22,22 +22,20 @@ use Rattle.words.specs.declared.ArrayWord.TheVariants as array
 use Rattle.context.specs.declared.Refusal.{Refusal}
 use Rattle.reader.specs.Walk.{sort_meant, walk_of, due_of, after}
 use Rattle.reader.specs.Leaves.{arithmetic_leaf, boolean_leaf, array_leaf, leaf_of, leaf_due}
-use Rattle.reader.specs.declared.Walk.TheVariants.{Next}
 use Rattle.reader.specs.declared.FirstWord.{FirstWord}
-use Rattle.reader.specs.declared.FirstWord.TheVariants.{There, Stop}
 use Rattle.reader.specs.declared.Sort.{Sort}
 use Rattle.reader.specs.declared.Sort.TheVariants.{Arithmetic, Boolean, Array}
 use Rattle.reader.proofs.Walks.{room, arithmetic-goes, boolean-goes, array-goes, arm}
 
 module _ (part : (j : syntax.Sort) → Reader (Expr j)) (at q : ℕ) where
-  arithmetic-past : (w : ArithmeticWord) → arithmetic_leaf w ≡ true → Next q ≡ walk_of (after (arithmetic_meaning part w) at q)
+  arithmetic-past : (w : ArithmeticWord) → arithmetic_leaf w ≡ true → Ok q ≡ walk_of (after (arithmetic_meaning part w) at q)
   arithmetic-past (arithmetic.Constant z) h = refl
   arithmetic-past (arithmetic.Scalar x) h = refl
   arithmetic-past (arithmetic.Operation o) h = absurd (false≢true h)
   arithmetic-past arithmetic.Select h = absurd (false≢true h)
   arithmetic-past arithmetic.Other h = absurd (false≢true h)
 
-  boolean-past : (w : BooleanWord) → boolean_leaf w ≡ true → Next q ≡ walk_of (after (boolean_meaning part w) at q)
+  boolean-past : (w : BooleanWord) → boolean_leaf w ≡ true → Ok q ≡ walk_of (after (boolean_meaning part w) at q)
   boolean-past (boolean.Compare r) h = absurd (false≢true h)
   boolean-past (boolean.Truth t) h = refl
   boolean-past boolean.And h = absurd (false≢true h)
@@ -45,7 +43,7 @@ module _ (part : (j : syntax.Sort) → Reader (Expr j)) (at q : ℕ) where
   boolean-past boolean.Not h = absurd (false≢true h)
   boolean-past boolean.Other h = absurd (false≢true h)
 
-  array-past : (w : ArrayWord) → array_leaf w ≡ true → Next q ≡ walk_of (after (array_meaning part w) at q)
+  array-past : (w : ArrayWord) → array_leaf w ≡ true → Ok q ≡ walk_of (after (array_meaning part w) at q)
   array-past (array.Identifier a) h = refl
   array-past array.Zeros h = refl
   array-past array.Update h = absurd (false≢true h)
@@ -53,30 +51,22 @@ module _ (part : (j : syntax.Sort) → Reader (Expr j)) (at q : ℕ) where
 
 pub record LeafAt (file : List ℕ) (d : ℕ) (s : Sort) (at : ℕ) : Type 0 where
   pub inside : at < word_count file
-  pub past : Next (at + 1) ≡ walk_of (expression file d (sort_meant s) at)
+  pub past : Ok (at + 1) ≡ walk_of (expression file d (sort_meant s) at)
 
-leaf-goes : (file : List ℕ) (d : ℕ) (s : Sort) (at : ℕ) {k p q b : ℕ} → due_of file d at ≡ There k p q b →
-    leaf_of s k p ≡ true → Next q ≡ walk_of (expression file d (sort_meant s) at)
-leaf-goes file d Arithmetic at {k} {p} {q} {b} e h =
-    arm (arithmetic-goes file d at) refl e refl refl (arithmetic-past (expression file b) at q (arithmetic_of k p) h)
-leaf-goes file d Boolean at {k} {p} {q} {b} e h =
-    arm (boolean-goes file d at) refl e refl refl (boolean-past (expression file b) at q (boolean_of k p) h)
-leaf-goes file d Array at {k} {p} {q} {b} e h =
-    arm (array-goes file d at) refl e refl refl (array-past (expression file b) at q (array_of k p) h)
+leaf-goes : (file : List ℕ) (d : ℕ) (s : Sort) (at : ℕ) {f : FirstWord} → Ok f ≡ due_of file d at →
+    leaf_of s f.kind f.payload ≡ true → Ok f.next ≡ walk_of (expression file d (sort_meant s) at)
+leaf-goes file d Arithmetic at {f} e h =
+    arm (arithmetic-goes file d at) e refl refl (arithmetic-past (expression file f.below) at f.next (arithmetic_of f.kind f.payload) h)
+leaf-goes file d Boolean at {f} e h =
+    arm (boolean-goes file d at) e refl refl (boolean-past (expression file f.below) at f.next (boolean_of f.kind f.payload) h)
+leaf-goes file d Array at {f} e h =
+    arm (array-goes file d at) e refl refl (array-past (expression file f.below) at f.next (array_of f.kind f.payload) h)
 
 pub leaf-walk : (file : List ℕ) (d : ℕ) (s : Sort) (at : ℕ) → leaf_due s (due_of file d at) ≡ true → LeafAt file d s at
 leaf-walk file d s at h = go (due_of file d at) refl h
   where
-    go : (u : FirstWord) → due_of file d at ≡ u → leaf_due s u ≡ true → LeafAt file d s at
-    go (Stop x) e h = absurd (false≢true h)
-    go (There k p q b) e h =
-        let r = room file d at (sym e) refl in
-        record { inside = r.0; past = ap Next (sym r.1) ∙ leaf-goes file d s at e h }
-
-module _ (file : List ℕ) (d at : ℕ) {r : FirstWord} (due : r ≡ due_of file d at) where
-  pub due-none : (s : Sort) {x : Refusal} → r ≡ Stop x → false ≡ leaf_due s (due_of file d at)
-  due-none s e = ap (leaf_due s) (sym e ∙ due)
-
-  pub due-some : {s t : Sort} {k p q b : ℕ} {x : Bool} → r ≡ There k p q b → s ≡ t → x ≡ leaf_of t k p →
-      x ≡ leaf_due s (due_of file d at)
-  due-some {s} {k = k} {p = p} e f h = h ∙ ap (λ u. leaf_of u k p) (sym f) ∙ ap (leaf_due s) (sym e ∙ due)
+    go : (u : Result FirstWord Refusal) → due_of file d at ≡ u → leaf_due s u ≡ true → LeafAt file d s at
+    go (Err x) e h = absurd (false≢true h)
+    go (Ok f) e h =
+        let r = room file d at {f = f} (sym e) in
+        record { inside = r.0; past = ap Ok (sym r.1) ∙ leaf-goes file d s at {f = f} (sym e) h }

@@ -2,7 +2,7 @@
 --     Walks           walks by the word that is due
 --     Forward         no walk leaves more words than the one that it goes on from
 --     Leaving         a reading goes on past an operand of one word
---     Sets            sorts by kind, and members one after the other
+--     Sets            members one after the other
 --     Items           evidence is read by the table of rules
 --     Contexts        walks do not depend on the procedures of the context
 --     ProgramParts    the places of a program's parts

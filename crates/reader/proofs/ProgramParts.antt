@@ -2,12 +2,12 @@
 -- Assumes nothing.
 --     program-places            the places of the parts, part by part
 --     program-same              they do not depend on the procedures of the context
---     by_next, by-refused       as the code has them: a walk that goes on, and one that is refused
 --     ProgramIn, program-in     where a program that was read starts and ends
 use mathlib.Core.Path.{◌≡◌, refl, sym, ◌∙◌, ap}
 use mathlib.Core.List.{List}
 use Prim.Native.Nat.{ℕ, ◌≤◌}
 use native.Mathlib.Omega.{arith}
+use Rattle.std.specs.Prelude.{Ok, Err}
 use Rattle.language.specs.Syntax.{Command}
 use Rattle.rules.specs.Assertion.{Members}
 use Rattle.rules.specs.Context.{Limits, Context}
@@ -19,14 +19,9 @@ use Rattle.layout.specs.ReadEvidence.{evidence}
 use Rattle.layout.specs.Program.{Program, made, program}
 use Rattle.layout.proofs.Yields.{YieldsBy}
 use Rattle.layout.proofs.WholeFile.{ProgramTo, program-yields, program-inside}
-use Rattle.context.specs.declared.Refusal.{Refusal}
-use Rattle.reader.specs.Walk.{walk_of}
-use Rattle.reader.specs.Program.{places, program_layout, by_walk, from_pre, from_post, from_evidence}
-use Rattle.reader.specs.declared.Walk.{Walk}
-use Rattle.reader.specs.declared.Walk.TheVariants.{Next}
+use Rattle.reader.specs.Walk.{Walk, walk_of, onward}
+use Rattle.reader.specs.Program.{Layout, places, program_layout, from_pre, from_post, from_evidence}
 use Rattle.reader.specs.declared.Places.{Places}
-use Rattle.reader.specs.declared.Layout.{Layout}
-use Rattle.reader.specs.declared.Layout.TheVariants.{Found, Refused}
 use Rattle.reader.proofs.Contexts.{command-same, set_same, evidence-same}
 
 -- `x ⊛ t ⊛ here`, of a reading
@@ -49,7 +44,7 @@ module _ (Γ : Context) (w : List ℕ) where
     where
       go : (z : Reading FlowEvidence) →
           program_layout (on_read (on_read z λ k q. read (made s c a m b n e k) q) λ f p. read (f p) p)
-          ≡ by_walk (walk_of z) λ d. Found (places s a b e d)
+          ≡ onward (walk_of z) λ d. Ok (places s a b e d)
       go (read k q) = refl
       go (fault k q) = refl
 
@@ -59,7 +54,7 @@ module _ (Γ : Context) (w : List ℕ) where
     where
       go : (z : Reading Members) →
           program_layout (with_evidence (on_read (on_read z λ n q. read (made s c a m b n) q) λ f p. read (f p) p))
-          ≡ by_walk (walk_of z) λ e. from_evidence Γ w s a b e
+          ≡ onward (walk_of z) λ e. from_evidence Γ w s a b e
       go (read n e) = evidence-places s c a m b n e
       go (fault k q) = refl
 
@@ -68,35 +63,28 @@ module _ (Γ : Context) (w : List ℕ) where
     where
       go : (z : Reading Members) →
           program_layout (with_post (on_read (on_read z λ m q. read (made s c a m) q) λ f p. read (f p) p))
-          ≡ by_walk (walk_of z) λ b. from_post Γ w s a b
+          ≡ onward (walk_of z) λ b. from_post Γ w s a b
       go (read m b) = post-places s c a m b
       go (fault k q) = refl
 
   pub program-places : (s : ℕ) →
-      program_layout (program Γ w s) ≡ by_walk (walk_of (command Γ w Γ.limits.depth s)) λ a. from_pre Γ w s a
+      program_layout (program Γ w s) ≡ onward (walk_of (command Γ w Γ.limits.depth s)) λ a. from_pre Γ w s a
   unfolding ◌⊛◌
   program-places s = go (command Γ w Γ.limits.depth s)
     where
       go : (z : Reading Command) →
           program_layout (with_pre (on_read (on_read z λ c q. read (made s c) q) λ f p. read (f p) p))
-          ≡ by_walk (walk_of z) λ a. from_pre Γ w s a
+          ≡ onward (walk_of z) λ a. from_pre Γ w s a
       go (read c a) = pre-places s c a
       go (fault k q) = refl
 
--- a walk that goes on, and one that is refused
-pub by_next : {p : ℕ} {r v : Walk} {x : Layout} (f : ℕ → Layout) → r ≡ v → r ≡ Next p → x ≡ f p → x ≡ by_walk v f
-by_next f e g h = h ∙ ap (λ (z : Walk). by_walk z f) (sym g ∙ e)
-
-pub by-refused : {x : Refusal} {r v : Walk} (f : ℕ → Layout) → r ≡ v → r ≡ Walk.Refused x → Refused x ≡ by_walk v f
-by-refused f e g = ap (λ (z : Walk). by_walk z f) (sym g ∙ e)
-
 -- ---- under equal limits
-by-same : {u v : Walk} {f g : ℕ → Layout} → u ≡ v → ((p : ℕ) → f p ≡ g p) → by_walk u f ≡ by_walk v g
-by-same {u} {v} {f} {g} e h = ap (λ (z : Walk). by_walk z f) e ∙ go v
+by-same : {u v : Walk} {f g : ℕ → Layout} → u ≡ v → ((p : ℕ) → f p ≡ g p) → onward u f ≡ onward v g
+by-same {u} {v} {f} {g} e h = ap (λ (z : Walk). onward z f) e ∙ go v
   where
-    go : (z : Walk) → by_walk z f ≡ by_walk z g
-    go (Next p) = h p
-    go (Walk.Refused x) = refl
+    go : (z : Walk) → onward z f ≡ onward z g
+    go (Ok p) = h p
+    go (Err x) = refl
 
 module _ (w : List ℕ) (Γ Δ : Context) (e : Γ.limits ≡ Δ.limits) where
   -- each part is outermost
@@ -117,11 +105,10 @@ pub record ProgramIn (w : List ℕ) (at : ℕ) (s : Places) : Type 0 where
   pub starts : s.start ≡ at
   pub inside : s.end ≤ word_count w
 
-pub program-in : (Γ : Context) (w : List ℕ) (at : ℕ) {r : Layout} {s : Places} → r ≡ program_layout (program Γ w at) →
-    r ≡ Found s → ProgramIn w at s
-program-in Γ w at {r} {s} e f = go (program Γ w at) (program-yields Γ w at).yields (sym f ∙ e)
+pub program-in : (Γ : Context) (w : List ℕ) (at : ℕ) {s : Places} → Ok s ≡ program_layout (program Γ w at) → ProgramIn w at s
+program-in Γ w at {s} e = go (program Γ w at) (program-yields Γ w at).yields e
   where
-    go : (x : Reading Program) → YieldsBy w at (ProgramTo Γ w at) x → Found s ≡ program_layout x → ProgramIn w at s
+    go : (x : Reading Program) → YieldsBy w at (ProgramTo Γ w at) x → Ok s ≡ program_layout x → ProgramIn w at s
     go (read g p) y h =
         let k : s ≡ places g.start g.pre_at g.post_at g.evidence_at p = cc in
         rw k (record { starts = y.1.starts; inside = rw (← y.1.ends) (program-inside Γ w g y.1.stands) })

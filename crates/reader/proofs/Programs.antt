@@ -13,6 +13,8 @@ use native.Mathlib.Omega.{arith}
 use native.Mathlib.Numerals.{add-one}
 use lib.ListN.{length, take, set, length-set, length-take}
 use lib.Seq.{take-suc-set}
+use Rattle.std.specs.Prelude.{Ok, Err}
+use Rattle.std.specs.Result.{IsErrAnd}
 use Rattle.rules.specs.Context.{Limits, Context, alone}
 use Rattle.layout.specs.Bytes.{word_count}
 use Rattle.layout.specs.Reading.{Reading, read, fault, on_read}
@@ -20,11 +22,10 @@ use Rattle.layout.specs.Program.{Program, program, after}
 use Rattle.layout.specs.File.{File, programs}
 use Rattle.context.specs.Contexts.{refusal}
 use Rattle.context.specs.declared.Refusal.{Refusal}
-use Rattle.reader.specs.Program.{places, program_layout}
+use Rattle.reader.specs.Program.{Layout, places, program_layout}
 use Rattle.reader.specs.File.{starts_of, Located}
 use Rattle.reader.specs.declared.Places.{Places}
-use Rattle.reader.specs.declared.Layout.{Layout}
-use Rattle.reader.specs.declared.Layout.TheVariants.{Found, Refused}
+use Rattle.reader.proofs.Walks.{exit}
 use Rattle.reader.proofs.ProgramParts.{program-same, program-in}
 
 pub data Trace : Type 0 where
@@ -49,8 +50,8 @@ prepend-both l m (ends k s) = ap (λ (x : List ℕ). ends x s) (sym (append_asso
 prepend-both l m (stops x) = refl
 
 abbrev pub on_places : Layout → (Places → Trace) → Trace
-on_places (Found s) f = f s
-on_places (Refused x) f = stops x
+on_places (Ok s) f = f s
+on_places (Err x) f = stops x
 
 -- a main program at the places s
 abbrev pub main_at : Places → Trace
@@ -122,7 +123,7 @@ module _ (w : List ℕ) where
 -- a trace that ends has the places, and the starts are those that were stored
 trace-located : (x : Reading File) (r : Layout) {lent left : List ℕ} (n : ℕ) → n ≤ length left →
     length left ≡ length lent → trace_of x ≡ on_places r (λ s. ends (take n left) s) → Located x lent left r
-trace-located (read f p) (Found s) {lent} {left} n h size e =
+trace-located (read f p) (Ok s) {lent} {left} n h size e =
     let l : starts_of f ≡ take n left = cc in
     let k : length (starts_of f) ≡ n = ap length l ∙ simp length-take (omega arith) in
     record {
@@ -130,9 +131,9 @@ trace-located (read f p) (Found s) {lent} {left} n h size e =
       size = size;
       starts = λ g q j. let i : f ≡ g = cc in rw (← i) (rw k (sym l));
     }
-trace-located (read f p) (Refused x) n h size e = absurd (let z : ◌≡◌ {A = ℕ} 0 1 = cc in omega arith)
-trace-located (fault m p) (Found s) n h size e = absurd (let z : ◌≡◌ {A = ℕ} 0 1 = cc in omega arith)
-trace-located (fault m p) (Refused x) n h size e = record {
+trace-located (read f p) (Err x) n h size e = absurd (let z : ◌≡◌ {A = ℕ} 0 1 = cc in omega arith)
+trace-located (fault m p) (Ok s) n h size e = absurd (let z : ◌≡◌ {A = ℕ} 0 1 = cc in omega arith)
+trace-located (fault m p) (Err x) n h size e = record {
   places = (cc);
   size = size;
   starts = λ g q j. absurd (let z : ◌≡◌ {A = ℕ} 0 1 = cc in omega arith);
@@ -156,41 +157,41 @@ module _ (limits : Limits) (w : List ℕ) (count at : ℕ) where
       let e : count - 0 ≡ count = omega arith in
       record { many = omega arith; inside = h; size = refl; trace = rw e (prepend-none _) }
 
-  -- r is what was returned for the program at p
-  module _
-      {lent left : List ℕ} {i p : ℕ} (h : ProgramReached lent left i p) {r : Layout}
-      (e : r ≡ program_layout (program (alone limits) w p))
-    where
-      turn : i < count → rest (count - i) p ≡ on_places r (procedure_at w (alone limits) (count - (i + 1)))
-      turn l =
-          let k : count - i ≡ suc (count - (i + 1)) = omega arith in
-          rw k (trace-more w (alone limits) (count - (i + 1)) p
-          ∙ ap (λ (x : Layout). on_places x (procedure_at w (alone limits) (count - (i + 1)))) (sym e))
+  module _ {lent left : List ℕ} {i p : ℕ} (h : ProgramReached lent left i p) where
+    -- r is what was returned for the program at p
+    turn : {r : Layout} → r ≡ program_layout (program (alone limits) w p) → i < count →
+        rest (count - i) p ≡ on_places r (procedure_at w (alone limits) (count - (i + 1)))
+    turn e l =
+        let k : count - i ≡ suc (count - (i + 1)) = omega arith in
+        rw k (trace-more w (alone limits) (count - (i + 1)) p
+        ∙ ap (λ (x : Layout). on_places x (procedure_at w (alone limits) (count - (i + 1)))) (sym e))
 
-      pub programs-next : {s : Places} → i < count → i < length left → r ≡ Found s →
-          ProgramReached lent (set left i p) (i + 1) s.end
-      programs-next {s} l room f =
-          let x = program-in (alone limits) w p e f in
-          let k = count - (i + 1) in
-          record {
-            many = omega arith;
-            inside = x.inside;
-            size = simp length-set h.size;
-            trace =
-                h.trace
-                ∙ ap (prepend (take i left)) (turn l ∙ ap (λ (y : Layout). on_places y (procedure_at w (alone limits) k)) f)
-                ∙ prepend-both (take i left) (s.start ∷ []) (rest k s.end)
-                ∙ ap (λ (y : List ℕ). prepend y (rest k s.end))
-                (ap (λ (y : ℕ). take i left ++ (y ∷ [])) x.starts ∙ sym (rw add-one (take-suc-set left i p room)));
-          }
+    pub programs-next : {s : Places} → Ok s ≡ program_layout (program (alone limits) w p) → i < count → i < length left →
+        ProgramReached lent (set left i p) (i + 1) s.end
+    programs-next {s} e l room =
+        let x = program-in (alone limits) w p {s = s} e in
+        let k = count - (i + 1) in
+        record {
+          many = omega arith;
+          inside = x.inside;
+          size = simp length-set h.size;
+          trace =
+              h.trace
+              ∙ ap (prepend (take i left)) (turn e l)
+              ∙ prepend-both (take i left) (s.start ∷ []) (rest k s.end)
+              ∙ ap (λ (y : List ℕ). prepend y (rest k s.end))
+              (ap (λ (y : ℕ). take i left ++ (y ∷ [])) x.starts ∙ sym (rw add-one (take-suc-set left i p room)));
+        }
 
-      -- the starts of a file that is refused are of no account
-      pub programs-stop : {x : Refusal} {last : List ℕ} → i < count → length last ≡ length lent → r ≡ Refused x →
-          Located (programs (alone limits) w count at) lent last r
-      programs-stop {x} {last} l size f =
-          trace-located (programs (alone limits) w count at) r 0 (omega arith) size
-          (h.trace ∙ ap (prepend (take i left)) (turn l) ∙ rw f refl)
+    -- the starts of a file that is refused are of no account
+    pub programs-stop : {x : Refusal} {r : Layout} {last : List ℕ} → Err x ≡ program_layout (program (alone limits) w p) →
+        IsErrAnd r (λ y. y ≡ x) → i < count → length last ≡ length lent → Located (programs (alone limits) w count at) lent last r
+    programs-stop {x} {r} {last} e f l size =
+        let k : r ≡ Err x = exit f refl in
+        rw k (trace-located (programs (alone limits) w count at) (Err x) 0 (omega arith) size
+        (h.trace ∙ ap (prepend (take i left)) (turn e l)))
 
+    module _ {r : Layout} (e : r ≡ program_layout (program (alone limits) w p)) where
       pub programs-done : count ≤ i → count < length left →
           Located (programs (alone limits) w count at) lent (set left count p) r
       programs-done l room =
@@ -205,6 +206,6 @@ module _ (limits : Limits) (w : List ℕ) (count at : ℕ) where
         where
           last : (x : Layout) → x ≡ program_layout (program (alone limits) w p) →
               prepend (take count left) (on_places x main_at) ≡ on_places x λ s. ends (take count left ++ (p ∷ [])) s
-          last (Found s) e =
-              ap (λ (n : ℕ). ends (take count left ++ (n ∷ [])) s) (program-in (alone limits) w p e refl).starts
-          last (Refused x) e = refl
+          last (Ok s) e =
+              ap (λ (n : ℕ). ends (take count left ++ (n ∷ [])) s) (program-in (alone limits) w p {s = s} e).starts
+          last (Err x) e = refl

@@ -1,6 +1,5 @@
--- Sorts by kind, and members one after the other.
+-- Members one after the other.
 -- Assumes nothing.
---     no_kind        past the end the kind is 0
 --     several-walk   the walk of a number of parts
 --     members-all, members-next, members-stop, members-done
 --                    as the loop has them
@@ -8,17 +7,11 @@ use mathlib.Core.Path.{◌≡◌, refl, sym, ◌∙◌}
 use mathlib.Core.List.{List, ◌∷◌}
 use Prim.Native.Nat.{ℕ, suc, ◌+◌, ◌-◌, ◌<◌, ◌≤◌}
 use native.Mathlib.Omega.{arith}
-use lib.ListN.{length, get_or-eq_default}
-use Rattle.layout.specs.Bytes.{kind_at}
+use Rattle.std.specs.Prelude.{Ok, Err}
 use Rattle.layout.specs.Reading.{Reading, read, fault, Reader, on_read, several}
 use Rattle.context.specs.declared.Refusal.{Refusal}
-use Rattle.reader.specs.Walk.{walk_of, onward}
-use Rattle.reader.specs.declared.Walk.{Walk}
-use Rattle.reader.specs.declared.Walk.TheVariants.{Next, Refused}
+use Rattle.reader.specs.Walk.{Walk, walk_of, onward}
 use Rattle.reader.proofs.Walks.{on, off}
-
-pub no_kind : (file : List ℕ) (at : ℕ) → length file ≤ at → 0 ≡ kind_at file at
-no_kind file at h = rw (get_or-eq_default file 0 h)
 
 module _ {A : Type 0} (x : Reader A) where
   pub several-walk : (n at : ℕ) → walk_of (several (suc n) x at) ≡ onward (walk_of (x at)) (λ p. walk_of (several n x p))
@@ -41,18 +34,17 @@ module _ {A : Type 0} (x : Reader A) where
   pub members-all : (n p : ℕ) → walk_of (several n x p) ≡ walk_of (several (n - 0) x p)
   members-all n p = let e : n - 0 ≡ n = omega arith in rw e
 
-  pub members-next : (n i p : ℕ) {q : ℕ} {r : Walk} → i < n → r ≡ walk_of (x p) → r ≡ Next q →
+  pub members-next : (n i p : ℕ) {q : ℕ} → i < n → Ok q ≡ walk_of (x p) →
       walk_of (several (n - i) x p) ≡ walk_of (several (n - (i + 1)) x q)
-  members-next n i p h e f =
+  members-next n i p h e =
       let k : ℕ → Walk = λ y. walk_of (several (n - (i + 1)) x y) in
-      rw (left n i h) (several-walk (n - (i + 1)) p ∙ sym (on k (sym e ∙ f) refl))
+      rw (left n i h) (several-walk (n - (i + 1)) p ∙ sym (on k e refl))
 
-  pub members-stop : (n i p : ℕ) {k : Refusal} {r : Walk} → i < n → r ≡ walk_of (x p) → r ≡ Refused k →
-      r ≡ walk_of (several (n - i) x p)
-  members-stop n i p h e f =
+  pub members-stop : (n i p : ℕ) {k : Refusal} → i < n → Err k ≡ walk_of (x p) → Err k ≡ walk_of (several (n - i) x p)
+  members-stop n i p h e =
       let k : ℕ → Walk = λ y. walk_of (several (n - (i + 1)) x y) in
-      rw (left n i h) (e ∙ off k (sym e ∙ f) ∙ sym (several-walk (n - (i + 1)) p))
+      rw (left n i h) (off k e ∙ sym (several-walk (n - (i + 1)) p))
 
-  pub members-done : (n i p : ℕ) → n ≤ i → walk_of (several (n - i) x p) ≡ Next p
+  pub members-done : (n i p : ℕ) → n ≤ i → walk_of (several (n - i) x p) ≡ Ok p
   unfolding several
   members-done n i p h = let e : n - i ≡ 0 = omega arith in rw e

@@ -2,7 +2,10 @@
 -- Assumes nothing.
 --     due-ends, due-deep, due-there    the three cases of the word that is due
 --     room                             where a word is due, it is inside the file and a level is left
---     onto, alone, on, off             a part after another, as a reader and as a walk; a part alone
+--     onto, alone                      a part after another, as a reader and as a walk; a part alone
+--     first-part, after-part, refused-part
+--                                      as the code has them: a part alone, after what was read, after a refusal
+--     exit, on, off                    the exit of a `?`; going on from what was read, and from a refusal
 --     level-walk, due-walk             walks of `no_level` and `word_due`
 --     GoesBy                           a walk goes by the word that is due
 --     arithmetic-goes, boolean-goes, array-goes, command-goes, set-goes, evidence-goes
@@ -17,6 +20,8 @@ use native.Mathlib.Omega.{arith}
 use native.Mathlib.Numerals.{sub-one}
 use borrow.Author.Tests.{ltb-true, lt-ltb, le-ltb}
 use lib.Dec.{eqb, ltb}
+use Rattle.std.specs.Prelude.{Result, Ok, Err}
+use Rattle.std.specs.Result.{IsErrAnd}
 use Rattle.language.specs.Syntax.{Arithmetic, Boolean, Array, Expr, Command}
 use Rattle.rules.specs.Assertion.{Members}
 use Rattle.rules.specs.Context as context
@@ -33,49 +38,44 @@ use Rattle.words.specs.Rows.{rule_due}
 use Rattle.words.proofs.Tables.{arithmetic-of, boolean-of, array-of, command-of}
 use Rattle.context.specs.Contexts.{refusal}
 use Rattle.context.specs.declared.Refusal.{Refusal}
-use Rattle.reader.specs.Walk.{walk_of, onward, command_walk, due_of, on_due, after}
-use Rattle.reader.specs.declared.Walk.{Walk}
-use Rattle.reader.specs.declared.Walk.TheVariants.{Next, Refused}
+use Rattle.reader.specs.Walk.{Walk, walk_of, onward, command_walk, due_of, after}
 use Rattle.reader.specs.declared.FirstWord.{FirstWord}
-use Rattle.reader.specs.declared.FirstWord.TheVariants.{There, Stop}
 
 -- ---- the word that is due
 module _ (file : List ℕ) where
-  pub due-ends : (d at : ℕ) → word_count file ≤ at → due_of file d at ≡ Stop (refusal 3 (word_count file))
+  pub due-ends : (d at : ℕ) → word_count file ≤ at → due_of file d at ≡ Err (refusal 3 (word_count file))
   unfolding due_of
   due-ends zero at h = simp (le-ltb at (word_count file) h)
   due-ends (suc d) at h = simp (le-ltb at (word_count file) h)
 
-  pub due-deep : (d at : ℕ) → at < word_count file → d ≡ 0 → due_of file d at ≡ Stop (refusal 4 at)
+  pub due-deep : (d at : ℕ) → at < word_count file → d ≡ 0 → due_of file d at ≡ Err (refusal 4 at)
   unfolding due_of
   due-deep d at h e = rw e (simp (lt-ltb at (word_count file) h))
 
   pub due-there : (d at : ℕ) → at < word_count file → (d ≡ 0 → ⊥) →
-      due_of file d at ≡ There (kind_at file at) (payload_at file at) (at + 1) (d - 1)
+      due_of file d at ≡ Ok (record { kind = kind_at file at; payload = payload_at file at; next = at + 1; below = d - 1 })
   unfolding due_of
   due-there zero at h f = absurd (f refl)
   due-there (suc d) at h f = simp (lt-ltb at (word_count file) h, sub-one)
 
-  due-room : (d at k p q b : ℕ) → due_of file d at ≡ There k p q b →
-      (at < word_count file) × (q ≡ at + 1) × (d ≡ suc b)
+  -- where a word is due, it is inside the file and a level is left
+  pub room : (d at : ℕ) {f : FirstWord} → Ok f ≡ due_of file d at →
+      (at < word_count file) × (f.next ≡ at + 1) × (d ≡ suc f.below)
   unfolding due_of
-  due-room zero at k p q b e = go (ltb at (word_count file)) e
+  room zero at {f} e = go (ltb at (word_count file)) e
     where
-      go : (t : Bool) → cond t (Stop (refusal 4 at)) (Stop (refusal 3 (word_count file))) ≡ There k p q b →
-          (at < word_count file) × (q ≡ at + 1) × (0 ≡ suc b)
+      go : (t : Bool) → Ok f ≡ cond t (Err (refusal 4 at)) (Err (refusal 3 (word_count file))) →
+          (at < word_count file) × (f.next ≡ at + 1) × (0 ≡ suc f.below)
       go true e = let z : ◌≡◌ {A = ℕ} 0 1 = cc in absurd (omega arith)
       go false e = let z : ◌≡◌ {A = ℕ} 0 1 = cc in absurd (omega arith)
-  due-room (suc d) at k p q b e = go (ltb at (word_count file)) refl e
+  room (suc d) at {f} e = go (ltb at (word_count file)) refl e
     where
       go : (t : Bool) → ltb at (word_count file) ≡ t →
-          cond t (There (kind_at file at) (payload_at file at) (at + 1) d) (Stop (refusal 3 (word_count file))) ≡ There k p q b →
-          (at < word_count file) × (q ≡ at + 1) × (suc d ≡ suc b)
+          Ok f ≡ cond t (Ok (record { kind = kind_at file at; payload = payload_at file at; next = at + 1; below = d }))
+          (Err (refusal 3 (word_count file))) →
+          (at < word_count file) × (f.next ≡ at + 1) × (suc d ≡ suc f.below)
       go true t e = (ltb-true _ _ t, (cc), (cc))
       go false t e = let z : ◌≡◌ {A = ℕ} 0 1 = cc in absurd (omega arith)
-
-pub room : (file : List ℕ) (d at : ℕ) {r : FirstWord} {k p q b : ℕ} → r ≡ due_of file d at → r ≡ There k p q b →
-    (at < word_count file) × (q ≡ at + 1) × (d ≡ suc b)
-room file d at {k} {p} {q} {b} e f = due-room file d at k p q b (sym e ∙ f)
 
 -- ---- parts one after the other
 then-walk : {A B : Type 0} (x : Reading (A → B)) (y : Reader A) →
@@ -93,27 +93,47 @@ unfolding ◌⊛◌
 onto x y q e h = e ∙ ap (λ (z : Walk). onward z (λ p. walk_of (y p))) h ∙ sym (then-walk (x q) y)
 
 pub alone : {A B : Type 0} (f : A → B) (y : Reader A) (q : ℕ) → walk_of (y q) ≡ walk_of ((pure f ⊛ y) q)
-alone f y q = onto (pure f) y q {s = Next q} refl refl
+alone f y q = onto (pure f) y q {s = Ok q} refl refl
 
-pub on : {p : ℕ} {r x : Walk} (k : ℕ → Walk) → r ≡ Next p → x ≡ k p → x ≡ onward r k
-on k e h = h ∙ ap (λ (z : Walk). onward z k) (sym e)
+-- as the code has them: a part alone; a part after what was read up to p; a part behind one that was refused
+module _ {A B : Type 0} where
+  pub first-part : (f : A → B) (y : Reader A) (q : ℕ) {r : Walk} → r ≡ walk_of (y q) → r ≡ walk_of ((pure f ⊛ y) q)
+  first-part f y q e = e ∙ alone f y q
 
-pub off : {x : Refusal} {r : Walk} (k : ℕ → Walk) → r ≡ Refused x → r ≡ onward r k
-off k e = e ∙ ap (λ (z : Walk). onward z k) (sym e)
+  pub after-part : (x : Reader (A → B)) (y : Reader A) (q : ℕ) {p : ℕ} {r : Walk} → Ok p ≡ walk_of (x q) → r ≡ walk_of (y p) →
+      r ≡ walk_of ((x ⊛ y) q)
+  after-part x y q {p} e h = onto x y q {s = Ok p} h e
+
+  pub refused-part : (x : Reader (A → B)) (y : Reader A) (q : ℕ) {r : Refusal} → Err r ≡ walk_of (x q) →
+      Err r ≡ walk_of ((x ⊛ y) q)
+  refused-part x y q {r} e = onto x y q {s = Err r} refl e
+
+-- what the exit of a `?` returns
+pub exit : {B : Type 0} {x : Refusal} {r w : Result B Refusal} → IsErrAnd r (λ y. y ≡ x) → Err x ≡ w → r ≡ w
+exit {r = Ok b} h e = absurd h
+exit {r = Err y} h e = ap Err h ∙ e
+
+-- going on from what was read, and from a refusal
+pub on : {A B : Type 0} {p : A} {r : Result A Refusal} {x : Result B Refusal} (k : A → Result B Refusal) → Ok p ≡ r → x ≡ k p →
+    x ≡ onward r k
+on k e h = h ∙ ap (λ z. onward z k) e
+
+pub off : {A B : Type 0} {x : Refusal} {r : Result A Refusal} (k : A → Result B Refusal) → Err x ≡ r → Err x ≡ onward r k
+off k e = ap (λ z. onward z k) e
 
 -- ---- by the word that is due
 allowed-after : {A : Type 0} (o : Option (Reader A)) (at : ℕ) → allowed o at ≡ after o at (at + 1)
 allowed-after none at = refl
 allowed-after (some r) at = refl
 
-pub level-walk : (A : Type 0) (file : List ℕ) (at : ℕ) (f : ℕ → ℕ → ℕ → ℕ → Walk) →
-    walk_of (no_level {A = A} file at) ≡ on_due (due_of file zero at) f
+pub level-walk : (A : Type 0) (file : List ℕ) (at : ℕ) (f : FirstWord → Walk) →
+    walk_of (no_level {A = A} file at) ≡ onward (due_of file zero at) f
 unfolding due_of
 level-walk A file at f = go (ltb at (word_count file))
   where
     go : (t : Bool) →
         walk_of {A = A} (cond t (fault 4 at) (fault 3 (word_count file)))
-        ≡ on_due (cond t (Stop (refusal 4 at)) (Stop (refusal 3 (word_count file)))) f
+        ≡ onward (cond t (Err (refusal 4 at)) (Err (refusal 3 (word_count file)))) f
     go true = refl
     go false = refl
 
@@ -122,7 +142,7 @@ pub due-walk :
     (meaning : ℕ → W → Option (Reader A)) →
     step at (kind_at file at) (payload_at file at) ≡ meaning d (of (kind_at file at) (payload_at file at)) →
     walk_of (word_due file step at)
-    ≡ on_due (due_of file (suc d) at) (λ k p q b. walk_of (after (meaning b (of k p)) at q))
+    ≡ onward (due_of file (suc d) at) (λ f. walk_of (after (meaning f.below (of f.kind f.payload)) at f.next))
 unfolding word_due due_of
 due-walk {A} {W} file d at step of meaning e = go (ltb at (word_count file))
   where
@@ -131,8 +151,10 @@ due-walk {A} {W} file d at step of meaning e = go (ltb at (word_count file))
           | true ↦ allowed (step at (kind_at file at) (payload_at file at)) at
           | false ↦ fault 3 (word_count file)
         ])
-        ≡ on_due (cond t (There (kind_at file at) (payload_at file at) (at + 1) d) (Stop (refusal 3 (word_count file))))
-        (λ k p q b. walk_of (after (meaning b (of k p)) at q))
+        ≡ onward (cond t
+        (Ok (record { kind = kind_at file at; payload = payload_at file at; next = at + 1; below = d }))
+        (Err (refusal 3 (word_count file))))
+        (λ (f : FirstWord). walk_of (after (meaning f.below (of f.kind f.payload)) at f.next))
     go true =
         ap walk_of (allowed-after (step at (kind_at file at) (payload_at file at)) at)
         ∙ ap (λ (o : Option (Reader A)). walk_of (after o at (at + 1))) e
@@ -142,7 +164,7 @@ due-walk {A} {W} file d at step of meaning e = go (ltb at (word_count file))
 pub record GoesBy
     {A W : Type 0} (walk : Walk) (file : List ℕ) (d at : ℕ) (of : ℕ → ℕ → W) (meaning : ℕ → W → Option (Reader A))
     : Type 0 where
-  pub goes : walk ≡ on_due (due_of file d at) (λ k p q b. walk_of (after (meaning b (of k p)) at q))
+  pub goes : walk ≡ onward (due_of file d at) (λ f. walk_of (after (meaning f.below (of f.kind f.payload)) at f.next))
 
 module _ (file : List ℕ) where
   pub arithmetic-goes : (d at : ℕ) →
@@ -216,21 +238,20 @@ module _ (file : List ℕ) where
         go true = refl
         go false = refl
 
--- ---- as the code has them: r is what `word_due` returned, v the decoded word
+-- ---- as the code has them: f is the word that is due, v what it decodes to
 module _
     {A W : Type 0} {walk : Walk} {file : List ℕ} {d at : ℕ} {of : ℕ → ℕ → W} {meaning : ℕ → W → Option (Reader A)}
-    (law : GoesBy walk file d at of meaning) {r : FirstWord} (due : r ≡ due_of file d at)
+    (law : GoesBy walk file d at of meaning)
   where
-    pub stop : {x : Refusal} → r ≡ Stop x → Refused x ≡ walk
-    stop e =
-        ap (λ (y : FirstWord). on_due y (λ k p q b. walk_of (after (meaning b (of k p)) at q))) (sym e ∙ due) ∙ sym law.goes
+    pub stop : {x : Refusal} → Err x ≡ due_of file d at → Err x ≡ walk
+    stop e = off (λ f. walk_of (after (meaning f.below (of f.kind f.payload)) at f.next)) e ∙ sym law.goes
 
-    pub arm : {k p q b : ℕ} {v u : W} {x : Walk} → r ≡ There k p q b → v ≡ of k p → v ≡ u →
-        x ≡ walk_of (after (meaning b u) at q) → x ≡ walk
-    arm {q} {b} e word g h =
-        h ∙ ap (λ (y : W). walk_of (after (meaning b y) at q)) (sym g ∙ word)
-        ∙ ap (λ (y : FirstWord). on_due y (λ k p q b. walk_of (after (meaning b (of k p)) at q))) (sym e ∙ due)
-        ∙ sym law.goes
+    module _ {f : FirstWord} (due : Ok f ≡ due_of file d at) where
+      pub arm : {v u : W} {x : Walk} → v ≡ of f.kind f.payload → v ≡ u → x ≡ walk_of (after (meaning f.below u) at f.next) → x ≡ walk
+      arm word g h =
+          on (λ f. walk_of (after (meaning f.below (of f.kind f.payload)) at f.next)) due
+          (h ∙ ap (λ (y : W). walk_of (after (meaning f.below y) at f.next)) (sym g ∙ word))
+          ∙ sym law.goes
 
-    pub none-arm : {k p q b : ℕ} {v : W} → r ≡ There k p q b → v ≡ of k p → meaning b v ≡ none → Refused (refusal 5 at) ≡ walk
-    none-arm {q} e word g = arm e word refl (ap (λ (o : Option (Reader A)). walk_of (after o at q)) (sym g))
+      pub none-arm : {v : W} → v ≡ of f.kind f.payload → meaning f.below v ≡ none → Err (refusal 5 at) ≡ walk
+      none-arm word g = arm word refl (ap (λ (o : Option (Reader A)). walk_of (after o at f.next)) (sym g))

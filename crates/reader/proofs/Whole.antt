@@ -4,28 +4,28 @@
 --     word-inside                            a word that is not 0 stands inside the file
 --     located_fault                          a file that is refused
 --     no_table, some-table, wrong_table      with no table of procedures; with one; with 62:k and a k that is not allowed
---     head-empty, head-asked                 refusal 2, as the code has it
 --     ended-read, not-headed, headed-read    refusals 2 and 6, as the code has them
 --     words-read                             the layout's `words_read` is `read_of`, then refusals 16 and 7
 --     refused-file                           what a refusal says of what was read
-use mathlib.Core.Path.{◌≡◌, refl, sym, ◌∙◌, ap}
-use mathlib.Core.Bool.{Bool, true, false, ◌&&◌, cond, false≢true}
+use mathlib.Core.Path.{◌≡◌, refl, ◌∙◌, ap}
+use mathlib.Core.Bool.{Bool, true, false, ◌&&◌, cond}
 use mathlib.Core.List.{List}
 use mathlib.Core.Option.{none, some}
-use Prim.Native.Nat.{ℕ, suc, ◌+◌, ◌*◌, ◌<◌, ◌≤◌}
+use Prim.Native.Nat.{ℕ, suc, ◌<◌, ◌≤◌}
 use native.Mathlib.Omega.{arith}
-use borrow.Author.Tests.{eqb-true, eq-eqb, ne_eqb, ltb-true, ltb-false, le-leb, leb-true}
+use borrow.Author.Tests.{eq-eqb, ne_eqb, ltb-true, ltb-false, le-leb, leb-true}
 use lib.Dec.{ltb, leb}
 use lib.ListN.{length, get_or-eq_default}
+use Rattle.std.specs.Prelude.{Err}
 use Rattle.rules.specs.Context.{Limits, alone}
-use Rattle.layout.specs.Bytes.{word_count, number_at, kind_at, payload_at, payloads}
+use Rattle.layout.specs.Bytes.{word_count, kind_at, payload_at}
 use Rattle.layout.specs.Reading.{Reading, read, fault, on_read, allowed}
 use Rattle.layout.specs.File.{File, programs, parts, calls_tested, finish, words_read}
 use Rattle.context.specs.Contexts.{refusal}
 use Rattle.context.specs.declared.Refusal.{Refusal}
-use Rattle.reader.specs.File.{places_of, Located, ended, end_of, headed, read_of, Headed}
-use Rattle.reader.specs.declared.Layout.{Layout}
-use Rattle.reader.specs.declared.Layout.TheVariants.{Refused}
+use Rattle.reader.specs.Walk.{onward}
+use Rattle.reader.specs.Program.{Layout}
+use Rattle.reader.specs.File.{places_of, Located, ended, end_of, headed, read_of}
 
 -- a word that is not 0 stands inside the file
 pub word-inside : (w : List ℕ) (at k : ℕ) → kind_at w at ≡ suc k → at < word_count w
@@ -38,7 +38,7 @@ word-inside w at k e = go (ltb at (word_count w)) refl
         absurd (omega (arith, e, z))
 
 pub located_fault : {lent left : List ℕ} (n p : ℕ) → length left ≡ length lent →
-    Located (fault n p) lent left (Refused (refusal n p))
+    Located (fault n p) lent left (Err (refusal n p))
 located_fault n p e = record {
   places = refl;
   size = e;
@@ -64,7 +64,7 @@ module _ (limits : Limits) (w : List ℕ) {lent left : List ℕ} where
         rw z l
 
     pub wrong_table : (1 ≤ n → n ≤ 16 → ⊥) → length left ≡ length lent →
-        Located (parts limits w) lent left (Refused (refusal 5 1))
+        Located (parts limits w) lent left (Err (refusal 5 1))
     unfolding parts
     wrong_table h size =
         let z : parts limits w ≡ fault 5 1 =
@@ -78,23 +78,6 @@ module _ (limits : Limits) (w : List ℕ) {lent left : List ℕ} where
         go false a u b = refl
 
 -- ---- refusals 2 and 6
-pub head-empty : (w : List ℕ) → length w ≡ 0 → Headed w false
-head-empty w h =
-    let e : number_at w 0 ≡ 0 = get_or-eq_default w 0 (omega arith) in
-    record {
-      is = sym (ne_eqb (number_at w 0) (63 * payloads + word_count w) λ k. omega arith);
-      few = λ k. absurd (false≢true k);
-      some = λ k. absurd (false≢true k);
-    }
-
--- word 0 is a number of 32 bits
-pub head-asked : (w : List ℕ) {r : Bool} → r ≡ headed w → 0 < word_count w → number_at w 0 < 64 * payloads → Headed w r
-head-asked w e h small = record {
-  is = e;
-  few = λ k. let z = eqb-true (number_at w 0) (63 * payloads + word_count w) (sym e ∙ k) in omega arith;
-  some = λ k. h;
-}
-
 pub ended-read : (w : List ℕ) (x : Reading File) (f : File) (p : ℕ) → on_read x (ended w) ≡ read f p →
     (x ≡ read f p) × (word_count w ≤ p)
 unfolding ended
@@ -118,15 +101,15 @@ module _ (limits : Limits) (w : List ℕ) where
   unfolding read_of
   read-headed h = rw (h, read_of) refl
 
-  pub not-headed : {l : List ℕ} → headed w ≡ false → Located (read_of limits w) l l (Refused (refusal 2 0))
+  pub not-headed : {l : List ℕ} → headed w ≡ false → Located (read_of limits w) l l (Err (refusal 2 0))
   not-headed h = rw (read-unheaded h) (located_fault 2 0 refl)
 
-  end-places : (x : Reading File) → end_of w (places_of x) ≡ places_of (on_read x (ended w))
+  end-places : (x : Reading File) → onward (places_of x) (end_of w) ≡ places_of (on_read x (ended w))
   unfolding ended
   end-places (read f p) = go (ltb p (word_count w))
     where
       go : (t : Bool) →
-          cond t (Refused (refusal 6 p)) (places_of (read f p))
+          cond t (Err (refusal 6 p)) (places_of (read f p))
           ≡ places_of (elim t [ true ↦ fault 6 p | false ↦ read f p ])
       go true = refl
       go false = refl
@@ -134,9 +117,9 @@ module _ (limits : Limits) (w : List ℕ) where
 
   -- r is what was found of the parts, k what is left of it by the end of the file
   pub headed-read : {lent left : List ℕ} {r k : Layout} → headed w ≡ true → Located (parts limits w) lent left r →
-      k ≡ end_of w r → Located (read_of limits w) lent left k
+      k ≡ onward r (end_of w) → Located (read_of limits w) lent left k
   headed-read {lent} {left} {r} {k} h l e = rw (read-headed h) (record {
-    places = e ∙ ap (end_of w) l.places ∙ end-places (parts limits w);
+    places = e ∙ ap (λ (z : Layout). onward z (end_of w)) l.places ∙ end-places (parts limits w);
     size = l.size;
     starts = λ f p x. l.starts f p (ended-read w (parts limits w) f p x).0;
   })
@@ -164,6 +147,6 @@ module _ (limits : Limits) (w : List ℕ) where
       go true = finish-called (parts limits w)
       go false = refl
 
-pub refused-file : (x : Reading File) (r : Refusal) → Refused r ≡ places_of x → x ≡ fault r.number r.place
+pub refused-file : (x : Reading File) (r : Refusal) → Err r ≡ places_of x → x ≡ fault r.number r.place
 refused-file (read f q) r e = let z : ◌≡◌ {A = ℕ} 0 1 = cc in absurd (omega arith)
 refused-file (fault m q) r e = cc

@@ -6,20 +6,19 @@
 --     ended, end_of            6, of a file and of its places
 --     headed, read_of          2; 2 to 6
 --     Headed                  what is asked of word 0
-use Rattle.std.specs.Prelude.{◌≡◌, Bool, true, false, cond, List, [], ◌∷◌, ℕ, ◌+◌, ◌*◌, ◌<◌, ◌≤◌, eqb, ltb, length, take}
+use Rattle.std.specs.Prelude.{◌≡◌, Bool, true, false, cond, List, [], ◌∷◌, ℕ, ◌+◌, ◌*◌, ◌<◌, ◌≤◌, eqb, ltb, length, take, Ok, Err}
 use Rattle.rules.specs.Context.{Limits}
 use Rattle.layout.specs.Bytes.{word_count, number_at, payloads}
 use Rattle.layout.specs.Reading.{Reading, read, fault, on_read}
 use Rattle.layout.specs.Program.{Program}
 use Rattle.layout.specs.File as file
 use Rattle.context.specs.Contexts.{refusal}
-use Rattle.reader.specs.Program.{places}
-use Rattle.reader.specs.declared.Layout.{Layout}
-use Rattle.reader.specs.declared.Layout.TheVariants.{Found, Refused}
+use Rattle.reader.specs.Program.{places, Layout}
+use Rattle.reader.specs.declared.Places.{Places}
 
 abbrev pub places_of : Reading file.File → Layout
-places_of (read f p) = Found (places f.main.start f.main.pre_at f.main.post_at f.main.evidence_at p)
-places_of (fault n p) = Refused (refusal n p)
+places_of (read f p) = Ok (places f.main.start f.main.pre_at f.main.post_at f.main.evidence_at p)
+places_of (fault n p) = Err (refusal n p)
 
 abbrev pub starts_from : List Program → Program → List ℕ
 starts_from [] f = f.start ∷ []
@@ -45,9 +44,8 @@ unfoldable pub ended : List ℕ → file.File → ℕ → Reading file.File
 ended w f p = elim (ltb p (word_count w)) [ true ↦ fault 6 p | false ↦ read f p ]
 
 -- the same, of places
-abbrev pub end_of : List ℕ → Layout → Layout
-end_of w (Found s) = cond (ltb s.end (word_count w)) (Refused (refusal 6 s.end)) (Found s)
-end_of w (Refused x) = Refused x
+abbrev pub end_of : List ℕ → Places → Layout
+end_of w s = cond (ltb s.end (word_count w)) (Err (refusal 6 s.end)) (Ok s)
 
 -- word 0 is 63:n
 abbrev pub headed : List ℕ → Bool

@@ -9,8 +9,7 @@ use Rattle.rules.specs.Evidence.{Item, assertion_item, command_item, members_ite
 use Rattle.layout.specs.Read.{expression, command, set}
 use Rattle.layout.specs.ReadEvidence.{parts_reader, evidence}
 use Rattle.words.specs.Rows.{packed_items}
-use Rattle.reader.specs.Walk.{walk_of}
-use Rattle.reader.specs.declared.Walk.{Walk}
+use Rattle.reader.specs.Walk.{Walk, walk_of}
 
 abbrev pub item_walk : Context → List ℕ → ℕ → Item → ℕ → Walk
 item_walk Γ file d assertion_item p = walk_of (expression file d Boolean p)

@@ -2,7 +2,7 @@
 -- Working: `leaf-walk` of proofs/Leaving says that the reading goes on past such a word. Assumes nothing.
 --     arithmetic_leaf, boolean_leaf, array_leaf    by sort
 --     leaf_due                                   of the word that is due
-use Rattle.std.specs.Prelude.{Bool, true, false, ℕ}
+use Rattle.std.specs.Prelude.{Bool, true, false, ℕ, Result, Ok, Err}
 use Rattle.words.specs.Decode.{arithmetic_of, boolean_of, array_of}
 use Rattle.words.specs.declared.ArithmeticWord.{ArithmeticWord}
 use Rattle.words.specs.declared.ArithmeticWord.TheVariants as arithmetic
@@ -10,8 +10,8 @@ use Rattle.words.specs.declared.BooleanWord.{BooleanWord}
 use Rattle.words.specs.declared.BooleanWord.TheVariants as boolean
 use Rattle.words.specs.declared.ArrayWord.{ArrayWord}
 use Rattle.words.specs.declared.ArrayWord.TheVariants as array
+use Rattle.context.specs.declared.Refusal.{Refusal}
 use Rattle.reader.specs.declared.FirstWord.{FirstWord}
-use Rattle.reader.specs.declared.FirstWord.TheVariants.{There, Stop}
 use Rattle.reader.specs.declared.Sort.{Sort}
 use Rattle.reader.specs.declared.Sort.TheVariants.{Arithmetic, Boolean, Array}
 
@@ -41,6 +41,6 @@ leaf_of Arithmetic k p = arithmetic_leaf (arithmetic_of k p)
 leaf_of Boolean k p = boolean_leaf (boolean_of k p)
 leaf_of Array k p = array_leaf (array_of k p)
 
-abbrev pub leaf_due : Sort → FirstWord → Bool
-leaf_due s (There k p q b) = leaf_of s k p
-leaf_due s (Stop x) = false
+abbrev pub leaf_due : Sort → Result FirstWord Refusal → Bool
+leaf_due s (Ok f) = leaf_of s f.kind f.payload
+leaf_due s (Err x) = false

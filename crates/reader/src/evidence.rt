@@ -11,7 +11,6 @@ use super::command::read_command;
 use super::expression::read_boolean;
 use super::set::read_set;
 use super::word::word_due;
-use super::{FirstWord, Walk};
 use context::{Context, Refusal};
 use words::Judgement;
 use words::rows::{
@@ -25,48 +24,48 @@ pub fn read_evidence(
     context: Context,
     at: usize,
     left: usize,
-) -> Walk
+) -> Result<usize, Refusal>
     ensures { result ≡ walk_of (evidence (context_of context) w.now left (judgement_meant judgement) at) }
 {
-    let d = word_due(w, at, left);
-    match d {
-        FirstWord::Stop(refusal) => Walk::Refused(refusal),
-        FirstWord::There(kind, payload, next, below) => {
-            let row = evidence_row(judgement, kind, payload);
-            if row == NO_RULE {
-                Walk::Refused(Refusal {
-                    number: 5,
-                    place: at,
-                })
-            } else {
-                read_items(row, w, context, next, below)
-            }
-        }
+    let first = word_due(w, at, left)?;
+    let row = evidence_row(judgement, first.kind, first.payload);
+    if row == NO_RULE {
+        return Err(Refusal {
+            number: 5,
+            place: at,
+        });
     }
+    read_items(row, w, context, first.next, first.below)
 }
 
 // What stands after an evidence word, one item after the other.
 #[cycle(read_evidence_read_item_read_items)]
-fn read_items(row: u32, w: &[u32], context: Context, at: usize, left: usize) -> Walk
+fn read_items(
+    row: u32,
+    w: &[u32],
+    context: Context,
+    at: usize,
+    left: usize,
+) -> Result<usize, Refusal>
     ensures { ItemsRead (context_of context) w.now left row at result }
 {
     let mut p = at;
     let mut rest = row;
     while rest != 0 {
-        let walk = read_item(rest % 8, w, context, p, left);
-        match walk {
-            Walk::Next(q) => {
-                p = q;
-            }
-            Walk::Refused(_) => return walk,
-        }
+        p = read_item(rest % 8, w, context, p, left)?;
         rest = rest / 8;
     }
-    Walk::Next(p)
+    Ok(p)
 }
 
 #[cycle(read_evidence_read_item_read_items)]
-fn read_item(item: u32, w: &[u32], context: Context, at: usize, left: usize) -> Walk
+fn read_item(
+    item: u32,
+    w: &[u32],
+    context: Context,
+    at: usize,
+    left: usize,
+) -> Result<usize, Refusal>
     ensures { result ≡ item_walk (context_of context) w.now left (item_of item) at }
 {
     match item {

@@ -2,119 +2,96 @@
 ghost use Rattle.std.specs.Prelude.{◌≡◌};
 ghost use Rattle.language.specs.Syntax as syntax;
 ghost use Rattle.layout.specs.Read.{expression};
-ghost use Rattle.reader.specs.Walk.{walk_of, onward, sort_meant};
+ghost use Rattle.reader.specs.Walk.{walk_of, sort_meant};
 
+use super::Sort;
 use super::leaf::is_leaf;
 use super::word::word_due;
-use super::{FirstWord, Sort, Walk};
 use context::Refusal;
 use words::decode::{arithmetic_word, array_word, boolean_word};
 use words::{ArithmeticWord, ArrayWord, BooleanWord};
 
 #[cycle(read_arithmetic_read_array_read_boolean_read_operand)]
-pub fn read_arithmetic(w: &[u32], at: usize, left: usize) -> Walk
+pub fn read_arithmetic(w: &[u32], at: usize, left: usize) -> Result<usize, Refusal>
     ensures { result ≡ walk_of (expression w.now left syntax.Arithmetic at) }
 {
-    let d = word_due(w, at, left);
-    match d {
-        FirstWord::Stop(refusal) => Walk::Refused(refusal),
-        FirstWord::There(kind, payload, next, below) => {
-            let word = arithmetic_word(kind, payload);
-            match word {
-                ArithmeticWord::Constant(_) => Walk::Next(next),
-                ArithmeticWord::Scalar(_) => Walk::Next(next),
-                ArithmeticWord::Operation(_) => {
-                    let first = read_operand(Sort::Arithmetic, w, Walk::Next(next), below);
-                    read_operand(Sort::Arithmetic, w, first, below)
-                }
-                ArithmeticWord::Select => {
-                    let array = read_operand(Sort::Array, w, Walk::Next(next), below);
-                    read_operand(Sort::Arithmetic, w, array, below)
-                }
-                ArithmeticWord::Other => Walk::Refused(Refusal {
-                    number: 5,
-                    place: at,
-                }),
-            }
+    let first = word_due(w, at, left)?;
+    match arithmetic_word(first.kind, first.payload) {
+        ArithmeticWord::Constant(_) => Ok(first.next),
+        ArithmeticWord::Scalar(_) => Ok(first.next),
+        ArithmeticWord::Operation(_) => {
+            let second = read_operand(Sort::Arithmetic, w, first.next, first.below)?;
+            read_operand(Sort::Arithmetic, w, second, first.below)
         }
+        ArithmeticWord::Select => {
+            let index = read_operand(Sort::Array, w, first.next, first.below)?;
+            read_operand(Sort::Arithmetic, w, index, first.below)
+        }
+        ArithmeticWord::Other => Err(Refusal {
+            number: 5,
+            place: at,
+        }),
     }
 }
 
 #[cycle(read_arithmetic_read_array_read_boolean_read_operand)]
-pub fn read_boolean(w: &[u32], at: usize, left: usize) -> Walk
+pub fn read_boolean(w: &[u32], at: usize, left: usize) -> Result<usize, Refusal>
     ensures { result ≡ walk_of (expression w.now left syntax.Boolean at) }
 {
-    let d = word_due(w, at, left);
-    match d {
-        FirstWord::Stop(refusal) => Walk::Refused(refusal),
-        FirstWord::There(kind, payload, next, below) => {
-            let word = boolean_word(kind, payload);
-            match word {
-                BooleanWord::Compare(_) => {
-                    let first = read_operand(Sort::Arithmetic, w, Walk::Next(next), below);
-                    read_operand(Sort::Arithmetic, w, first, below)
-                }
-                BooleanWord::Truth(_) => Walk::Next(next),
-                BooleanWord::And => {
-                    let first = read_operand(Sort::Boolean, w, Walk::Next(next), below);
-                    read_operand(Sort::Boolean, w, first, below)
-                }
-                BooleanWord::Or => {
-                    let first = read_operand(Sort::Boolean, w, Walk::Next(next), below);
-                    read_operand(Sort::Boolean, w, first, below)
-                }
-                BooleanWord::Not => read_operand(Sort::Boolean, w, Walk::Next(next), below),
-                BooleanWord::Other => Walk::Refused(Refusal {
-                    number: 5,
-                    place: at,
-                }),
-            }
+    let first = word_due(w, at, left)?;
+    match boolean_word(first.kind, first.payload) {
+        BooleanWord::Compare(_) => {
+            let second = read_operand(Sort::Arithmetic, w, first.next, first.below)?;
+            read_operand(Sort::Arithmetic, w, second, first.below)
         }
+        BooleanWord::Truth(_) => Ok(first.next),
+        BooleanWord::And => {
+            let second = read_operand(Sort::Boolean, w, first.next, first.below)?;
+            read_operand(Sort::Boolean, w, second, first.below)
+        }
+        BooleanWord::Or => {
+            let second = read_operand(Sort::Boolean, w, first.next, first.below)?;
+            read_operand(Sort::Boolean, w, second, first.below)
+        }
+        BooleanWord::Not => read_operand(Sort::Boolean, w, first.next, first.below),
+        BooleanWord::Other => Err(Refusal {
+            number: 5,
+            place: at,
+        }),
     }
 }
 
 #[cycle(read_arithmetic_read_array_read_boolean_read_operand)]
-pub fn read_array(w: &[u32], at: usize, left: usize) -> Walk
+pub fn read_array(w: &[u32], at: usize, left: usize) -> Result<usize, Refusal>
     ensures { result ≡ walk_of (expression w.now left syntax.Array at) }
 {
-    let d = word_due(w, at, left);
-    match d {
-        FirstWord::Stop(refusal) => Walk::Refused(refusal),
-        FirstWord::There(kind, payload, next, below) => {
-            let word = array_word(kind, payload);
-            match word {
-                ArrayWord::Identifier(_) => Walk::Next(next),
-                ArrayWord::Zeros => Walk::Next(next),
-                ArrayWord::Update => {
-                    let array = read_operand(Sort::Array, w, Walk::Next(next), below);
-                    let index = read_operand(Sort::Arithmetic, w, array, below);
-                    read_operand(Sort::Arithmetic, w, index, below)
-                }
-                ArrayWord::Other => Walk::Refused(Refusal {
-                    number: 5,
-                    place: at,
-                }),
-            }
+    let first = word_due(w, at, left)?;
+    match array_word(first.kind, first.payload) {
+        ArrayWord::Identifier(_) => Ok(first.next),
+        ArrayWord::Zeros => Ok(first.next),
+        ArrayWord::Update => {
+            let index = read_operand(Sort::Array, w, first.next, first.below)?;
+            let value = read_operand(Sort::Arithmetic, w, index, first.below)?;
+            read_operand(Sort::Arithmetic, w, value, first.below)
         }
+        ArrayWord::Other => Err(Refusal {
+            number: 5,
+            place: at,
+        }),
     }
 }
 
-// An operand of a sort, from where the walk so far goes on. One of one word makes no call of the cycle.
+// An operand of a sort. One of one word makes no call of the cycle.
 #[cycle(read_arithmetic_read_array_read_boolean_read_operand)]
-pub fn read_operand(sort: Sort, w: &[u32], from: Walk, left: usize) -> Walk
-    ensures { result ≡ onward from (λ p. walk_of (expression w.now left (sort_meant sort) p)) }
+pub fn read_operand(sort: Sort, w: &[u32], at: usize, left: usize) -> Result<usize, Refusal>
+    ensures { result ≡ walk_of (expression w.now left (sort_meant sort) at) }
 {
-    match from {
-        Walk::Refused(_) => return from,
-        Walk::Next(at) => {
-            if is_leaf(sort, w, at, left) {
-                return Walk::Next(at + 1);
-            }
-            match sort {
-                Sort::Arithmetic => read_arithmetic(w, at, left),
-                Sort::Boolean => read_boolean(w, at, left),
-                Sort::Array => read_array(w, at, left),
-            }
-        }
+    if is_leaf(sort, w, at, left) {
+        return Ok(at + 1);
+    }
+    match sort {
+        Sort::Arithmetic => read_arithmetic(w, at, left),
+        Sort::Boolean => read_boolean(w, at, left),
+        Sort::Array => read_array(w, at, left),
     }
 }

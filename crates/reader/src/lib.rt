@@ -1,8 +1,6 @@
 // Refusals 2 to 6 (document 01, "Judging order"; document 02, request [3]), over the words of a file.
 #![tactic(auto)]
 
-use context::Refusal;
-
 pub mod word; // word.rt: the word that is due at a place
 pub mod leaf; // leaf.rt: operands of one word
 pub mod expression; // expression.rt: the three sorts of expressions
@@ -12,22 +10,17 @@ pub mod evidence; // evidence.rt: evidence
 pub mod program; // program.rt: a program, with its contract and evidence
 pub mod file; // file.rt: a whole file
 
-// Where a walk goes on, or the refusal.
-#[derive(Clone, Copy)]
-pub enum Walk {
-    Next(usize),
-    Refused(Refusal),
-}
-
-// The kind and payload of the word that is due, the place past it and the levels left below it; or refusal 3 or 4.
-#[derive(Clone, Copy)]
-pub enum FirstWord {
-    There(u32, u32, usize, usize),
-    Stop(Refusal),
+// The word that is due at a place: its kind and payload, the place past it and the levels left below it.
+#[derive(Clone, Copy, Debug, PartialEq, Eq)]
+pub struct FirstWord {
+    pub kind: u32,
+    pub payload: u32,
+    pub next: usize,
+    pub below: usize,
 }
 
 // The sort of an operand.
-#[derive(Clone, Copy)]
+#[derive(Clone, Copy, Debug, PartialEq, Eq)]
 pub enum Sort {
     Arithmetic,
     Boolean,
@@ -35,18 +28,11 @@ pub enum Sort {
 }
 
 // The places of a program's parts, those of a file's main program too: its command is at `start`, and the evidence ends at `end`.
-#[derive(Clone, Copy)]
+#[derive(Clone, Copy, Debug, PartialEq, Eq)]
 pub struct Places {
     pub start: usize,
     pub pre: usize,
     pub post: usize,
     pub evidence: usize,
     pub end: usize,
-}
-
-// The places of a program that was read, or the refusal.
-#[derive(Clone, Copy)]
-pub enum Layout {
-    Found(Places),
-    Refused(Refusal),
 }

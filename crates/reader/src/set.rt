@@ -6,9 +6,9 @@ ghost use Rattle.layout.specs.Read.{sort_of, consequent_at, member_at, set};
 ghost use Rattle.context.specs.Contexts.{context_of};
 ghost use Rattle.reader.specs.Walk.{walk_of, sort_meant};
 
+use super::Sort;
 use super::expression::read_operand;
 use super::word::{kind_at, word_due};
-use super::{FirstWord, Sort, Walk};
 use context::{Context, Refusal};
 use words::kinds::SET;
 
@@ -39,58 +39,38 @@ fn sort_at(w: &[u32], at: usize) -> Sort
 }
 
 // An expression of any sort.
-fn read_consequent(w: &[u32], at: usize, left: usize) -> Walk
+fn read_consequent(w: &[u32], at: usize, left: usize) -> Result<usize, Refusal>
     ensures { result ≡ walk_of (consequent_at w.now left at) }
 {
-    read_operand(sort_at(w, at), w, Walk::Next(at), left)
+    read_operand(sort_at(w, at), w, at, left)
 }
 
-fn read_member(w: &[u32], at: usize, left: usize) -> Walk
+fn read_member(w: &[u32], at: usize, left: usize) -> Result<usize, Refusal>
     ensures { result ≡ walk_of (member_at w.now left at) }
 {
-    let antecedent = read_operand(Sort::Boolean, w, Walk::Next(at), left);
-    match antecedent {
-        Walk::Next(p) => read_consequent(w, p, left),
-        Walk::Refused(_) => antecedent,
-    }
+    let consequent = read_operand(Sort::Boolean, w, at, left)?;
+    read_consequent(w, consequent, left)
 }
 
-fn read_members(w: &[u32], count: u32, at: usize, left: usize) -> Walk
+fn read_members(w: &[u32], count: u32, at: usize, left: usize) -> Result<usize, Refusal>
     ensures { result ≡ walk_of (several count (member_at w.now left) at) }
 {
     let mut p = at;
-    let mut i: u32 = 0;
-    while i < count {
-        let m = read_member(w, p, left);
-        match m {
-            Walk::Next(q) => {
-                p = q;
-            }
-            Walk::Refused(_) => return m,
-        }
-        i += 1;
+    for _ in 0..count {
+        p = read_member(w, p, left)?;
     }
-    Walk::Next(p)
+    Ok(p)
 }
 
-pub fn read_set(w: &[u32], context: Context, at: usize, left: usize) -> Walk
+pub fn read_set(w: &[u32], context: Context, at: usize, left: usize) -> Result<usize, Refusal>
     ensures { result ≡ walk_of (set (context_of context) w.now left at) }
 {
-    let d = word_due(w, at, left);
-    match d {
-        FirstWord::Stop(refusal) => Walk::Refused(refusal),
-        FirstWord::There(kind, payload, next, below) => {
-            let count = payload as usize;
-            let most = context.members;
-            if kind == SET {
-                if count <= most {
-                    return read_members(w, payload, next, below);
-                }
-            }
-            Walk::Refused(Refusal {
-                number: 5,
-                place: at,
-            })
-        }
+    let first = word_due(w, at, left)?;
+    if first.kind == SET && first.payload as usize <= context.members {
+        return read_members(w, first.payload, first.next, first.below);
     }
+    Err(Refusal {
+        number: 5,
+        place: at,
+    })
 }

@@ -18,27 +18,27 @@ pub fn kind_at(w: &[u32], at: usize) -> u32
 }
 
 // Refusal 3, the file ends, comes before refusal 4, no level is left.
-pub fn word_due(w: &[u32], at: usize, left: usize) -> FirstWord
+pub fn word_due(w: &[u32], at: usize, left: usize) -> Result<FirstWord, Refusal>
     ensures { result ≡ due_of w.now left at }
 {
     let n = w.len();
     if n <= at {
-        return FirstWord::Stop(Refusal {
+        return Err(Refusal {
             number: 3,
             place: n,
         });
     }
     if left == 0 {
-        return FirstWord::Stop(Refusal {
+        return Err(Refusal {
             number: 4,
             place: at,
         });
     }
     let word = w[at];
-    FirstWord::There(
-        words::decode::kind(word),
-        words::decode::payload(word),
-        at + 1,
-        left - 1,
-    )
+    Ok(FirstWord {
+        kind: words::decode::kind(word),
+        payload: words::decode::payload(word),
+        next: at + 1,
+        below: left - 1,
+    })
 }

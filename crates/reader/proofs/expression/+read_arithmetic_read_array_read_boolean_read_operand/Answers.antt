@@ -2,204 +2,211 @@
 -- from the expression on, twice; one more for an operand.
 -- Assumes nothing.
 use native.Mathlib.Omega.{arith}
-use mathlib.Core.Path.{refl, sym, ◌∙◌, ap}
-use Rattle.reader.proofs.Walks.{onto, arithmetic-goes, boolean-goes, array-goes, stop, arm}
-use Rattle.reader.proofs.Forward.{words_left, word-left, expression-left}
+use mathlib.Core.Path.{refl, sym, ◌∙◌}
+use Rattle.reader.proofs.Walks.{arithmetic-goes, boolean-goes, array-goes, exit, stop, arm, first-part, after-part, refused-part}
+use Rattle.reader.proofs.Forward.{word-left, expression-left}
 use Rattle.reader.proofs.Leaving.{leaf-walk}
 use Rattle.reader.proofs.expression.+read_arithmetic_read_array_read_boolean_read_operand.Goals as goal
 
-pub read_arithmetic-read_operand-first-requires : goal.read_arithmetic-read_operand-first-requires
-read_arithmetic-read_operand-first-requires t c =
-    let h = word-left _ _ _ c.word_due-d.ensures c.in-There.is in
-    omega arith
-
-pub read_arithmetic-read_operand-requires : goal.read_arithmetic-read_operand-requires
-read_arithmetic-read_operand-requires t c =
-    let h = word-left _ _ _ c.word_due-d.ensures c.in-There.is in
-    let f = expression-left h _ _ c.read_operand-first.ensures in
-    omega arith
-
-pub read_arithmetic-read_operand-array-requires : goal.read_arithmetic-read_operand-array-requires
-read_arithmetic-read_operand-array-requires t c =
-    let h = word-left _ _ _ c.word_due-d.ensures c.in-There.is in
-    omega arith
-
-pub read_arithmetic-read_operand-requires-in-Select : goal.read_arithmetic-read_operand-requires-in-Select
-read_arithmetic-read_operand-requires-in-Select t c =
-    let h = word-left _ _ _ c.word_due-d.ensures c.in-There.is in
-    let f = expression-left h _ _ c.read_operand-array.ensures in
-    omega arith
-
-pub read_arithmetic-returns-in-Stop : goal.read_arithmetic-returns-in-Stop
-read_arithmetic-returns-in-Stop t c =
-    let a = c.args in
-    stop (arithmetic-goes a.w.now a.left a.at) c.word_due-d.ensures c.in-Stop.is
+pub read_arithmetic-returns-in_err-first : goal.read_arithmetic-returns-in_err-first
+read_arithmetic-returns-in_err-first t c =
+    exit c.from_residual.ensures.1 (stop (arithmetic-goes c.args.w.now c.args.left c.args.at) c.in_err-first.ensures)
 
 pub read_arithmetic-returns-in-Constant : goal.read_arithmetic-returns-in-Constant
 read_arithmetic-returns-in-Constant t c =
-    let a = c.args in
-    arm (arithmetic-goes a.w.now a.left a.at) c.word_due-d.ensures c.in-There.is
-    c.arithmetic_word-word.ensures c.in-Constant.is refl
+    arm (arithmetic-goes c.args.w.now c.args.left c.args.at) c.in_ok-first.ensures c.arithmetic_word.ensures c.in-Constant.is
+    refl
 
 pub read_arithmetic-returns-in-Scalar : goal.read_arithmetic-returns-in-Scalar
 read_arithmetic-returns-in-Scalar t c =
-    let a = c.args in
-    arm (arithmetic-goes a.w.now a.left a.at) c.word_due-d.ensures c.in-There.is
-    c.arithmetic_word-word.ensures c.in-Scalar.is refl
+    arm (arithmetic-goes c.args.w.now c.args.left c.args.at) c.in_ok-first.ensures c.arithmetic_word.ensures c.in-Scalar.is
+    refl
 
-pub read_arithmetic-returns-in-Operation : goal.read_arithmetic-returns-in-Operation
-read_arithmetic-returns-in-Operation t c =
-    let a = c.args in
-    arm (arithmetic-goes a.w.now a.left a.at) c.word_due-d.ensures c.in-There.is
-    c.arithmetic_word-word.ensures c.in-Operation.is
-    (onto _ _ _ c.read_operand.ensures (onto _ _ _ c.read_operand-first.ensures refl))
+pub read_arithmetic-read_operand-requires : goal.read_arithmetic-read_operand-requires
+read_arithmetic-read_operand-requires t c =
+    let h = word-left _ _ _ c.in_ok-first.ensures in
+    omega arith
 
-pub read_arithmetic-returns-in-Select : goal.read_arithmetic-returns-in-Select
-read_arithmetic-returns-in-Select t c =
-    let a = c.args in
-    arm (arithmetic-goes a.w.now a.left a.at) c.word_due-d.ensures c.in-There.is
-    c.arithmetic_word-word.ensures c.in-Select.is
-    (onto _ _ _ c.read_operand-in-Select.ensures (onto _ _ _ c.read_operand-array.ensures refl))
+pub read_arithmetic-read_operand-requires-in-Operation : goal.read_arithmetic-read_operand-requires-in-Operation
+read_arithmetic-read_operand-requires-in-Operation t c =
+    let h = word-left _ _ _ c.in_ok-first.ensures in
+    let f = expression-left _ _ _ _ c.in_ok-second-in-Operation.ensures in
+    omega arith
+
+pub read_arithmetic-returns-in_err-second-in-Operation : goal.read_arithmetic-returns-in_err-second-in-Operation
+read_arithmetic-returns-in_err-second-in-Operation t c =
+    exit c.from_residual-in_err-second-in-Operation.ensures.1 (arm (arithmetic-goes c.args.w.now c.args.left c.args.at) c.in_ok-first.ensures c.arithmetic_word.ensures c.in-Operation.is
+    (refused-part _ _ _ (first-part _ _ _ c.in_err-second-in-Operation.ensures)))
+
+pub read_arithmetic-returns-in_ok-second-in-Operation : goal.read_arithmetic-returns-in_ok-second-in-Operation
+read_arithmetic-returns-in_ok-second-in-Operation t c =
+    arm (arithmetic-goes c.args.w.now c.args.left c.args.at) c.in_ok-first.ensures c.arithmetic_word.ensures c.in-Operation.is
+    (after-part _ _ _ (first-part _ _ _ c.in_ok-second-in-Operation.ensures) c.read_operand-in-Operation.ensures)
+
+pub read_arithmetic-read_operand-requires-in-Select : goal.read_arithmetic-read_operand-requires-in-Select
+read_arithmetic-read_operand-requires-in-Select t c =
+    let h = word-left _ _ _ c.in_ok-first.ensures in
+    omega arith
+
+pub read_arithmetic-read_operand-requires-in-Select-2 : goal.read_arithmetic-read_operand-requires-in-Select-2
+read_arithmetic-read_operand-requires-in-Select-2 t c =
+    let h = word-left _ _ _ c.in_ok-first.ensures in
+    let f = expression-left _ _ _ _ c.in_ok-index-in-Select.ensures in
+    omega arith
+
+pub read_arithmetic-returns-in_err-index-in-Select : goal.read_arithmetic-returns-in_err-index-in-Select
+read_arithmetic-returns-in_err-index-in-Select t c =
+    exit c.from_residual-in_err-index-in-Select.ensures.1 (arm (arithmetic-goes c.args.w.now c.args.left c.args.at) c.in_ok-first.ensures c.arithmetic_word.ensures c.in-Select.is
+    (refused-part _ _ _ (first-part _ _ _ c.in_err-index-in-Select.ensures)))
+
+pub read_arithmetic-returns-in_ok-index-in-Select : goal.read_arithmetic-returns-in_ok-index-in-Select
+read_arithmetic-returns-in_ok-index-in-Select t c =
+    arm (arithmetic-goes c.args.w.now c.args.left c.args.at) c.in_ok-first.ensures c.arithmetic_word.ensures c.in-Select.is
+    (after-part _ _ _ (first-part _ _ _ c.in_ok-index-in-Select.ensures) c.read_operand-in-Select-2.ensures)
 
 pub read_arithmetic-returns-in-Other : goal.read_arithmetic-returns-in-Other
 read_arithmetic-returns-in-Other t c =
-    let a = c.args in
-    arm (arithmetic-goes a.w.now a.left a.at) c.word_due-d.ensures c.in-There.is
-    c.arithmetic_word-word.ensures c.in-Other.is refl
+    arm (arithmetic-goes c.args.w.now c.args.left c.args.at) c.in_ok-first.ensures c.arithmetic_word.ensures c.in-Other.is
+    refl
 
-pub read_array-read_operand-array-requires : goal.read_array-read_operand-array-requires
-read_array-read_operand-array-requires t c =
-    let h = word-left _ _ _ c.word_due-d.ensures c.in-There.is in
-    omega arith
-
-pub read_array-read_operand-index-requires : goal.read_array-read_operand-index-requires
-read_array-read_operand-index-requires t c =
-    let h = word-left _ _ _ c.word_due-d.ensures c.in-There.is in
-    let f = expression-left h _ _ c.read_operand-array.ensures in
-    omega arith
-
-pub read_array-read_operand-requires : goal.read_array-read_operand-requires
-read_array-read_operand-requires t c =
-    let h = word-left _ _ _ c.word_due-d.ensures c.in-There.is in
-    let f = expression-left h _ _ c.read_operand-array.ensures in
-    let g = expression-left f _ _ c.read_operand-index.ensures in
-    omega arith
-
-pub read_array-returns-in-Stop : goal.read_array-returns-in-Stop
-read_array-returns-in-Stop t c =
-    let a = c.args in
-    stop (array-goes a.w.now a.left a.at) c.word_due-d.ensures c.in-Stop.is
+pub read_array-returns-in_err-first : goal.read_array-returns-in_err-first
+read_array-returns-in_err-first t c =
+    exit c.from_residual.ensures.1 (stop (array-goes c.args.w.now c.args.left c.args.at) c.in_err-first.ensures)
 
 pub read_array-returns-in-Identifier : goal.read_array-returns-in-Identifier
 read_array-returns-in-Identifier t c =
-    let a = c.args in
-    arm (array-goes a.w.now a.left a.at) c.word_due-d.ensures c.in-There.is
-    c.array_word-word.ensures c.in-Identifier.is refl
+    arm (array-goes c.args.w.now c.args.left c.args.at) c.in_ok-first.ensures c.array_word.ensures c.in-Identifier.is
+    refl
 
 pub read_array-returns-in-Zeros : goal.read_array-returns-in-Zeros
 read_array-returns-in-Zeros t c =
-    let a = c.args in
-    arm (array-goes a.w.now a.left a.at) c.word_due-d.ensures c.in-There.is
-    c.array_word-word.ensures c.in-Zeros.is refl
+    arm (array-goes c.args.w.now c.args.left c.args.at) c.in_ok-first.ensures c.array_word.ensures c.in-Zeros.is
+    refl
 
-pub read_array-returns-in-Update : goal.read_array-returns-in-Update
-read_array-returns-in-Update t c =
-    let a = c.args in
-    arm (array-goes a.w.now a.left a.at) c.word_due-d.ensures c.in-There.is
-    c.array_word-word.ensures c.in-Update.is
-    (onto _ _ _ c.read_operand.ensures (onto _ _ _ c.read_operand-index.ensures (onto _ _ _ c.read_operand-array.ensures refl)))
+pub read_array-read_operand-requires : goal.read_array-read_operand-requires
+read_array-read_operand-requires t c =
+    let h = word-left _ _ _ c.in_ok-first.ensures in
+    omega arith
+
+pub read_array-read_operand-requires-in-Update : goal.read_array-read_operand-requires-in-Update
+read_array-read_operand-requires-in-Update t c =
+    let h = word-left _ _ _ c.in_ok-first.ensures in
+    let f = expression-left _ _ _ _ c.in_ok-index-in-Update.ensures in
+    omega arith
+
+pub read_array-read_operand-requires-in-Update-2 : goal.read_array-read_operand-requires-in-Update-2
+read_array-read_operand-requires-in-Update-2 t c =
+    let h = word-left _ _ _ c.in_ok-first.ensures in
+    let f = expression-left _ _ _ _ c.in_ok-index-in-Update.ensures in
+    let g = expression-left _ _ _ _ c.in_ok-value-in-Update.ensures in
+    omega arith
+
+pub read_array-returns-in_err-index-in-Update : goal.read_array-returns-in_err-index-in-Update
+read_array-returns-in_err-index-in-Update t c =
+    exit c.from_residual-in_err-index-in-Update.ensures.1 (arm (array-goes c.args.w.now c.args.left c.args.at) c.in_ok-first.ensures c.array_word.ensures c.in-Update.is
+    (refused-part _ _ _ (refused-part _ _ _ (first-part _ _ _ c.in_err-index-in-Update.ensures))))
+
+pub read_array-returns-in_err-value-in-Update : goal.read_array-returns-in_err-value-in-Update
+read_array-returns-in_err-value-in-Update t c =
+    exit c.from_residual-in_err-value-in-Update.ensures.1 (arm (array-goes c.args.w.now c.args.left c.args.at) c.in_ok-first.ensures c.array_word.ensures c.in-Update.is
+    (refused-part _ _ _ (after-part _ _ _ (first-part _ _ _ c.in_ok-index-in-Update.ensures) c.in_err-value-in-Update.ensures)))
+
+pub read_array-returns-in_ok-value-in-Update : goal.read_array-returns-in_ok-value-in-Update
+read_array-returns-in_ok-value-in-Update t c =
+    arm (array-goes c.args.w.now c.args.left c.args.at) c.in_ok-first.ensures c.array_word.ensures c.in-Update.is
+    (after-part _ _ _ (after-part _ _ _ (first-part _ _ _ c.in_ok-index-in-Update.ensures) c.in_ok-value-in-Update.ensures) c.read_operand-in-Update-2.ensures)
 
 pub read_array-returns-in-Other : goal.read_array-returns-in-Other
 read_array-returns-in-Other t c =
-    let a = c.args in
-    arm (array-goes a.w.now a.left a.at) c.word_due-d.ensures c.in-There.is
-    c.array_word-word.ensures c.in-Other.is refl
+    arm (array-goes c.args.w.now c.args.left c.args.at) c.in_ok-first.ensures c.array_word.ensures c.in-Other.is
+    refl
 
-pub read_boolean-read_operand-first-requires : goal.read_boolean-read_operand-first-requires
-read_boolean-read_operand-first-requires t c =
-    let h = word-left _ _ _ c.word_due-d.ensures c.in-There.is in
-    omega arith
+pub read_boolean-returns-in_err-first : goal.read_boolean-returns-in_err-first
+read_boolean-returns-in_err-first t c =
+    exit c.from_residual.ensures.1 (stop (boolean-goes c.args.w.now c.args.left c.args.at) c.in_err-first.ensures)
 
 pub read_boolean-read_operand-requires : goal.read_boolean-read_operand-requires
 read_boolean-read_operand-requires t c =
-    let h = word-left _ _ _ c.word_due-d.ensures c.in-There.is in
-    let f = expression-left h _ _ c.read_operand-first.ensures in
+    let h = word-left _ _ _ c.in_ok-first.ensures in
     omega arith
 
-pub read_boolean-read_operand-first-requires-in-And : goal.read_boolean-read_operand-first-requires-in-And
-read_boolean-read_operand-first-requires-in-And t c =
-    let h = word-left _ _ _ c.word_due-d.ensures c.in-There.is in
+pub read_boolean-read_operand-requires-in-Compare : goal.read_boolean-read_operand-requires-in-Compare
+read_boolean-read_operand-requires-in-Compare t c =
+    let h = word-left _ _ _ c.in_ok-first.ensures in
+    let f = expression-left _ _ _ _ c.in_ok-second-in-Compare.ensures in
     omega arith
 
-pub read_boolean-read_operand-requires-in-And : goal.read_boolean-read_operand-requires-in-And
-read_boolean-read_operand-requires-in-And t c =
-    let h = word-left _ _ _ c.word_due-d.ensures c.in-There.is in
-    let f = expression-left h _ _ c.read_operand-first-in-And.ensures in
-    omega arith
+pub read_boolean-returns-in_err-second-in-Compare : goal.read_boolean-returns-in_err-second-in-Compare
+read_boolean-returns-in_err-second-in-Compare t c =
+    exit c.from_residual-in_err-second-in-Compare.ensures.1 (arm (boolean-goes c.args.w.now c.args.left c.args.at) c.in_ok-first.ensures c.boolean_word.ensures c.in-Compare.is
+    (refused-part _ _ _ (first-part _ _ _ c.in_err-second-in-Compare.ensures)))
 
-pub read_boolean-read_operand-first-requires-in-Or : goal.read_boolean-read_operand-first-requires-in-Or
-read_boolean-read_operand-first-requires-in-Or t c =
-    let h = word-left _ _ _ c.word_due-d.ensures c.in-There.is in
-    omega arith
-
-pub read_boolean-read_operand-requires-in-Or : goal.read_boolean-read_operand-requires-in-Or
-read_boolean-read_operand-requires-in-Or t c =
-    let h = word-left _ _ _ c.word_due-d.ensures c.in-There.is in
-    let f = expression-left h _ _ c.read_operand-first-in-Or.ensures in
-    omega arith
-
-pub read_boolean-read_operand-requires-in-Not : goal.read_boolean-read_operand-requires-in-Not
-read_boolean-read_operand-requires-in-Not t c =
-    let h = word-left _ _ _ c.word_due-d.ensures c.in-There.is in
-    omega arith
-
-pub read_boolean-returns-in-Stop : goal.read_boolean-returns-in-Stop
-read_boolean-returns-in-Stop t c =
-    let a = c.args in
-    stop (boolean-goes a.w.now a.left a.at) c.word_due-d.ensures c.in-Stop.is
-
-pub read_boolean-returns-in-Compare : goal.read_boolean-returns-in-Compare
-read_boolean-returns-in-Compare t c =
-    let a = c.args in
-    arm (boolean-goes a.w.now a.left a.at) c.word_due-d.ensures c.in-There.is
-    c.boolean_word-word.ensures c.in-Compare.is
-    (onto _ _ _ c.read_operand.ensures (onto _ _ _ c.read_operand-first.ensures refl))
+pub read_boolean-returns-in_ok-second-in-Compare : goal.read_boolean-returns-in_ok-second-in-Compare
+read_boolean-returns-in_ok-second-in-Compare t c =
+    arm (boolean-goes c.args.w.now c.args.left c.args.at) c.in_ok-first.ensures c.boolean_word.ensures c.in-Compare.is
+    (after-part _ _ _ (first-part _ _ _ c.in_ok-second-in-Compare.ensures) c.read_operand-in-Compare.ensures)
 
 pub read_boolean-returns-in-Truth : goal.read_boolean-returns-in-Truth
 read_boolean-returns-in-Truth t c =
-    let a = c.args in
-    arm (boolean-goes a.w.now a.left a.at) c.word_due-d.ensures c.in-There.is
-    c.boolean_word-word.ensures c.in-Truth.is refl
+    arm (boolean-goes c.args.w.now c.args.left c.args.at) c.in_ok-first.ensures c.boolean_word.ensures c.in-Truth.is
+    refl
 
-pub read_boolean-returns-in-And : goal.read_boolean-returns-in-And
-read_boolean-returns-in-And t c =
-    let a = c.args in
-    arm (boolean-goes a.w.now a.left a.at) c.word_due-d.ensures c.in-There.is
-    c.boolean_word-word.ensures c.in-And.is
-    (onto _ _ _ c.read_operand-in-And.ensures (onto _ _ _ c.read_operand-first-in-And.ensures refl))
+pub read_boolean-read_operand-requires-in-And : goal.read_boolean-read_operand-requires-in-And
+read_boolean-read_operand-requires-in-And t c =
+    let h = word-left _ _ _ c.in_ok-first.ensures in
+    omega arith
 
-pub read_boolean-returns-in-Or : goal.read_boolean-returns-in-Or
-read_boolean-returns-in-Or t c =
-    let a = c.args in
-    arm (boolean-goes a.w.now a.left a.at) c.word_due-d.ensures c.in-There.is
-    c.boolean_word-word.ensures c.in-Or.is
-    (onto _ _ _ c.read_operand-in-Or.ensures (onto _ _ _ c.read_operand-first-in-Or.ensures refl))
+pub read_boolean-read_operand-requires-in-And-2 : goal.read_boolean-read_operand-requires-in-And-2
+read_boolean-read_operand-requires-in-And-2 t c =
+    let h = word-left _ _ _ c.in_ok-first.ensures in
+    let f = expression-left _ _ _ _ c.in_ok-second-in-And.ensures in
+    omega arith
+
+pub read_boolean-returns-in_err-second-in-And : goal.read_boolean-returns-in_err-second-in-And
+read_boolean-returns-in_err-second-in-And t c =
+    exit c.from_residual-in_err-second-in-And.ensures.1 (arm (boolean-goes c.args.w.now c.args.left c.args.at) c.in_ok-first.ensures c.boolean_word.ensures c.in-And.is
+    (refused-part _ _ _ (first-part _ _ _ c.in_err-second-in-And.ensures)))
+
+pub read_boolean-returns-in_ok-second-in-And : goal.read_boolean-returns-in_ok-second-in-And
+read_boolean-returns-in_ok-second-in-And t c =
+    arm (boolean-goes c.args.w.now c.args.left c.args.at) c.in_ok-first.ensures c.boolean_word.ensures c.in-And.is
+    (after-part _ _ _ (first-part _ _ _ c.in_ok-second-in-And.ensures) c.read_operand-in-And-2.ensures)
+
+pub read_boolean-read_operand-requires-in-Or : goal.read_boolean-read_operand-requires-in-Or
+read_boolean-read_operand-requires-in-Or t c =
+    let h = word-left _ _ _ c.in_ok-first.ensures in
+    omega arith
+
+pub read_boolean-read_operand-requires-in-Or-2 : goal.read_boolean-read_operand-requires-in-Or-2
+read_boolean-read_operand-requires-in-Or-2 t c =
+    let h = word-left _ _ _ c.in_ok-first.ensures in
+    let f = expression-left _ _ _ _ c.in_ok-second-in-Or.ensures in
+    omega arith
+
+pub read_boolean-returns-in_err-second-in-Or : goal.read_boolean-returns-in_err-second-in-Or
+read_boolean-returns-in_err-second-in-Or t c =
+    exit c.from_residual-in_err-second-in-Or.ensures.1 (arm (boolean-goes c.args.w.now c.args.left c.args.at) c.in_ok-first.ensures c.boolean_word.ensures c.in-Or.is
+    (refused-part _ _ _ (first-part _ _ _ c.in_err-second-in-Or.ensures)))
+
+pub read_boolean-returns-in_ok-second-in-Or : goal.read_boolean-returns-in_ok-second-in-Or
+read_boolean-returns-in_ok-second-in-Or t c =
+    arm (boolean-goes c.args.w.now c.args.left c.args.at) c.in_ok-first.ensures c.boolean_word.ensures c.in-Or.is
+    (after-part _ _ _ (first-part _ _ _ c.in_ok-second-in-Or.ensures) c.read_operand-in-Or-2.ensures)
+
+pub read_boolean-read_operand-requires-in-Not : goal.read_boolean-read_operand-requires-in-Not
+read_boolean-read_operand-requires-in-Not t c =
+    let h = word-left _ _ _ c.in_ok-first.ensures in
+    omega arith
 
 pub read_boolean-returns-in-Not : goal.read_boolean-returns-in-Not
 read_boolean-returns-in-Not t c =
-    let a = c.args in
-    arm (boolean-goes a.w.now a.left a.at) c.word_due-d.ensures c.in-There.is
-    c.boolean_word-word.ensures c.in-Not.is
-    (onto _ _ _ c.read_operand-in-Not.ensures refl)
+    arm (boolean-goes c.args.w.now c.args.left c.args.at) c.in_ok-first.ensures c.boolean_word.ensures c.in-Not.is
+    (first-part _ _ _ c.read_operand-in-Not.ensures)
 
 pub read_boolean-returns-in-Other : goal.read_boolean-returns-in-Other
 read_boolean-returns-in-Other t c =
-    let a = c.args in
-    arm (boolean-goes a.w.now a.left a.at) c.word_due-d.ensures c.in-There.is
-    c.boolean_word-word.ensures c.in-Other.is refl
-
-pub read_operand-returns-in-Refused : goal.read_operand-returns-in-Refused
-read_operand-returns-in-Refused t c = rw c.in-Refused.is
+    arm (boolean-goes c.args.w.now c.args.left c.args.at) c.in_ok-first.ensures c.boolean_word.ensures c.in-Other.is
+    refl
 
 pub read_operand-overflow_add-result : goal.read_operand-overflow_add-result
 read_operand-overflow_add-result t c =
@@ -210,24 +217,4 @@ read_operand-overflow_add-result t c =
     )
 
 pub read_operand-returns-then-is_leaf : goal.read_operand-returns-then-is_leaf
-read_operand-returns-then-is_leaf t c =
-    rw c.in-Next.is
-    (leaf-walk _ _ _ _ (sym c.is_leaf.ensures ∙ c.if-is_leaf.true)).past
-
-pub read_operand-read_arithmetic-requires : goal.read_operand-read_arithmetic-requires
-read_operand-read_arithmetic-requires t c = let e = ap (words_left c.args.w.now) c.in-Next.is in omega arith
-
-pub read_operand-read_boolean-requires : goal.read_operand-read_boolean-requires
-read_operand-read_boolean-requires t c = let e = ap (words_left c.args.w.now) c.in-Next.is in omega arith
-
-pub read_operand-read_array-requires : goal.read_operand-read_array-requires
-read_operand-read_array-requires t c = let e = ap (words_left c.args.w.now) c.in-Next.is in omega arith
-
-pub read_operand-returns-in-Arithmetic : goal.read_operand-returns-in-Arithmetic
-read_operand-returns-in-Arithmetic t c = rw (c.in-Next.is, c.in-Arithmetic.is) c.read_arithmetic.ensures
-
-pub read_operand-returns-in-Boolean : goal.read_operand-returns-in-Boolean
-read_operand-returns-in-Boolean t c = rw (c.in-Next.is, c.in-Boolean.is) c.read_boolean.ensures
-
-pub read_operand-returns-in-Array : goal.read_operand-returns-in-Array
-read_operand-returns-in-Array t c = rw (c.in-Next.is, c.in-Array.is) c.read_array.ensures
+read_operand-returns-then-is_leaf t c = (leaf-walk _ _ _ _ (sym c.is_leaf.ensures ∙ c.if-is_leaf.true)).past

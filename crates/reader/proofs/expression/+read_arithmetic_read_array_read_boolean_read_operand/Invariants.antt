@@ -1,19 +1,18 @@
 -- The readers of the three sorts meet their contracts: each goes by the word that is due. The measure is the words left
 -- from the expression on, twice; one more for an operand.
 -- Assumes nothing.
-use Prim.Native.Nat.{◌+◌, ◌*◌}
-use Rattle.reader.proofs.Forward.{words_left}
-use Rattle.reader.specs.declared.Walk.TheVariants.{Next}
+use Prim.Native.Nat.{◌+◌, ◌-◌, ◌*◌}
+use Rattle.layout.specs.Bytes.{word_count}
 use Rattle.reader.proofs.expression.+read_arithmetic_read_array_read_boolean_read_operand.Given as goal
 
 abbrev pub decreases-read_arithmetic : goal.decreases-read_arithmetic
-decreases-read_arithmetic l = 2 * words_left l.w.now (Next l.at)
+decreases-read_arithmetic l = 2 * (word_count l.w.now - l.at)
 
 abbrev pub decreases-read_array : goal.decreases-read_array
-decreases-read_array l = 2 * words_left l.w.now (Next l.at)
+decreases-read_array l = 2 * (word_count l.w.now - l.at)
 
 abbrev pub decreases-read_boolean : goal.decreases-read_boolean
-decreases-read_boolean l = 2 * words_left l.w.now (Next l.at)
+decreases-read_boolean l = 2 * (word_count l.w.now - l.at)
 
 abbrev pub decreases-read_operand : goal.decreases-read_operand
-decreases-read_operand l = 2 * words_left l.w.now l.from + 1
+decreases-read_operand l = 2 * (word_count l.w.now - l.at) + 1

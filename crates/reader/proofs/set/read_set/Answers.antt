@@ -3,30 +3,27 @@
 use borrow.Author.Tests.{eq-eqb, ne_eqb, le-leb, lt-leb}
 use mathlib.Core.Path.{refl}
 use Rattle.context.specs.Contexts.{context_of}
-use Rattle.reader.proofs.Walks.{set-goes, stop, arm, none-arm}
+use Rattle.reader.proofs.Walks.{set-goes, exit, stop, arm, none-arm}
 use Rattle.reader.proofs.set.read_set.Goals as goal
+use Rattle.reader.proofs.set.read_set.Goals.{else-first-eq-SET-via-then-first-eq-SET+else-first-context, else-first-eq-SET-via-else-first-eq-SET}
 
-pub returns-then-count-most : goal.returns-then-count-most
-returns-then-count-most c =
+pub returns-in_err-first : goal.returns-in_err-first
+returns-in_err-first c =
     let a = c.args in
-    arm (set-goes a.w.now (context_of a.context) a.left a.at) c.word_due-d.ensures
-    c.in-There.is refl refl
-    (simp (eq-eqb _ _ c.if-kind-eq-SET.true, le-leb _ _ c.if-count-most.true) c.read_members.ensures)
+    exit c.from_residual.ensures.1 (stop (set-goes a.w.now (context_of a.context) a.left a.at) c.in_err-first.ensures)
 
-pub returns-in-Stop : goal.returns-in-Stop
-returns-in-Stop c =
+pub returns-then-first-context : goal.returns-then-first-context
+returns-then-first-context c =
     let a = c.args in
-    stop (set-goes a.w.now (context_of a.context) a.left a.at) c.word_due-d.ensures
-    c.in-Stop.is
+    arm (set-goes a.w.now (context_of a.context) a.left a.at) c.in_ok-first.ensures refl refl
+    (simp (eq-eqb _ _ c.if-first-eq-SET.true, le-leb _ _ c.if-first-context.true) c.read_members.ensures)
 
-pub returns-else-count-most : goal.returns-else-count-most
-returns-else-count-most c =
+pub returns : goal.returns
+returns c =
     let a = c.args in
-    none-arm (set-goes a.w.now (context_of a.context) a.left a.at) c.word_due-d.ensures
-    c.in-There.is refl (simp (eq-eqb _ _ c.if-kind-eq-SET.true, lt-leb _ _ c.if-count-most.false))
-
-pub returns-else-kind-eq-SET : goal.returns-else-kind-eq-SET
-returns-else-kind-eq-SET c =
-    let a = c.args in
-    none-arm (set-goes a.w.now (context_of a.context) a.left a.at) c.word_due-d.ensures
-    c.in-There.is refl (simp (ne_eqb _ _ c.if-kind-eq-SET.false))
+    none-arm (set-goes a.w.now (context_of a.context) a.left a.at) c.in_ok-first.ensures refl
+    (elim c.else-first-eq-SET.branch [
+      | else-first-eq-SET-via-then-first-eq-SET+else-first-context w ↦
+          simp (eq-eqb _ _ w.if-first-eq-SET.true, lt-leb _ _ w.if-first-context.false)
+      | else-first-eq-SET-via-else-first-eq-SET w ↦ simp (ne_eqb _ _ w.if-first-eq-SET.false)
+    ])
