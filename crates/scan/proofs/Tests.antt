@@ -17,6 +17,7 @@ use native.Mathlib.Omega.{arith}
 use borrow.Author.Tests.{eq-eqb, ne_eqb, lt-leb}
 use lib.Dec.{eqb}
 use lib.ListN.{get_or}
+use Rattle.std.specs.Prelude.{Some, None}
 use Rattle.language.specs.Syntax.{Command, for}
 use Rattle.language.specs.Modifies.{scalar_of, modifies}
 use Rattle.rules.specs.Words.{for_word, command_words}
@@ -47,8 +48,8 @@ use Rattle.ends.proofs.Sizes.{lt_or_le}
 use Rattle.ends.proofs.Table.{node_listed}
 use Rattle.scan.specs.Programs.{Masks}
 use Rattle.scan.specs.Pass.{Passed}
-use Rattle.scan.specs.Steady.{file_context, MaskedFile, steadiness_of, Tested, CanScanFors, FirstFound}
-use Rattle.scan.specs.declared.steady.Steadiness.TheVariants.{Steady, At}
+use Rattle.scan.specs.Fault.{fault_place}
+use Rattle.scan.specs.Steady.{file_context, MaskedFile, Tested, CanScanFors, FirstFound}
 use Rattle.scan.proofs.First.{first-start, first-here, first_next, first-end}
 use Rattle.scan.proofs.Passing.{first-passed}
 use Rattle.scan.proofs.Trees.{marked-command, masks-called}
@@ -210,18 +211,18 @@ module _ (file ends : List ℕ) where
         sym (first-passed file (unsteady_at Δ file) (λ i e. not-for file ends i Δ e) h x) ∙ b.rest_of limits f k;
   }
 
-  pub found_here : (at : ℕ) → at < word_count file → SteadyBefore at → Tested file ends at true → FirstFound file ends (At at)
+  pub found_here : (at : ℕ) → at < word_count file → SteadyBefore at → Tested file ends at true → FirstFound file ends (Some at)
   found_here at h p t = record {
     place = λ limits f k.
-        ap steadiness_of
+        ap fault_place
         (sym (first-here (unsteady_at (file_context limits f) file) (word_count file) at h (sym (t.place limits f k)))
         ∙ p.rest_of limits f k);
   }
 
-  none_left : (at : ℕ) → word_count file ≤ at → SteadyBefore at → FirstFound file ends Steady
+  none_left : (at : ℕ) → word_count file ≤ at → SteadyBefore at → FirstFound file ends None
   none_left at h p = record {
     place = λ limits f k.
-        ap steadiness_of
+        ap fault_place
         (sym (first-end (unsteady_at (file_context limits f) file) (word_count file) at h) ∙ p.rest_of limits f k);
   }
 
@@ -231,7 +232,7 @@ module _ (file ends : List ℕ) where
         steady-past (omega arith) (record { onward = omega arith; inside = λ _. l; none = λ i _ m. c.before i (omega arith) }) steady-none
 
     pub found_none : (at : ℕ) {end : ℕ} → end ≡ lesser to (word_count file) → end ≤ at → at ≤ word_count file → SteadyBefore at →
-        FirstFound file ends Steady
+        FirstFound file ends None
     unfolding lesser
     found_none at {end} e h l p =
         none_left (word_count file) (omega arith)

@@ -2,14 +2,10 @@
 -- Working: `wrong_calls` of proofs/WrongCalls ties it to the layout's `wrong_call`. Assumes nothing.
 --     callable_from      how many procedures end before a place, by the starts of the programs that follow them
 --     wrong_at           at the place stands a call to another number
---     rightness_of       the answer of the scan for the first such call
 use Rattle.std.specs.Prelude.{Bool, not, ◌&&◌, cond, List, ℕ, zero, suc, eqb, ltb, leb}
-use Rattle.std.proofs.Math.Option.{Option, none, some}
 use Rattle.layout.specs.Bytes.{kind_at, payload_at}
 use Rattle.ends.specs.Procedures.{start_at}
 use Rattle.scan.specs.Programs.{procedure_count}
-use Rattle.scan.specs.declared.calls.Rightness.{Rightness}
-use Rattle.scan.specs.declared.calls.Rightness.TheVariants.{Right, Wrong}
 
 -- i procedures do, and k more are left; procedure i ends where program i + 1 starts
 unfoldable pub callable_from : (ℕ → ℕ) → ℕ → ℕ → ℕ → ℕ
@@ -20,7 +16,3 @@ unfoldable pub wrong_at : List ℕ → List ℕ → ℕ → Bool
 wrong_at file ends at =
     eqb (kind_at file at) 38
     && not (ltb (payload_at file at) (callable_from (start_at file ends) (procedure_count file) 0 at))
-
-abbrev pub rightness_of : Option ℕ → Rightness
-rightness_of none = Right
-rightness_of (some at) = Wrong at

@@ -2,12 +2,11 @@
 -- Working: `file-fors` of layout/proofs/Fors, `found_here` and `found_none` of proofs/Tests tie it to the layout's `unsteady_at`.
 -- Assumes nothing.
 --     MaskedFile       a file that refusals 2 to 6 and 16 let pass, and the masks of its procedures
---     steadiness_of     the answer of the scan for the first `for` that refusal 7 refuses
 --     CanMarkBody      what the mask of a body asks
 --     CanTestFor, Tested, CanScanFors, FirstFound
 --                      what the test of one place and the scan ask and say
-use Rattle.std.specs.Prelude.{◌≡◌, Bool, true, List, ℕ, ◌<◌, ◌≤◌, length}
-use Rattle.std.proofs.Math.Option.{Option, none, some}
+use Rattle.std.specs.Prelude.{◌≡◌, Bool, true, List, ℕ, ◌<◌, ◌≤◌, length, Option}
+use Rattle.std.proofs.Math.Option.{none}
 use Rattle.rules.specs.Context.{Limits, Context, alone}
 use Rattle.layout.specs.Bytes.{word_count, kind_at}
 use Rattle.layout.specs.Reading.{first_place}
@@ -19,8 +18,7 @@ use Rattle.layout.specs.FileWords.{FileStands}
 use Rattle.ends.specs.Blocks.{Blocks}
 use Rattle.ends.specs.Ends.{EndsListed}
 use Rattle.scan.specs.Programs.{Masks}
-use Rattle.scan.specs.declared.steady.Steadiness.{Steadiness}
-use Rattle.scan.specs.declared.steady.Steadiness.TheVariants.{Steady, At}
+use Rattle.scan.specs.Fault.{fault_place}
 
 -- with all procedures of a file
 abbrev pub file_context : Limits → File → Context
@@ -30,10 +28,6 @@ pub record MaskedFile (file ends : List ℕ) (limits : Limits) (f : File) : Type
   pub stands : FileStands limits file f
   pub called : first_place (wrong_call file f.procedures) (word_count file) 0 ≡ none
   pub masks : Masks file ends (file_context limits f)
-
-abbrev pub steadiness_of : Option ℕ → Steadiness
-steadiness_of none = Steady
-steadiness_of (some at) = At at
 
 -- where `blocked` is so, the masks of blocks are filled
 pub record CanMarkBody (file ends : List ℕ) (to : ℕ) (blocked : Bool) : Type 0 where
@@ -57,6 +51,6 @@ pub record CanScanFors (file ends : List ℕ) (from to : ℕ) (blocked : Bool) :
 pub record Tested (file ends : List ℕ) (at : ℕ) (r : Bool) : Type 0 where
   pub place : (limits : Limits) (f : File) → MaskedFile file ends limits f → r ≡ unsteady_at (file_context limits f) file at
 
-pub record FirstFound (file ends : List ℕ) (r : Steadiness) : Type 0 where
+pub record FirstFound (file ends : List ℕ) (r : Option ℕ) : Type 0 where
   pub place : (limits : Limits) (f : File) → MaskedFile file ends limits f →
-      r ≡ steadiness_of (first_place (unsteady_at (file_context limits f) file) (word_count file) 0)
+      r ≡ fault_place (first_place (unsteady_at (file_context limits f) file) (word_count file) 0)

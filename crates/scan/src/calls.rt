@@ -5,19 +5,13 @@ ghost use Rattle.layout.specs.Reading.{first_place};
 ghost use Rattle.ends.specs.Blocks.{CanBlock};
 ghost use Rattle.ends.specs.Procedures.{start_at};
 ghost use Rattle.scan.specs.Programs.{procedure_count};
-ghost use Rattle.scan.specs.Calls.{callable_from, wrong_at, rightness_of};
+ghost use Rattle.scan.specs.Fault.{fault_place};
+ghost use Rattle.scan.specs.Calls.{callable_from, wrong_at};
 
 use super::pass::pass;
 use super::programs::procedure_count;
 use ends::end_at;
 use words::kinds::{CALL, KIND};
-
-// Whether a file has no such call, or the place of the first.
-#[derive(Clone, Copy)]
-pub enum Rightness {
-    Right,
-    Wrong(usize),
-}
 
 // How many procedures end before a place: these may be called there.
 fn callable(w: &[u32], table: &[u32], at: usize) -> usize
@@ -50,17 +44,17 @@ fn wrong_at(w: &[u32], table: &[u32], at: usize) -> bool
     callable(w, table, at) <= number
 }
 
-// The first such call, of the programs or of the evidence. Most files have no call.
-pub fn first_wrong_call(w: &[u32], table: &[u32]) -> Rightness
+// The place of the first such call, of the programs or of the evidence, if there is one. Most files have no call.
+pub fn first_wrong_call(w: &[u32], table: &[u32]) -> Option<usize>
     requires { CanBlock w.now table.now }
-    ensures { result ≡ rightness_of (first_place (wrong_at w.now table.now) (word_count w.now) 0) }
+    ensures { result ≡ fault_place (first_place (wrong_at w.now table.now) (word_count w.now) 0) }
 {
     let mut at = pass(w, 0, CALL);
     while at < w.len() {
         if wrong_at(w, table, at) {
-            return Rightness::Wrong(at);
+            return Some(at);
         }
         at = pass(w, at + 1, CALL);
     }
-    Rightness::Right
+    None
 }

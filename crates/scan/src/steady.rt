@@ -10,13 +10,6 @@ use ends::mask::has_bit;
 use words::kinds::{FOR, KIND};
 use words::numbers::least;
 
-// Whether a file has no such `for`, or the place of the first.
-#[derive(Clone, Copy)]
-pub enum Steadiness {
-    Steady,
-    At(usize),
-}
-
 // The mask of what a body assigns, by the masks of blocks where these are filled.
 fn body_mask(w: &[u32], ends: &[u32], from: usize, to: usize, blocked: bool) -> u64
     requires { CanMarkBody w.now ends.now to blocked }
@@ -57,8 +50,15 @@ fn next_for(w: &[u32], from: usize, to: usize) -> usize
     pass(w, from, FOR)
 }
 
-// The first such `for`, of the program or of the evidence, where all `for`s stand from a place up to another. Most files have few.
-pub fn first_unsteady(w: &[u32], ends: &[u32], from: usize, to: usize, blocked: bool) -> Steadiness
+// The place of the first such `for`, of the program or of the evidence, if there is one, where all `for`s stand from a place up to another.
+// Most files have few.
+pub fn first_unsteady(
+    w: &[u32],
+    ends: &[u32],
+    from: usize,
+    to: usize,
+    blocked: bool,
+) -> Option<usize>
     requires { CanScanFors w.now ends.now from to blocked }
     ensures { FirstFound w.now ends.now result }
 {
@@ -71,9 +71,9 @@ pub fn first_unsteady(w: &[u32], ends: &[u32], from: usize, to: usize, blocked: 
             continue;
         }
         if unsteady_at(w, ends, at, blocked) {
-            return Steadiness::At(at);
+            return Some(at);
         }
         at = next_for(w, at + 1, end);
     }
-    Steadiness::Steady
+    None
 }

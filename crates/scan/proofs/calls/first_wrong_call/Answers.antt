@@ -2,7 +2,8 @@
 -- The measure is the words left. Assumes nothing.
 use mathlib.Core.Path.{sym, ap, ◌∙◌}
 use native.Mathlib.Omega.{arith}
-use Rattle.scan.specs.Calls.{wrong_at, rightness_of}
+use Rattle.scan.specs.Fault.{fault_place}
+use Rattle.scan.specs.Calls.{wrong_at}
 use Rattle.scan.proofs.First.{first-start, first-here, first_next, first-end}
 use Rattle.scan.proofs.Passing.{first-passed}
 use Rattle.scan.proofs.WrongCalls.{wrong_other}
@@ -19,7 +20,7 @@ wrong_at-requires c = (c.requires, c.loop-at-test.true)
 
 pub returns-then-wrong_at : goal.returns-then-wrong_at
 returns-then-wrong_at c =
-    ap rightness_of
+    ap fault_place
     (sym (first-here _ _ _ c.loop-at-test.true (sym c.wrong_at.ensures ∙ c.if-wrong_at.true))
     ∙ c.loop-at.invariant.1)
 
@@ -40,4 +41,4 @@ loop-at-preserved c =
     )
 
 pub returns : goal.returns
-returns c = ap rightness_of (sym (first-end _ _ _ c.loop-at-test.false) ∙ c.loop-at.invariant.1)
+returns c = ap fault_place (sym (first-end _ _ _ c.loop-at-test.false) ∙ c.loop-at.invariant.1)
