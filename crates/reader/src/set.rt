@@ -66,7 +66,8 @@ pub fn read_set(w: &[u32], context: Context, at: usize, left: usize) -> Result<u
     ensures { result ≡ walk_of (set (context_of context) w.now left at) }
 {
     let first = word_due(w, at, left)?;
-    if first.kind == SET && first.payload as usize <= context.members {
+    let most = context.members;
+    if first.kind == SET && first.payload as usize <= most {
         return read_members(w, first.payload, first.next, first.below);
     }
     Err(Refusal {

@@ -10,7 +10,7 @@ use Rattle.reader.proofs.file.read_procedures.Goals as goal
 pub returns-then-count-le16 : goal.returns-then-count-le16
 returns-then-count-le16 c =
     some-table (limits_of c.args.context) c.args.w.now c.requires.1 c.payload-count.ensures
-    c.if-count-ge1.true c.if-count-le16.true c.read_programs.ensures
+    (omega arith) (omega arith) c.read_programs.ensures
 
 pub returns : goal.returns
 returns c =
