@@ -1,7 +1,7 @@
 -- Refusals 2 to 7 and 16 on words, and with 1 on bytes, by what the code finds.
 -- Assumes nothing.
 --     table-made, starts-moved                        the table is filled by its three steps; the starts in it
---     steady-none, unsteady-some                      the answers of the scan for refusal 7
+--     no-fault, some-fault                            the answers of the scans for refusals 16 and 7
 --     found-words, refused-found                      2 to 6 let the words pass; 2 to 6
 --     calls-right, wrong_called                       16 lets the words pass; 16
 --     refused-tabled                                  2 to 6 and 16
@@ -15,6 +15,8 @@ use mathlib.Core.Option.{Option, none, some}
 use Prim.Native.Nat.{ℕ, suc, ◌+◌, ◌*◌, ◌/◌, ◌≤◌}
 use native.Mathlib.Omega.{arith}
 use lib.ListN.{length, take}
+use Rattle.std.specs.Prelude.{Some, None, Ok, Err}
+use Rattle.std.specs.Result.{IsErrAnd}
 use Rattle.layout.specs.Bytes.{words_of, word_count}
 use Rattle.layout.specs.Reading.{Reading, read, fault, first_place}
 use Rattle.layout.specs.Program.{Program}
@@ -30,18 +32,16 @@ use Rattle.ends.specs.Blocks.{table_at, Blocked}
 use Rattle.ends.specs.Procedures.{start_at}
 use Rattle.ends.proofs.Table.{table-ends, ends-listed}
 use Rattle.context.specs.Contexts.{limits_of, refusal}
+use Rattle.reader.specs.Program.{Layout}
 use Rattle.reader.specs.File.{places_of, Located, read_of}
 use Rattle.context.specs.declared.Context.{Context}
 use Rattle.context.specs.declared.Refusal.{Refusal}
 use Rattle.reader.specs.declared.Places.{Places}
-use Rattle.reader.specs.declared.Layout.{Layout}
+use Rattle.reader.proofs.Walks.{exit}
 use Rattle.scan.specs.Programs.{StartsFrom, StartsListed, Masked}
-use Rattle.scan.specs.Calls.{wrong_at, rightness_of}
-use Rattle.scan.specs.Steady.{MaskedFile, steadiness_of, FirstFound}
-use Rattle.scan.specs.declared.calls.Rightness.{Rightness}
-use Rattle.scan.specs.declared.calls.Rightness.TheVariants.{Right, Wrong}
-use Rattle.scan.specs.declared.steady.Steadiness.{Steadiness}
-use Rattle.scan.specs.declared.steady.Steadiness.TheVariants.{Steady, At}
+use Rattle.scan.specs.Fault.{fault_place}
+use Rattle.scan.specs.Calls.{wrong_at}
+use Rattle.scan.specs.Steady.{MaskedFile, FirstFound}
 use Rattle.scan.proofs.ProcedureMasks.{made-moved}
 use Rattle.scan.proofs.WrongCalls.{wrong_calls}
 use Rattle.scan.proofs.Procedures.{procedures-known, masks-known}
@@ -83,48 +83,41 @@ starts-moved w before after h f few s = record {
 
 -- ---- refusals 2 to 7 and 16
 -- a refusal has no places
-not_found : {A : Type 0} {x : Refusal} {s : Places} → Layout.Refused x ≡ Layout.Found s → A
+not_found : {A : Type 0} {x : Refusal} {s : Places} → Err x ≡ Ok s → A
 not_found e = absurd (let z : ◌≡◌ {A = ℕ} 0 1 = cc in omega arith)
 
 not-read : {A : Type 0} {x : Reading File} {n p : ℕ} {f : File} {q : ℕ} → x ≡ fault n p → x ≡ read f q → A
 not-read {x = x} e h = absurd (let z : ◌≡◌ {A = ℕ} 0 1 = cc in omega arith)
 
-right-none : (o : Option ℕ) → Right ≡ rightness_of o → o ≡ none
-right-none none e = refl
-right-none (some at) e = absurd (let z : ◌≡◌ {A = ℕ} 0 1 = cc in omega arith)
+-- the answer of a scan for the first fault
+pub no-fault : (o : Option ℕ) → None ≡ fault_place o → o ≡ none
+no-fault none e = refl
+no-fault (some at) e = absurd (let z : ◌≡◌ {A = ℕ} 0 1 = cc in omega arith)
 
-wrong_some : (o : Option ℕ) (at : ℕ) → Wrong at ≡ rightness_of o → o ≡ some at
-wrong_some none at e = absurd (let z : ◌≡◌ {A = ℕ} 0 1 = cc in omega arith)
-wrong_some (some p) at e = cc
-
-pub steady-none : (o : Option ℕ) → Steady ≡ steadiness_of o → o ≡ none
-steady-none none e = refl
-steady-none (some at) e = absurd (let z : ◌≡◌ {A = ℕ} 0 1 = cc in omega arith)
-
-pub unsteady-some : (o : Option ℕ) (at : ℕ) → At at ≡ steadiness_of o → o ≡ some at
-unsteady-some none at e = absurd (let z : ◌≡◌ {A = ℕ} 0 1 = cc in omega arith)
-unsteady-some (some p) at e = cc
+pub some-fault : (o : Option ℕ) (at : ℕ) → Some at ≡ fault_place o → o ≡ some at
+some-fault none at e = absurd (let z : ◌≡◌ {A = ℕ} 0 1 = cc in omega arith)
+some-fault (some p) at e = cc
 
 -- what is left of the room that was lent to the reader for the starts
-pub found-words : {Γ : Context} {w left start : List ℕ} {r : Layout} {s : Places} (lent rest : List ℕ) → table_at w ≤ length lent →
-    Located (read_of (limits_of Γ) w) start left r → r ≡ Layout.Found s → Found w Γ s (take (table_at w) lent ++ (left ++ rest))
-found-words {Γ} {w} {left} lent rest h x e = record {
-  found = sym e ∙ x.places;
+pub found-words : {Γ : Context} {w left start : List ℕ} {s : Places} (lent rest : List ℕ) → table_at w ≤ length lent →
+    Located (read_of (limits_of Γ) w) start left (Ok s) → Found w Γ s (take (table_at w) lent ++ (left ++ rest))
+found-words {Γ} {w} {left} lent rest h x = record {
+  found = x.places;
   starts = λ f p z. lent-starts w lent left rest f h (x.starts f p z);
 }
 
 -- 16 lets the words pass
-pub calls-right : {Γ : Context} {w before : List ℕ} {s : Places} (r : Rightness) → Found w Γ s before →
-    r ≡ rightness_of (first_place (wrong_at w before) (word_count w) 0) → r ≡ Right → Called w Γ (Layout.Found s) before
-calls-right {Γ} {w} {before} r f e h = record {
+pub calls-right : {Γ : Context} {w before : List ℕ} {s : Places} → Found w Γ s before →
+    None ≡ fault_place (first_place (wrong_at w before) (word_count w) 0) → Called w Γ (Ok s) before
+calls-right {Γ} {w} {before} f e = record {
   refused = λ x z. not_found (sym z);
-  right = λ t z. subst (λ (s : Places). CallsRight w Γ s before) (let y = z in cc) (record { found = f; right = right-none _ (sym h ∙ e) });
+  right = λ t z. subst (λ (s : Places). CallsRight w Γ s before) (let y = z in cc) (record { found = f; right = no-fault _ e });
 }
 
 module _ {Γ : Context} {w : List ℕ} where
   -- a refusal among 2 to 6 and 16
   refused-called : {n at : ℕ} {table : List ℕ} → words_read (limits_of Γ) w ≡ fault n at →
-      Called w Γ (Layout.Refused (refusal n at)) table
+      Called w Γ (Err (refusal n at)) table
   refused-called {n} {at} e = record {
     refused = λ x z. (let y : refusal n at ≡ x = cc in e ∙ ap (λ (q : Refusal). fault q.number q.place) y);
     right = λ s z. not_found z;
@@ -132,19 +125,23 @@ module _ {Γ : Context} {w : List ℕ} where
 
   -- a refusal by what the code finds
   refused-by : {n at : ℕ} {table : List ℕ} → words_read (limits_of Γ) w ≡ fault n at →
-      Tabled w Γ (Layout.Refused (refusal n at)) table
+      Tabled w Γ (Err (refusal n at)) table
   refused-by e = record {
     layout = sym (ap places_of e);
     ends_of = λ s z. not_found z;
     known = λ f p h. not-read e h;
   }
 
-  pub refused-found : {table : List ℕ} (r : Layout) (x : Refusal) → r ≡ places_of (read_of (limits_of Γ) w) →
-      r ≡ Layout.Refused x → Called w Γ (Layout.Refused x) table
-  refused-found r x e h = refused-called (words-refused (limits_of Γ) w x (sym h ∙ e))
+  -- r is what the exit of a `?` returns
+  pub refused-found : {table : List ℕ} {r : Layout} {x : Refusal} → Err x ≡ places_of (read_of (limits_of Γ) w) →
+      IsErrAnd r (λ y. y ≡ x) → Called w Γ r table
+  refused-found {table} {r} {x} e h =
+      subst (λ (l : Layout). Called w Γ l table) (sym (exit {r = r} {w = Err x} h refl)) (refused-called (words-refused (limits_of Γ) w x e))
 
-  pub refused-tabled : {before table : List ℕ} {r : Layout} {x : Refusal} → Called w Γ r before → r ≡ Layout.Refused x → Tabled w Γ r table
-  refused-tabled {table = table} {x = x} c h = subst (λ (l : Layout). Tabled w Γ l table) (sym h) (refused-by (c.refused x h))
+  pub refused-tabled : {before table : List ℕ} {r : Layout} {x : Refusal} → Called w Γ (Err x) before → IsErrAnd r (λ y. y ≡ x) →
+      Tabled w Γ r table
+  refused-tabled {table = table} {r} {x} c h =
+      subst (λ (l : Layout). Tabled w Γ l table) (sym (exit {r = r} {w = Err x} h refl)) (refused-by (c.refused x refl))
 
   module _ {before : List ℕ} {s : Places} (h : Found w Γ s before) where
     abbrev it : ReadAt (read_of (limits_of Γ) w) s
@@ -157,12 +154,11 @@ module _ {Γ : Context} {w : List ℕ} where
     same-calls : wrong_at w before ≡ wrong_call w it.file.procedures
     same-calls = wrong_calls w before (limits_of Γ) it.file stood (h.starts it.file it.end it.was_read)
 
-    pub wrong_called : {table : List ℕ} (r : Rightness) (at : ℕ) →
-        r ≡ rightness_of (first_place (wrong_at w before) (word_count w) 0) → r ≡ Wrong at →
-        Called w Γ (Layout.Refused (refusal 16 at)) table
-    wrong_called r at e k =
+    pub wrong_called : {table : List ℕ} (at : ℕ) → Some at ≡ fault_place (first_place (wrong_at w before) (word_count w) 0) →
+        Called w Γ (Err (refusal 16 at)) table
+    wrong_called at e =
         refused-called (words-wrong (limits_of Γ) w it.file it.end at it.was_read
-        (ap (λ t. first_place t (word_count w) 0) (sym same-calls) ∙ wrong_some _ at (sym k ∙ e)))
+        (ap (λ t. first_place t (word_count w) 0) (sym same-calls) ∙ some-fault _ at e))
 
     module _
         (c : first_place (wrong_at w before) (word_count w) 0 ≡ none) {table : List ℕ} (m : TableMade w before table)
@@ -180,12 +176,12 @@ module _ {Γ : Context} {w : List ℕ} where
           masks = masks-known w table (ends-listed m.ends_of) (limits_of Γ) it.file stood called starts-kept m.made;
         }
 
-        pub steady-tabled : (r : Steadiness) → FirstFound w table r → r ≡ Steady → Tabled w Γ (Layout.Found s) table
-        steady-tabled r f e =
-            let none = steady-none _ (sym e ∙ f.place (limits_of Γ) it.file called-file) in
+        pub steady-tabled : FirstFound w table None → Tabled w Γ (Ok s) table
+        steady-tabled f =
+            let none = no-fault _ (f.place (limits_of Γ) it.file called-file) in
             let was = words-steady (limits_of Γ) w it.file it.end it.was_read called none in
             record {
-              layout = ap Layout.Found it.at ∙ sym (ap places_of was);
+              layout = ap Ok it.at ∙ sym (ap places_of was);
               ends_of = λ _ _. m.ends_of;
               known = λ g q z.
                   subst (KnownAt (limits_of Γ) w table) (words_back (limits_of Γ) w it.file g it.end q was z) (record {
@@ -196,15 +192,14 @@ module _ {Γ : Context} {w : List ℕ} where
                   });
             }
 
-        pub unsteady-tabled : (r : Steadiness) (at : ℕ) → FirstFound w table r → r ≡ At at →
-            Tabled w Γ (Layout.Refused (refusal 7 at)) table
-        unsteady-tabled r at f e =
+        pub unsteady-tabled : (at : ℕ) → FirstFound w table (Some at) → Tabled w Γ (Err (refusal 7 at)) table
+        unsteady-tabled at f =
             refused-by (words-unsteady (limits_of Γ) w it.file it.end at it.was_read called
-            (unsteady-some _ at (sym e ∙ f.place (limits_of Γ) it.file called-file)))
+            (some-fault _ at (f.place (limits_of Γ) it.file called-file)))
 
 -- ---- refusal 1
 pub bad-read : {bytes words table : List ℕ} (Γ : Context) → bad_length bytes ≡ true →
-    FileRead bytes Γ (Layout.Refused (refusal 1 0)) words table
+    FileRead bytes Γ (Err (refusal 1 0)) words table
 bad-read {bytes} Γ h = record {
   layout = sym (ap places_of (bad-file (limits_of Γ) bytes h));
   size = λ s z. not_found z;
@@ -253,13 +248,13 @@ pub record Words (bytes : List ℕ) (Γ : Context) (s : Places) (words table : L
   pub inside : length bytes / 4 ≤ length words
   pub size : length (take (length bytes / 4) words) ≤ 8192
   pub ends_of : EndsOf (take (length bytes / 4) words) table
-  pub was_read : Layout.Found s ≡ places_of (words_read (limits_of Γ) (take (length bytes / 4) words))
+  pub was_read : Ok s ≡ places_of (words_read (limits_of Γ) (take (length bytes / 4) words))
   pub of-file : words_read (limits_of Γ) (take (length bytes / 4) words) ≡ bytes_read (limits_of Γ) bytes
   pub known : (f : File) (p : ℕ) → bytes_read (limits_of Γ) bytes ≡ read f p →
       KnownAt (limits_of Γ) (take (length bytes / 4) words) table f
 
 pub file-words : {bytes words table : List ℕ} {Γ : Context} {r : Layout} {s : Places} →
-    FileRead bytes Γ r words table → r ≡ Layout.Found s → Words bytes Γ s words table
+    FileRead bytes Γ r words table → r ≡ Ok s → Words bytes Γ s words table
 file-words {bytes} {words} {table} {Γ} {r} {s} f e =
     let w = f.loaded s e in
     let long : length (take (length bytes / 4) words) ≡ length bytes / 4 = ap length w ∙ words-length bytes in

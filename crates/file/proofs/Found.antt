@@ -15,6 +15,7 @@ use native.Mathlib.Omega.{arith}
 use borrow.Author.Tests.{eqb-true}
 use lib.ListN.{length, get_or, take, length-take}
 use lib.Seq.{get_or-append-add, take-append-le, length-take-le}
+use Rattle.std.specs.Prelude.{Ok, Err}
 use Rattle.rules.specs.Context.{Limits}
 use Rattle.layout.specs.Bytes.{word_count}
 use Rattle.layout.specs.Reading.{Reading, read, fault, on_read, first_place}
@@ -28,7 +29,6 @@ use Rattle.context.specs.declared.Refusal.{Refusal}
 use Rattle.reader.specs.File.{places_of, starts_from, starts_of, ended, headed, read_of}
 use Rattle.reader.specs.Program.{places}
 use Rattle.reader.specs.declared.Places.{Places}
-use Rattle.reader.specs.declared.Layout.TheVariants as Layout
 use Rattle.reader.proofs.Whole.{words-read, ended-read, refused-file}
 use Rattle.ends.specs.Blocks.{table_at}
 use Rattle.ends.specs.Procedures.{start_at}
@@ -42,7 +42,7 @@ pub record ReadAt (x : Reading File) (s : Places) : Type 0 where
   pub was_read : x ≡ read file end
   pub at : s ≡ places file.main.start file.main.pre_at file.main.post_at file.main.evidence_at end
 
-pub found-read : (x : Reading File) (s : Places) → Layout.Found s ≡ places_of x → ReadAt x s
+pub found-read : (x : Reading File) (s : Places) → Ok s ≡ places_of x → ReadAt x s
 found-read (read f p) s e = record { file = f; end = p; was_read = refl; at = (cc) }
 found-read (fault n p) s e = absurd (let z : ◌≡◌ {A = ℕ} 0 1 = cc in omega arith)
 
@@ -84,7 +84,7 @@ module _ (limits : Limits) (w : List ℕ) where
   unfolding calls_tested
   words-wrong f p at e c = words-read limits w ∙ rw e (rw (c, calls_tested) refl)
 
-  pub words-refused : (x : Refusal) → Layout.Refused x ≡ places_of (read_of limits w) →
+  pub words-refused : (x : Refusal) → Err x ≡ places_of (read_of limits w) →
       words_read limits w ≡ fault x.number x.place
   words-refused x e = words-read limits w ∙ rw (refused-file (read_of limits w) x e) refl
 

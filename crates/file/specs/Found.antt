@@ -8,7 +8,7 @@
 --     KnownAt              what the table has of each program
 --     Tabled               refusals 2 to 7 and 16: the places, and the table
 --     CanLoad, FileRead    room for the words and the table of a file; refusals 1 to 7 and 16, of bytes
-use Rattle.std.specs.Prelude.{◌≡◌, false, List, ℕ, ◌+◌, ◌*◌, ◌/◌, ◌<◌, ◌≤◌, length, take}
+use Rattle.std.specs.Prelude.{◌≡◌, false, List, ℕ, ◌+◌, ◌*◌, ◌/◌, ◌<◌, ◌≤◌, length, take, Ok, Err}
 use Rattle.std.proofs.Math.Option.{none}
 use Rattle.rules.specs.Context.{Limits, alone}
 use Rattle.layout.specs.Bytes.{words_of, word_count}
@@ -22,11 +22,11 @@ use Rattle.scan.specs.Programs.{procedure_count, StartsListed, MaskMade}
 use Rattle.scan.specs.Calls.{wrong_at}
 use Rattle.scan.specs.Steady.{MaskedFile}
 use Rattle.context.specs.Contexts.{limits_of}
+use Rattle.reader.specs.Program.{Layout}
 use Rattle.reader.specs.File.{places_of, read_of}
 use Rattle.context.specs.declared.Context.{Context}
 use Rattle.context.specs.declared.Refusal.{Refusal}
 use Rattle.reader.specs.declared.Places.{Places}
-use Rattle.reader.specs.declared.Layout.{Layout}
 
 pub record TableRoom (file table : List ℕ) : Type 0 where
   pub size : length file ≤ 8192
@@ -34,7 +34,7 @@ pub record TableRoom (file table : List ℕ) : Type 0 where
 
 -- the starts of the programs are in the table
 pub record Found (file : List ℕ) (Γ : Context) (s : Places) (table : List ℕ) : Type 0 where
-  pub found : Layout.Found s ≡ places_of (read_of (limits_of Γ) file)
+  pub found : Ok s ≡ places_of (read_of (limits_of Γ) file)
   pub starts : (f : File) (p : ℕ) → read_of (limits_of Γ) file ≡ read f p → StartsListed file table f
 
 -- no call is wrong, on words
@@ -43,8 +43,8 @@ pub record CallsRight (file : List ℕ) (Γ : Context) (s : Places) (table : Lis
   pub right : first_place (wrong_at file table) (word_count file) 0 ≡ none
 
 pub record Called (file : List ℕ) (Γ : Context) (r : Layout) (table : List ℕ) : Type 0 where
-  pub refused : (x : Refusal) → r ≡ Layout.Refused x → words_read (limits_of Γ) file ≡ fault x.number x.place
-  pub right : (s : Places) → r ≡ Layout.Found s → CallsRight file Γ s table
+  pub refused : (x : Refusal) → r ≡ Err x → words_read (limits_of Γ) file ≡ fault x.number x.place
+  pub right : (s : Places) → r ≡ Ok s → CallsRight file Γ s table
 
 -- the starts are as they were
 pub record TableMade (file before after : List ℕ) : Type 0 where
@@ -61,7 +61,7 @@ pub record KnownAt (limits : Limits) (file table : List ℕ) (f : File) : Type 0
 
 pub record Tabled (file : List ℕ) (Γ : Context) (r : Layout) (table : List ℕ) : Type 0 where
   pub layout : r ≡ places_of (words_read (limits_of Γ) file)
-  pub ends_of : (s : Places) → r ≡ Layout.Found s → EndsOf file table
+  pub ends_of : (s : Places) → r ≡ Ok s → EndsOf file table
   pub known : (f : File) (p : ℕ) → words_read (limits_of Γ) file ≡ read f p → KnownAt (limits_of Γ) file table f
 
 pub record CanLoad (bytes words table : List ℕ) : Type 0 where
@@ -71,10 +71,10 @@ pub record CanLoad (bytes words table : List ℕ) : Type 0 where
 -- the words stand in front of the room that was lent for them
 pub record FileRead (bytes : List ℕ) (Γ : Context) (r : Layout) (words table : List ℕ) : Type 0 where
   pub layout : r ≡ places_of (bytes_read (limits_of Γ) bytes)
-  pub size : (s : Places) → r ≡ Layout.Found s → length bytes ≤ 32768
-  pub from-words : (s : Places) → r ≡ Layout.Found s →
+  pub size : (s : Places) → r ≡ Ok s → length bytes ≤ 32768
+  pub from-words : (s : Places) → r ≡ Ok s →
       bytes_read (limits_of Γ) bytes ≡ words_read (limits_of Γ) (words_of bytes)
-  pub loaded : (s : Places) → r ≡ Layout.Found s → take (length bytes / 4) words ≡ words_of bytes
-  pub inside : (s : Places) → r ≡ Layout.Found s → length bytes / 4 ≤ length words
-  pub ends_of : (s : Places) → r ≡ Layout.Found s → EndsOf (words_of bytes) table
+  pub loaded : (s : Places) → r ≡ Ok s → take (length bytes / 4) words ≡ words_of bytes
+  pub inside : (s : Places) → r ≡ Ok s → length bytes / 4 ≤ length words
+  pub ends_of : (s : Places) → r ≡ Ok s → EndsOf (words_of bytes) table
   pub known : (f : File) (p : ℕ) → bytes_read (limits_of Γ) bytes ≡ read f p → KnownAt (limits_of Γ) (words_of bytes) table f

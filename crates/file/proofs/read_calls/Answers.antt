@@ -13,10 +13,10 @@ read_called-requires c =
     let pre = c.requires in
     let table = c.args.table.now in
     let place = table_at c.args.w.now in
-    let size = same_len_mid place (length table - place) table c.read_words-found.new.starts c.read_words-found.ensures.size in (
-      found-words table _ (omega (arith, pre.room)) c.read_words-found.ensures c.in-Found.is,
+    let size = same_len_mid place (length table - place) table c.read_words.new.starts c.in_ok-places.ensures.size in (
+      found-words table _ (omega (arith, pre.room)) c.in_ok-places.ensures,
       record { size = pre.size; room = omega (arith, pre.room, size) },
     )
 
-pub returns-in-Refused : goal.returns-in-Refused
-returns-in-Refused c = refused-found _ _ c.read_words-found.ensures.places c.in-Refused.is
+pub returns-in_err-places : goal.returns-in_err-places
+returns-in_err-places c = refused-found c.in_err-places.ensures.places c.from_residual.ensures.1
