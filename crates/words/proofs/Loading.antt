@@ -2,16 +2,19 @@
 -- Assumes nothing.
 --     words-length, words-at       how many words bytes make; the word at a place
 --     front, front-more            the first words stand in front; one more
---     lesser-first                 the lesser of two is the first where that is not over the other
+--     lesser-min, lesser-first     the lesser of two is the library's `min`; it is the first where that is not over the other
 --     loaded-words                 what a caller has who lends room enough
 use mathlib.Core.Path.{◌≡◌, refl, sym, ◌∙◌, ap}
+use mathlib.Core.Bool.{Bool, true, false, cond}
 use mathlib.Core.List.{List, [], ◌∷◌, ◌++◌}
-use Prim.Native.Nat.{ℕ, zero, suc, ◌+◌, ◌*◌, ◌/◌, ◌<◌, ◌≤◌}
+use Prim.Native.Nat.{ℕ, zero, suc, min, ◌+◌, ◌*◌, ◌/◌, ◌<◌, ◌≤◌}
 use native.Mathlib.Omega.{arith}
-use borrow.Author.Tests.{le-leb}
+use borrow.Author.Tests.{le-leb, leb-true, leb-false}
 use native.Mathlib.Numerals.{add-one}
 use lib.ListN.{length, get_or, take, drop, set}
 use lib.Seq.{take_all, take_at, set_at, take-suc, drop-cons, append_snoc, length-take-le}
+use lib.Dec.{leb}
+use Rattle.std.proofs.Math.Nat.{min-eq_left, min-eq_right}
 use Rattle.layout.specs.Bytes.{words_of}
 use Rattle.words.specs.Load.{word_at, lesser, Loaded}
 
@@ -51,6 +54,14 @@ module _ (bytes before : List ℕ) where
       ∙ set_at (take i s) (get_or before i 0) (drop (suc i) before) (get_or s i 0) i (length-take-le i s (omega arith))
       ∙ sym (append_snoc (take i s) (get_or s i 0) (drop (suc i) before))
       ∙ ap (λ (r : List ℕ). r ++ drop (suc i) before) (sym (take-suc s i 0 l)))
+
+pub lesser-min : (a b : ℕ) → min a b ≡ lesser a b
+unfolding lesser
+lesser-min a b = go (leb a b) refl
+  where
+    go : (t : Bool) → leb a b ≡ t → min a b ≡ cond t a b
+    go true e = min-eq_left (leb-true a b e)
+    go false e = min-eq_right (let h = leb-false a b e in omega arith)
 
 pub lesser-first : (a b n : ℕ) → n ≡ lesser a b → a ≤ b → n ≡ a
 unfolding lesser

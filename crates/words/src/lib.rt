@@ -7,14 +7,14 @@ pub mod load; // load.rt: words from bytes
 pub mod decode; // decode.rt: what a word of an expression or a command stands for
 pub mod rows; // rows.rt: the table of rules
 
-#[derive(Clone, Copy)]
+#[derive(Clone, Copy, Debug, PartialEq, Eq)]
 pub enum Operator {
     Plus,
     Minus,
     Times,
 }
 
-#[derive(Clone, Copy)]
+#[derive(Clone, Copy, Debug, PartialEq, Eq)]
 pub enum Comparison {
     Equal,
     Less,
@@ -22,7 +22,7 @@ pub enum Comparison {
 }
 
 // Kinds 1 to 4; a constant with the integer of its payload. A word that is not of a group is its Other.
-#[derive(Clone, Copy)]
+#[derive(Clone, Copy, Debug, PartialEq, Eq)]
 pub enum ArithmeticWord {
     Constant(i64),
     Scalar(u32),
@@ -32,7 +32,7 @@ pub enum ArithmeticWord {
 }
 
 // Kinds 8 to 12.
-#[derive(Clone, Copy)]
+#[derive(Clone, Copy, Debug, PartialEq, Eq)]
 pub enum BooleanWord {
     Compare(Comparison),
     Truth(bool),
@@ -43,7 +43,7 @@ pub enum BooleanWord {
 }
 
 // Kinds 16 to 18.
-#[derive(Clone, Copy)]
+#[derive(Clone, Copy, Debug, PartialEq, Eq)]
 pub enum ArrayWord {
     Identifier(u32),
     Zeros,
@@ -52,7 +52,7 @@ pub enum ArrayWord {
 }
 
 // Kinds 24 to 31 and 38; a `for` has its scalar q, then its bound m, a call the number of its procedure.
-#[derive(Clone, Copy)]
+#[derive(Clone, Copy, Debug, PartialEq, Eq)]
 pub enum CommandWord {
     Skip,
     Sequence,
@@ -67,7 +67,7 @@ pub enum CommandWord {
 }
 
 // Kinds 33, 34 and 35.
-#[derive(Clone, Copy)]
+#[derive(Clone, Copy, Debug, PartialEq, Eq)]
 pub enum Judgement {
     Flow,
     Implication,
