@@ -1,158 +1,124 @@
 // The table of rules (document 01, "Rules"; document 02, request [3]): what stands after the word of each, what it carries and then its children.
-// A row is a number in base 8: its digits, the lowest first, are the items, and 0 is past the last.
 ghost use Rattle.std.specs.Prelude.{◌≡◌};
 ghost use Rattle.rules.specs.Evidence.{flow, implication, precondition};
-ghost use Rattle.words.specs.Rows.{row_of, row_due, judgement_meant};
+ghost use Rattle.words.specs.Rows.{row_of, row_due, row_meant, judgement_meant};
 
 use super::Judgement;
+use super::Judgement::{Flow, Implication, Precondition};
 use super::kinds::{FLOW, IMPLICATION, PRECONDITION};
+use Item::{Assertion, Child, Command, Members};
 
-// Items: a boolean, a command, a set; evidence of kinds 33, 34 and 35.
-pub const ASSERTION: u32 = 1;
-
-pub const COMMAND: u32 = 2;
-
-pub const MEMBERS: u32 = 3;
-
-pub const FLOW_CHILD: u32 = 4;
-
-pub const IMPLICATION_CHILD: u32 = 5;
-
-pub const PRECONDITION_CHILD: u32 = 6;
-
-// The row of a number that no rule has.
-pub const NO_RULE: u32 = 7;
-
-// Children that rules end with.
-const FLOWS: u32 = FLOW_CHILD + 8 * FLOW_CHILD;
-
-const IMPLICATIONS: u32 = IMPLICATION_CHILD + 8 * IMPLICATION_CHILD;
-
-const PRECONDITIONS: u32 = PRECONDITION_CHILD + 8 * PRECONDITION_CHILD;
-
-const FLOW_AND_PRE: u32 = FLOW_CHILD + 8 * PRECONDITION_CHILD;
-
-// Rows of the rules that have items.
-const FLOW_2: u32 = MEMBERS + 8 * FLOWS;
-
-const FLOW_6: u32 = MEMBERS + 8 * (MEMBERS + 8 * (ASSERTION + 8 * (FLOW_CHILD + 8 * FLOW_AND_PRE)));
-
-const FLOW_7: u32 = MEMBERS + 8 * (IMPLICATION_CHILD + 8 * FLOW_CHILD);
-
-const FLOW_8: u32 = MEMBERS + 8 * (FLOW_CHILD + 8 * IMPLICATION_CHILD);
-
-const FLOW_9: u32 = MEMBERS + 8 * (MEMBERS + 8 * (MEMBERS + 8 * (MEMBERS + 8 * FLOWS)));
-
-const FLOW_11: u32 = PRECONDITION_CHILD;
-
-const FLOW_12: u32 = MEMBERS + 8 * (MEMBERS + 8 * (ASSERTION + 8 * (ASSERTION + 8 * FLOW_AND_PRE)));
-
-const FLOW_13: u32 = FLOW_CHILD;
-
-const FLOW_14: u32 = COMMAND + 8 * FLOW_CHILD;
-
-const SET_16: u32 = MEMBERS + 8 * (MEMBERS + 8 * (MEMBERS + 8 * (MEMBERS + 8 * IMPLICATIONS)));
-
-const SET_17: u32 = MEMBERS + 8 * (MEMBERS + 8 * (MEMBERS + 8 * IMPLICATIONS));
-
-const PRE_20: u32 = ASSERTION + 8 * (ASSERTION + 8 * PRECONDITIONS);
-
-const PRE_21: u32 = ASSERTION + 8 * PRECONDITION_CHILD;
-
-const PRE_23: u32 = ASSERTION + 8 * PRECONDITIONS;
-
-const PRE_28: u32 = ASSERTION + 8 * PRECONDITION_CHILD;
-
-const PRE_30: u32 = COMMAND + 8 * PRECONDITION_CHILD;
-
-const PRE_32: u32 = PRECONDITION_CHILD;
+// What may stand after an evidence word: a boolean, a command, a set; evidence of a judgement.
+#[derive(Clone, Copy, Debug, PartialEq, Eq)]
+pub enum Item {
+    Assertion,
+    Command,
+    Members,
+    Child(Judgement),
+}
 
 // Rules of kind 33 by their numbers.
-pub fn flow_row(rule: u32) -> u32
-    ensures { result ≡ row_of flow rule }
+pub fn flow_row(rule: u32) -> Option<&'static [Item]>
+    ensures { row_meant result ≡ row_of flow rule }
 {
     match rule {
-        1 => 0,
-        2 => FLOW_2,
-        3 => 0,
-        4 => 0,
-        5 => 0,
-        6 => FLOW_6,
-        7 => FLOW_7,
-        8 => FLOW_8,
-        9 => FLOW_9,
-        10 => 0,
-        11 => FLOW_11,
-        12 => FLOW_12,
-        13 => FLOW_13,
-        14 => FLOW_14,
-        31 => 0,
-        _ => NO_RULE,
+        1 => Some(&[]),
+        2 => Some(&[Members, Child(Flow), Child(Flow)]),
+        3 => Some(&[]),
+        4 => Some(&[]),
+        5 => Some(&[]),
+        6 => Some(&[
+            Members,
+            Members,
+            Assertion,
+            Child(Flow),
+            Child(Flow),
+            Child(Precondition),
+        ]),
+        7 => Some(&[Members, Child(Implication), Child(Flow)]),
+        8 => Some(&[Members, Child(Flow), Child(Implication)]),
+        9 => Some(&[Members, Members, Members, Members, Child(Flow), Child(Flow)]),
+        10 => Some(&[]),
+        11 => Some(&[Child(Precondition)]),
+        12 => Some(&[
+            Members,
+            Members,
+            Assertion,
+            Assertion,
+            Child(Flow),
+            Child(Precondition),
+        ]),
+        13 => Some(&[Child(Flow)]),
+        14 => Some(&[Command, Child(Flow)]),
+        31 => Some(&[]),
+        _ => None,
     }
 }
 
 // Rules of kind 34.
-pub fn set_row(rule: u32) -> u32
-    ensures { result ≡ row_of implication rule }
+pub fn set_row(rule: u32) -> Option<&'static [Item]>
+    ensures { row_meant result ≡ row_of implication rule }
 {
     match rule {
-        13 => 0,
-        14 => 0,
-        15 => 0,
-        16 => SET_16,
-        17 => SET_17,
-        18 => 0,
-        19 => 0,
-        _ => NO_RULE,
+        13 => Some(&[]),
+        14 => Some(&[]),
+        15 => Some(&[]),
+        16 => Some(&[
+            Members,
+            Members,
+            Members,
+            Members,
+            Child(Implication),
+            Child(Implication),
+        ]),
+        17 => Some(&[
+            Members,
+            Members,
+            Members,
+            Child(Implication),
+            Child(Implication),
+        ]),
+        18 => Some(&[]),
+        19 => Some(&[]),
+        _ => None,
     }
 }
 
 // Rules of kind 35.
-pub fn pre_row(rule: u32) -> u32
-    ensures { result ≡ row_of precondition rule }
+pub fn pre_row(rule: u32) -> Option<&'static [Item]>
+    ensures { row_meant result ≡ row_of precondition rule }
 {
     match rule {
-        20 => PRE_20,
-        21 => PRE_21,
-        22 => 0,
-        23 => PRE_23,
-        24 => 0,
-        25 => 0,
-        26 => 0,
-        27 => 0,
-        28 => PRE_28,
-        29 => 0,
-        30 => PRE_30,
-        32 => PRE_32,
-        _ => NO_RULE,
+        20 => Some(&[
+            Assertion,
+            Assertion,
+            Child(Precondition),
+            Child(Precondition),
+        ]),
+        21 => Some(&[Assertion, Child(Precondition)]),
+        22 => Some(&[]),
+        23 => Some(&[Assertion, Child(Precondition), Child(Precondition)]),
+        24 => Some(&[]),
+        25 => Some(&[]),
+        26 => Some(&[]),
+        27 => Some(&[]),
+        28 => Some(&[Assertion, Child(Precondition)]),
+        29 => Some(&[]),
+        30 => Some(&[Command, Child(Precondition)]),
+        32 => Some(&[Child(Precondition)]),
+        _ => None,
     }
 }
 
 // The row of a word where evidence of the judgement is due. A word of another kind has none.
-pub fn evidence_row(judgement: Judgement, kind: u32, payload: u32) -> u32
-    ensures { result ≡ row_due (judgement_meant judgement) kind payload }
+#[tactic(auto, unfolding(crate::specs::Rows::row_due))]
+pub fn evidence_row(judgement: Judgement, kind: u32, payload: u32) -> Option<&'static [Item]>
+    ensures { row_meant result ≡ row_due (judgement_meant judgement) kind payload }
 {
     match judgement {
-        Judgement::Flow => {
-            if kind == FLOW {
-                flow_row(payload)
-            } else {
-                NO_RULE
-            }
-        }
-        Judgement::Implication => {
-            if kind == IMPLICATION {
-                set_row(payload)
-            } else {
-                NO_RULE
-            }
-        }
-        Judgement::Precondition => {
-            if kind == PRECONDITION {
-                pre_row(payload)
-            } else {
-                NO_RULE
-            }
-        }
+        Flow if kind == FLOW => flow_row(payload),
+        Implication if kind == IMPLICATION => set_row(payload),
+        Precondition if kind == PRECONDITION => pre_row(payload),
+        _ => None,
     }
 }
