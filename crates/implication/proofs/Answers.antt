@@ -7,6 +7,7 @@
 --     left-full, right-full                  too many comparisons
 --     is-formula, answered                   the formula of both; what its table says
 --     begun, begun-start, begun-room         the first two bytes
+use Rattle.std.specs.Prelude.{Err}
 use mathlib.Core.Path.{◌≡◌, refl, sym, ap, ◌∙◌}
 use mathlib.Core.Bool.{Bool, true, false}
 use mathlib.Core.List.{List, [], ◌∷◌, ◌++◌}
@@ -23,11 +24,10 @@ use Rattle.layout.specs.Standing.{PartStands}
 use Rattle.layout.proofs.Nodes.{node_inside}
 use Rattle.truth_table.specs.Formula.{spell, depth, Small, Spelled, IsFormula, Every}
 use Rattle.implication.specs.declared.Compiled.{Compiled}
-use Rattle.implication.specs.declared.Condition.{Condition}
-use Rattle.implication.specs.declared.Condition.TheVariants.{TooLarge}
+use Rattle.implication.specs.declared.Failure.TheVariants.{TooLarge}
 use Rattle.implication.specs.declared.Side.{Side}
 use Rattle.implication.specs.declared.Side.TheVariants.{One, Both, BothNot, False}
-use Rattle.implication.specs.Sides.{result_of, SideStands, RangeFits, SideFits, side_room}
+use Rattle.implication.specs.Sides.{Condition, result_of, SideStands, RangeFits, SideFits, side_room}
 use Rattle.implication.specs.Sides.{CanImply, Implied}
 use Rattle.implication.specs.Scanning.{Ranges}
 use Rattle.implication.specs.Compiling.{formula, Known, SideWritten, CanCompile, Coded, Compiles}
@@ -108,7 +108,7 @@ module _ {w : List ℕ} {left right : Side} {limit : ℕ} (can : CanImply w left
   module _ {starts₀ ends₀ prog₁ starts₁ ends₁ prog₂ : List ℕ} {x : Compiled}
       (space : 2 + side_room left + side_room right ≤ length prog₁)
       (A : Compiles w (SideWritten w left) limit 0 2 (side_room left) starts₀ ends₀ prog₁ starts₁ ends₁ prog₂ x) where
-    pub left-full : x.fits ≡ false → Implied w left right limit TooLarge
+    pub left-full : x.fits ≡ false → Implied w left right limit (Err TooLarge)
     left-full y = record {
       is = λ φ ψ d e s t Γ g.
           let f = A.full y φ [] (record { levels = d; stands = s }) known-none in
@@ -135,7 +135,7 @@ module _ {w : List ℕ} {left right : Side} {limit : ℕ} (can : CanImply w left
         first : Coded w φ [] 2 prog₁ starts₁ ends₁ prog₂ x
         first = A.fitting y φ [] (record { levels = d; stands = s }) known-none
 
-      pub right-full : z.fits ≡ false → Implied w left right limit TooLarge
+      pub right-full : z.fits ≡ false → Implied w left right limit (Err TooLarge)
       right-full v = record {
         is = λ φ ψ d e s t Γ g.
             let f = B.full v ψ (comparisons φ []) (record { levels = e; stands = t }) (first φ ψ d e s t).known in

@@ -1,26 +1,30 @@
 -- What an implication compares (document 01, rules 14, 18, 21 and 28), and the contract of `implies`.
 -- Working: `answered`, `left-full` and `right-full` of proofs/Answers tie it to `implication` of rules/specs/Condition.
 -- Assumes nothing.
---     result_of                  the result of a condition
+--     Condition, result_of       what trying a condition gives; its result
 --     PairStands, SideStands    the boolean that a side is
 --     RangeFits, SideFits       the ranges of a side are within a file
 --     side_room                  as many bytes as its formula may take
 --     CanImply, Implied         the contract
-use Rattle.std.specs.Prelude.{◌≡◌, false, List, ℕ, ◌+◌, ◌-◌, ◌≤◌, length}
+use Rattle.std.specs.Prelude.{◌≡◌, false, List, ℕ, ◌+◌, ◌-◌, ◌≤◌, length, Ok, Err}
+use Rattle.std.specs.Prelude as std
 use Rattle.language.specs.Syntax.{Boolean, Expr, truth, and, neg}
 use Rattle.rules.specs.Context.{Context}
 use Rattle.rules.specs.Condition.{Result, passes, fails, too_large, implication}
 use Rattle.layout.specs.EvidenceWords.{expression_part}
 use Rattle.layout.specs.Standing.{PartStands}
-use Rattle.implication.specs.declared.Condition.{Condition}
-use Rattle.implication.specs.declared.Condition.TheVariants.{Passes, Fails, TooLarge}
+use Rattle.implication.specs.declared.Failure.{Failure}
+use Rattle.implication.specs.declared.Failure.TheVariants.{Fails, TooLarge}
 use Rattle.implication.specs.declared.Side.{Side}
 use Rattle.implication.specs.declared.Side.TheVariants.{One, Both, BothNot, False}
 
+abbrev pub Condition : Type 0
+Condition = std.Result (Unit {0}) Failure
+
 abbrev pub result_of : Condition → Result
-result_of Passes = passes
-result_of Fails = fails
-result_of TooLarge = too_large
+result_of (Ok done) = passes
+result_of (Err Fails) = fails
+result_of (Err TooLarge) = too_large
 
 -- two booleans stand from a up to p and from b up to q, and χ is made of them
 pub record PairStands

@@ -10,10 +10,9 @@ ghost use Rattle.implication.specs.Sides.{SideFits, side_room, CanImply, Implied
 
 use compile::compile_side;
 
-// What a condition comes to (document 01, "Judging order", 8 and 9).
-#[derive(Clone, Copy)]
-pub enum Condition {
-    Passes,
+// Why a condition does not pass (document 01, "Judging order", 8 and 9).
+#[derive(Clone, Copy, Debug, PartialEq, Eq)]
+pub enum Failure {
     Fails,
     TooLarge,
 }
@@ -65,7 +64,13 @@ fn room(s: Side) -> usize
 }
 
 // Whether the one side implies the other, with bytes lent for the formula: not the left, or the right.
-fn decide_sides(w: &[u32], left: Side, right: Side, limit: usize, prog: &mut [u8]) -> Condition
+fn decide_sides(
+    w: &[u32],
+    left: Side,
+    right: Side,
+    limit: usize,
+    prog: &mut [u8],
+) -> Result<(), Failure>
     requires { CanImply w.now left right limit × (2 + side_room left + side_room right ≤ length prog.old) }
     ensures { Implied w.now left right limit result }
 {
@@ -76,26 +81,26 @@ fn decide_sides(w: &[u32], left: Side, right: Side, limit: usize, prog: &mut [u8
     let x = compile_side(w, left, limit, 0, 2, &mut starts, &mut ends, prog);
     let first = x.fits;
     if !first {
-        return Condition::TooLarge;
+        return Err(Failure::TooLarge);
     }
     let known = x.known;
     let len = x.len;
     let y = compile_side(w, right, limit, known, len, &mut starts, &mut ends, prog);
     let second = y.fits;
     if !second {
-        return Condition::TooLarge;
+        return Err(Failure::TooLarge);
     }
     let n = y.known;
     let total = y.len;
     let b = blocks(n);
     if truth_table::every(prog, total, b) {
-        return Condition::Passes;
+        return Ok(());
     }
-    Condition::Fails
+    Err(Failure::Fails)
 }
 
 // Whether the one side implies the other, over at most limit distinct comparisons (rules 14, 18, 21 and 28).
-pub fn implies(w: &[u32], left: Side, right: Side, limit: usize) -> Condition
+pub fn implies(w: &[u32], left: Side, right: Side, limit: usize) -> Result<(), Failure>
     requires { CanImply w.now left right limit }
     ensures { Implied w.now left right limit result }
 {
