@@ -22,9 +22,9 @@ use Rattle.rules.specs.Judge.{Verdict, accepted, refused, ◌also◌, RuleStep, 
 use Rattle.rules.specs.Judge.{flow_rule, set_rule, pre_rule, judge}
 use Rattle.layout.specs.Bytes.{payload_at}
 use Rattle.layout.proofs.BackEvidence.{rule-row}
-use Rattle.implication.specs.Sides.{result_of}
-use Rattle.implication.specs.declared.Condition.{Condition}
-use Rattle.implication.specs.declared.Condition.TheVariants.{Passes, Fails}
+use Rattle.std.specs.Prelude.{Ok, Err}
+use Rattle.implication.specs.Sides.{Condition, result_of}
+use Rattle.implication.specs.declared.Failure.TheVariants.{Fails}
 use Rattle.goals.specs.declared.Goal.{Goal}
 use Rattle.goals.specs.declared.Goal.TheVariants.{Flow, Set, Pre}
 use Rattle.ends.specs.Places.{WrittenAt, SetAt}
@@ -71,14 +71,14 @@ module _ {Γ : Context} {file ends : List ℕ} {d next end : ℕ} where
     judged = ap (λ w. verdict Γ t also (verdict Γ u also w)) (sym (also_none (verdict Γ v)));
   }
 
-not-passes : {r : Condition} → r ≡ Passes → r ≡ Fails → ⊥
+not-passes : {r : Condition} → r ≡ Ok tt → r ≡ Err Fails → ⊥
 not-passes e f = let z : ◌≡◌ {A = ℕ} 0 1 = cc in omega (arith, z)
 
 module _ {Γ : Context} {file ends : List ℕ} {s : RuleStep} {goals : List Goal} {d next end : ℕ} where
-  pub fails-comes : (v : Verdict) → s ≡ step fails v → ComesTo Γ file ends s goals d next end Fails
+  pub fails-comes : (v : Verdict) → s ≡ step fails v → ComesTo Γ file ends s goals d next end (Err Fails)
   fails-comes v e = record { children = v; is = e; stand = λ p. absurd (not-passes p refl) }
 
-  pub misfit-comes : s ≡ misfit → ComesTo Γ file ends s goals d next end Fails
+  pub misfit-comes : s ≡ misfit → ComesTo Γ file ends s goals d next end (Err Fails)
   misfit-comes e = fails-comes (accepted 0) e
 
   -- conditions with the result of the code's

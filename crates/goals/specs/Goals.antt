@@ -7,7 +7,7 @@
 --     ChildrenOf                     the goals of the children
 --     CanStep, CanTry, StepOf        the contract of a rule: what it asks for and what it promises
 --     CanJudge, JudgedOf             a contract for evidence judged
-use Rattle.std.specs.Prelude.{◌≡◌, List, [], ◌∷◌, ℕ, suc, ◌+◌, ◌≤◌, length}
+use Rattle.std.specs.Prelude.{◌≡◌, List, [], ◌∷◌, ℕ, suc, ◌+◌, ◌≤◌, length, Result, Ok, Err}
 use Rattle.language.specs.Syntax.{Boolean, Expr, Command}
 use Rattle.rules.specs.Assertion.{Members}
 use Rattle.rules.specs.Context.{Context}
@@ -15,13 +15,11 @@ use Rattle.rules.specs.Evidence.{Item, by, FlowEvidence, SetEvidence, PreEvidenc
 use Rattle.rules.specs.Judge.{Verdict, accepted, refused, ◌also◌, RuleStep, step, applied, flow_rule, set_rule, pre_rule, judge}
 use Rattle.layout.specs.Bytes.{payload_at}
 use Rattle.ends.specs.Ends.{EndsOf}
-use Rattle.implication.specs.Sides.{result_of}
-use Rattle.implication.specs.declared.Condition.{Condition}
-use Rattle.implication.specs.declared.Condition.TheVariants.{Passes}
+use Rattle.implication.specs.Sides.{Condition, result_of}
 use Rattle.goals.specs.declared.Goal.{Goal}
 use Rattle.goals.specs.declared.Goal.TheVariants.{Flow, Set, Pre}
 use Rattle.goals.specs.declared.Judged.{Judged}
-use Rattle.goals.specs.declared.Judged.TheVariants.{Accepted, Refused}
+use Rattle.context.specs.declared.Refusal.{Refusal}
 use Rattle.ends.specs.Places.{WrittenAt, SetAt}
 use Rattle.ends.specs.Procedures.{Procedures}
 use Rattle.goals.specs.Children.{children_at, past_carried}
@@ -81,7 +79,7 @@ module _ (Γ : Context) (file ends : List ℕ) where
   pub record ComesTo (s : RuleStep) (goals : List Goal) (d next end : ℕ) (r : Condition) : Type 0 where
     pub children : Verdict
     pub is : s ≡ step (result_of r) children
-    pub stand : r ≡ Passes → ChildrenOf children goals d next end
+    pub stand : r ≡ Ok tt → ChildrenOf children goals d next end
 
 -- what a rule asks for: the goal stands, with its evidence; the ends and the procedures are known; the file is small
 pub record CanStep (file ends : List ℕ) (Γ : Context) (goal : Goal) (at : ℕ) : Type 0 where
@@ -106,9 +104,13 @@ pub record StepOf (file ends : List ℕ) (Γ : Context) (goal : Goal) (at : ℕ)
       ComesTo Γ file ends (tree_step Γ g) (children_at file ends goal (payload_at file at) at) d
       (past_carried ends (tree_items g) (at + 1)) end r
 
-abbrev pub judged_of : Verdict → ℕ → Judged
-judged_of (accepted n) end = Accepted n end
-judged_of (refused k i) end = Refused (record { number = k; place = i })
+-- evidence judged as the code answers it: the count of its words and the place past it, or the refusal
+abbrev pub Answer : Type 0
+Answer = Result Judged Refusal
+
+abbrev pub judged_of : Verdict → ℕ → Answer
+judged_of (accepted n) end = Ok (record { count = n; end = end })
+judged_of (refused k i) end = Err (record { number = k; place = i })
 
 pub record CanJudge (file ends : List ℕ) (Γ : Context) (goal : Goal) (at left : ℕ) : Type 0 where
   pub ends_of : EndsOf file ends
@@ -120,5 +122,5 @@ pub record CanJudge (file ends : List ℕ) (Γ : Context) (goal : Goal) (at left
   pub end : ℕ
   pub goal-stands : GoalStands Γ file ends goal tree left at end
 
-pub record JudgedOf (file ends : List ℕ) (Γ : Context) (goal : Goal) (at left : ℕ) (r : Judged) : Type 0 where
+pub record JudgedOf (file ends : List ℕ) (Γ : Context) (goal : Goal) (at left : ℕ) (r : Answer) : Type 0 where
   pub judged : (g : TreeGoal) (end : ℕ) → GoalStands Γ file ends goal g left at end → r ≡ judged_of (verdict Γ g) end

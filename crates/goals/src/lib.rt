@@ -1,11 +1,12 @@
 // What is judged, by places in the file. Every set, command and assertion of a goal is written there.
 #![tactic(auto)]
 
+pub mod file; // the file that is judged
+
 ghost use Rattle.std.specs.Prelude.{◌≡◌};
 ghost use Rattle.goals.specs.Conditions.{condition_of};
 
-use context::Refusal;
-use implication::Condition;
+use implication::Failure;
 
 #[derive(Clone, Copy)]
 pub enum Goal {
@@ -17,20 +18,16 @@ pub enum Goal {
     Pre(usize, usize, usize),
 }
 
-// Evidence judged: the count of its words and the place past it; or the refusal.
+// Evidence judged: the count of its words, and the place past it.
 #[derive(Clone, Copy)]
-pub enum Judged {
-    Accepted(usize, usize),
-    Refused(Refusal),
+pub struct Judged {
+    pub count: usize,
+    pub end: usize,
 }
 
-// The condition of a test.
-pub fn condition(test: bool) -> Condition
+// A condition that is a test.
+pub fn ensure(test: bool) -> Result<(), Failure>
     ensures { result ≡ condition_of test }
 {
-    if test {
-        Condition::Passes
-    } else {
-        Condition::Fails
-    }
+    if test { Ok(()) } else { Err(Failure::Fails) }
 }
