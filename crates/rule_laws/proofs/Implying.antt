@@ -18,7 +18,7 @@ use Rattle.ends.specs.Ends.{EndsOf}
 use Rattle.ends.specs.Places.{end_at, WrittenAt, PartKnown}
 use Rattle.matching.specs.Places.{ExpressionAt}
 use Rattle.implication.specs.Sides.{CanImply, Implied}
-use Rattle.implication.specs.declared.Condition.{Condition}
+use Rattle.implication.specs.Sides.{Condition}
 use Rattle.implication.specs.declared.Side.TheVariants.{One}
 use Rattle.rule_laws.specs.Implications.{CanImplyAt, ImpliesAt}
 use Rattle.ends.proofs.Places.{node_known}

@@ -25,7 +25,7 @@ use Rattle.layout.proofs.SpelledEvidence.{head-inside}
 use Rattle.layout.proofs.BackEvidence.{rule-row}
 use Rattle.layout.proofs.Nodes.{Inside}
 use Rattle.implication.specs.Sides.{result_of}
-use Rattle.implication.specs.declared.Condition.{Condition}
+use Rattle.implication.specs.Sides.{Condition}
 use Rattle.goals.specs.Children.{judgement_of}
 use Rattle.goals.specs.Conditions.{condition_of}
 use Rattle.goals.specs.Resolved.{EvidenceAt}

@@ -7,8 +7,7 @@ use Rattle.rules.specs.Context.{Context}
 use Rattle.rules.specs.Condition.{implication}
 use Rattle.ends.specs.Ends.{EndsOf}
 use Rattle.matching.specs.Places.{ExpressionAt}
-use Rattle.implication.specs.Sides.{result_of}
-use Rattle.implication.specs.declared.Condition.{Condition}
+use Rattle.implication.specs.Sides.{Condition, result_of}
 use Rattle.ends.specs.Places.{WrittenAt}
 
 module _ (file ends : List ℕ) where

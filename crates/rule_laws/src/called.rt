@@ -3,14 +3,15 @@ ghost use Rattle.layout.specs.Bytes.{payload_at};
 ghost use Rattle.ends.specs.Procedures.{start_at};
 
 use ends::end_or_zero;
+use goals::file::File;
 use words::kinds::KIND;
 
 // Where the procedure that the call at c names starts: its body, then its precondition and its postcondition.
-pub fn start_of(w: &[u32], ends: &[u32], c: usize) -> usize
-    requires { (length w.now ≤ 8192) × (c < length w.now) }
-    ensures { result ≡ start_at w.now ends.now (payload_at w.now c) }
+pub fn start_of(file: &File, c: usize) -> usize
+    requires { (length file.now.words.now ≤ 8192) × (c < length file.now.words.now) }
+    ensures { result ≡ start_at file.now.words.now file.now.ends.now (payload_at file.now.words.now c) }
 {
-    let n = w.len();
-    let number = (w[c] % KIND) as usize;
-    end_or_zero(ends, n + 2 * (n / 32) + number)
+    let n = file.words.len();
+    let number = (file.words[c] % KIND) as usize;
+    end_or_zero(file.ends, n + 2 * (n / 32) + number)
 }

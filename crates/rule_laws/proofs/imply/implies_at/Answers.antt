@@ -11,9 +11,9 @@ pub end_at-q-requires : goal.end_at-q-requires
 end_at-q-requires c = let p = c.requires in (assertion-known p.ends_of p.right).listed
 
 pub implies-requires : goal.implies-requires
-implies-requires c = can-imply (most-comparisons c.args.context c.args.w.now) c.end_at-p.ensures c.end_at-q.ensures c.requires
+implies-requires c = can-imply (most-comparisons c.args.file.now.context c.args.file.now.words.now) c.end_at-p.ensures c.end_at-q.ensures c.requires
 
 pub returns : goal.returns
 returns c =
-    implies-at (most-comparisons c.args.context c.args.w.now) c.end_at-p.ensures
+    implies-at (most-comparisons c.args.file.now.context c.args.file.now.words.now) c.end_at-p.ensures
     c.end_at-q.ensures c.implies.ensures
