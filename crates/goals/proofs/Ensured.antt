@@ -3,6 +3,7 @@
 --     ensured, not-ensured    the test passes; it fails
 --     is-equal, not-equal     of a test of two numbers
 --     exits, exits-unequal    a rule whose test fails answers that its conditions fail
+--     by-test                 a rule that such a test decides
 use mathlib.Core.Path.{◌≡◌, refl, sym, subst, ◌∙◌}
 use mathlib.Core.Bool.{Bool, true, false}
 use mathlib.Core.List.{List}
@@ -52,3 +53,14 @@ module _ {file ends : List ℕ} {Γ : Context} {goal : Goal} {at : ℕ} {r : Con
   pub exits-unequal : {a n : ℕ} → ◌≡◌ {A = Condition} (Err e) (condition_of (eqb a n)) →
       ((a ≡ n → ⊥) → StepOf file ends Γ goal at (Err Fails)) → StepOf file ends Γ goal at r
   exits-unequal {a} {n} h f = exits h λ k. f (not-equal h)
+
+-- a rule that a test of two numbers decides
+module _ {file ends : List ℕ} {Γ : Context} {goal : Goal} {at a n : ℕ} {r : Condition} where
+  pub by-test : r ≡ condition_of (eqb a n) → ((a ≡ n → ⊥) → StepOf file ends Γ goal at (Err Fails)) →
+      (a ≡ n → StepOf file ends Γ goal at (Ok tt)) → StepOf file ends Γ goal at r
+  by-test h f g = subst (λ c. StepOf file ends Γ goal at c) (sym h) (go (eqb a n) (λ k. f (eqb-false a n k)) (λ k. g (eqb-true a n k)))
+    where
+      go : (b : Bool) → (b ≡ false → StepOf file ends Γ goal at (Err Fails)) → (b ≡ true → StepOf file ends Γ goal at (Ok tt)) →
+          StepOf file ends Γ goal at (condition_of b)
+      go true u v = v refl
+      go false u v = u refl

@@ -2,6 +2,8 @@
 -- Assumes nothing.
 --     if_fails            a command of another form
 --     can-split, if_rule  an `if`: what the code asks for; the rule
+use Rattle.std.specs.Prelude.{Err}
+use Rattle.implication.specs.declared.Failure.TheVariants.{Fails}
 use mathlib.Core.Path.{◌≡◌, sym, ap, subst}
 use mathlib.Core.Bool.{Bool}
 use mathlib.Core.List.{List}
@@ -14,8 +16,7 @@ use Rattle.layout.specs.Bytes.{kind_at}
 use Rattle.language.specs.Syntax.{Boolean}
 use Rattle.ends.specs.Places.{end_at}
 use Rattle.matching.specs.Places.{ExpressionAt}
-use Rattle.implication.specs.declared.Condition.{Condition}
-use Rattle.implication.specs.declared.Condition.TheVariants.{Fails}
+use Rattle.implication.specs.Sides.{Condition}
 use Rattle.goals.specs.Conditions.{condition_of}
 use Rattle.goals.specs.Goals.{CanTry, StepOf, pre-stands}
 use Rattle.goals.specs.declared.Goal.TheVariants.{Pre}
@@ -34,7 +35,7 @@ carried Γ file ends d at end (assertion φ₁ & assertion φ₂ & t) (a, (b, x)
     (record { tree = φ₁; there = a }, record { tree = φ₂; there = b })
 
 module _ {file ends : List ℕ} {Γ : Context} {f c g at : ℕ} (can : CanTry file ends Γ 20 (Pre f c g) at) where
-  pub if_fails : (kind_at file c ≡ 29 → ⊥) → StepOf file ends Γ (Pre f c g) at Fails
+  pub if_fails : (kind_at file c ≡ 29 → ⊥) → StepOf file ends Γ (Pre f c g) at (Err Fails)
   unfolding pre_rule
   if_fails h = misfit-rule can pre20 λ φ φ' e t y. other-than_if Γ misfit e _ (other-kind y h)
 

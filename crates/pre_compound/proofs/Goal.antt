@@ -8,6 +8,8 @@
 --     leaf-rule, misfit-rule           a rule with no children, by its conditions' result; a command of another form
 --     is_32                            the last rule that has children
 --     low_word, low-place, child-of    what the goal of a child is worked out from, by the rule's number
+use Rattle.std.specs.Prelude.{Err}
+use Rattle.implication.specs.declared.Failure.TheVariants.{Fails}
 use mathlib.Core.Path.{◌≡◌, refl, sym, subst}
 use mathlib.Core.List.{List, [], ◌∷◌}
 use Prim.Native.Nat.{ℕ, ◌+◌, ◌<◌}
@@ -18,9 +20,7 @@ use Rattle.language.specs.Syntax.{Boolean, Expr, Command}
 use Rattle.rules.specs.Context.{Context}
 use Rattle.rules.specs.Evidence.{Item, assertion_item, Rule, Parts, precondition, assertion, done, ◌&◌}
 use Rattle.rules.specs.Judge.{accepted, misfit, childless, applied, pre_rule, judge}
-use Rattle.implication.specs.Sides.{result_of}
-use Rattle.implication.specs.declared.Condition.{Condition}
-use Rattle.implication.specs.declared.Condition.TheVariants.{Fails}
+use Rattle.implication.specs.Sides.{Condition, result_of}
 use Rattle.goals.specs.Children.{children_at}
 use Rattle.goals.specs.Goals.{TreeGoal, GoalStands, pre-stands, ChildrenOf, CanTry, StepOf}
 use Rattle.goals.specs.declared.Goal.TheVariants.{Pre}
@@ -91,7 +91,7 @@ module _ {file ends : List ℕ} {Γ : Context} {f c g at : ℕ} where
 
     pub misfit-rule : {l : List Item} (r : Rule precondition n l) →
         ((φ φ' : Expr Boolean) (e : Command) (t : Parts l) → ResolvedAt file ends Γ e c →
-        applied l (pre_rule Γ r) (judge Γ t) φ e φ' ≡ misfit) → StepOf file ends Γ (Pre f c g) at Fails
+        applied l (pre_rule Γ r) (judge Γ t) φ e φ' ≡ misfit) → StepOf file ends Γ (Pre f c g) at (Err Fails)
     misfit-rule r h = pre-rule can r λ φ φ' e t d end x y z s. misfit-comes (h φ φ' e t y)
 
 -- rules 20, 21, 23, 28, 30 and 32 alone have children

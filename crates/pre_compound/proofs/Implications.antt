@@ -1,8 +1,10 @@
 -- The two implications of rule 21 (document 01).
 -- Assumes nothing.
 --     can-first, can-second          calls of `implies` for the two conditions
---     repeats_first, repeats_both    what they answer
---     fails-first, large-first       a first condition that does not pass settles
+--     repeats_first, repeats_both    what they answer; a first condition that does not pass settles
+use Rattle.std.specs.Prelude.{Ok, Err}
+use Rattle.implication.specs.declared.Failure.{Failure}
+use Rattle.implication.specs.declared.Failure.TheVariants.{Fails, TooLarge}
 use mathlib.Core.Path.{◌≡◌, refl, sym, ap, ◌∙◌}
 use mathlib.Core.List.{List}
 use Prim.Native.Nat.{ℕ}
@@ -11,12 +13,16 @@ use Rattle.language.specs.Syntax.{Boolean, Expr, and, neg}
 use Rattle.rules.specs.Context.{Context}
 use Rattle.rules.specs.Condition.{Result, ◌then◌, implication}
 use Rattle.ends.specs.Places.{end_at, WrittenAt}
-use Rattle.implication.specs.Sides.{result_of, CanImply, Implied}
-use Rattle.implication.specs.declared.Condition.{Condition}
-use Rattle.implication.specs.declared.Condition.TheVariants.{Passes, Fails, TooLarge}
+use Rattle.implication.specs.Sides.{Condition, result_of, CanImply, Implied}
 use Rattle.implication.specs.declared.Side.TheVariants.{One, Both, BothNot}
 use Rattle.rule_laws.proofs.Implying.{deep}
 use Rattle.pre_compound.specs.Conditions.{CanRepeat, RepeatsAt}
+
+-- failure and size absorb what follows
+settled : (e : Failure) (s : Result) → (result_of (Err e) then s) ≡ result_of (Err e)
+unfolding ◌then◌
+settled Fails s = refl
+settled TooLarge s = refl
 
 -- the two conditions of rule 21, with φ0 at a, the test at b, φ' at g and φ at f
 module _ {file ends : List ℕ} {limit a b f p q to : ℕ} (e : p ≡ end_at ends a) (h : q ≡ end_at ends b)
@@ -49,11 +55,12 @@ module _ {file ends : List ℕ} {limit a b f p q to : ℕ} (e : p ≡ end_at end
         (deep i z) Γ l
 
     -- it does not pass
-    pub repeats_first : {g : ℕ} (r : Condition) → first ≡ r → ((s : Result) → (result_of r then s) ≡ result_of r) →
+    pub repeats_first : {g : ℕ} {e : Failure} {r : Condition} → first ≡ Err e → (y : Failure) × (r ≡ Err y) × (y ≡ e) →
         RepeatsAt file ends limit a b g f r
-    repeats_first r k stop = record {
+    repeats_first {e = e} k out = record {
       is = λ φ₀ t φ' φ u v y z Γ l.
-          sym (stop (implication Γ (and φ' (neg t)) φ))
+          ap result_of (out.1 ∙ ap Err out.2)
+          ∙ sym (settled e (implication Γ (and φ' (neg t)) φ))
           ∙ ap (λ (j : Result). j then implication Γ (and φ' (neg t)) φ)
           (ap result_of (sym k) ∙ answer φ₀ t φ u v z Γ l);
     }
@@ -78,7 +85,7 @@ module _ {file ends : List ℕ} {limit a b f p q to : ℕ} (e : p ≡ end_at end
       }
 
       -- it passes, and the second condition settles
-      pub repeats_both : first ≡ Passes → {r : Condition} → Implied file (BothNot g past b q) (One f to) limit r →
+      pub repeats_both : first ≡ Ok tt → {r : Condition} → Implied file (BothNot g past b q) (One f to) limit r →
           RepeatsAt file ends limit a b g f r
       unfolding ◌then◌
       repeats_both k y = record {
@@ -89,12 +96,3 @@ module _ {file ends : List ℕ} {limit a b f p q to : ℕ} (e : p ≡ end_at end
             ∙ ap (λ (s : Result). s then implication Γ (and φ' (neg t)) φ)
             (ap result_of (sym k) ∙ answer φ₀ t φ u v z Γ l);
       }
-
--- failure and size absorb what follows
-pub fails-first : (s : Result) → (result_of Fails then s) ≡ result_of Fails
-unfolding ◌then◌
-fails-first s = refl
-
-pub large-first : (s : Result) → (result_of TooLarge then s) ≡ result_of TooLarge
-unfolding ◌then◌
-large-first s = refl

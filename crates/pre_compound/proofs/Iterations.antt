@@ -2,6 +2,8 @@
 -- Assumes nothing.
 --     while-fails, can-repeat, while-rule    rule 21
 --     for-fails, can-mean, for-rule          rule 30
+use Rattle.std.specs.Prelude.{Err}
+use Rattle.implication.specs.declared.Failure.TheVariants.{Fails}
 use mathlib.Core.Path.{◌≡◌, ap, subst}
 use mathlib.Core.Bool.{Bool}
 use mathlib.Core.List.{List}
@@ -12,8 +14,7 @@ use Rattle.rules.specs.Condition.{by_form}
 use Rattle.rules.specs.Evidence.{row, Parts, assertion, command, child, done, ◌&◌, pre21, pre30}
 use Rattle.rules.specs.Judge.{misfit, pre_rule, judge}
 use Rattle.layout.specs.Bytes.{kind_at}
-use Rattle.implication.specs.declared.Condition.{Condition}
-use Rattle.implication.specs.declared.Condition.TheVariants.{Fails}
+use Rattle.implication.specs.Sides.{Condition}
 use Rattle.ends.specs.Ends.{EndsOf}
 use Rattle.goals.specs.Conditions.{condition_of}
 use Rattle.goals.specs.Goals.{CanTry, StepOf, pre-stands}
@@ -29,7 +30,7 @@ use Rattle.pre_compound.specs.Conditions.{CanRepeat, RepeatsAt}
 use Rattle.pre_compound.proofs.Goal.{here, command-head, first-carried, misfit-rule}
 
 module _ {file ends : List ℕ} {Γ : Context} {f c g at : ℕ} (can : CanTry file ends Γ 21 (Pre f c g) at) where
-  pub while-fails : (kind_at file c ≡ 30 → ⊥) → StepOf file ends Γ (Pre f c g) at Fails
+  pub while-fails : (kind_at file c ≡ 30 → ⊥) → StepOf file ends Γ (Pre f c g) at (Err Fails)
   unfolding pre_rule
   while-fails h = misfit-rule can pre21 λ φ φ' e t y. other-than_while Γ misfit e _ (other-kind y h)
 
@@ -65,7 +66,7 @@ carried-known : (Γ : Context) (file ends : List ℕ) (d at end : ℕ) → EndsO
 carried-known Γ file ends d at end o (command e & t) (a, x) = node_known o a.there
 
 module _ {file ends : List ℕ} {Γ : Context} {f c g at : ℕ} (can : CanTry file ends Γ 30 (Pre f c g) at) where
-  pub for-fails : (kind_at file c ≡ 31 → ⊥) → StepOf file ends Γ (Pre f c g) at Fails
+  pub for-fails : (kind_at file c ≡ 31 → ⊥) → StepOf file ends Γ (Pre f c g) at (Err Fails)
   unfolding pre_rule
   for-fails h = misfit-rule can pre30 λ φ φ' e t y. other-than_for Γ misfit e _ (other-kind y h)
 

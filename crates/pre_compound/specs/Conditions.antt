@@ -17,8 +17,7 @@ use Rattle.ends.specs.Ends.{EndsOf}
 use Rattle.matching.specs.Places.{ExpressionAt}
 use Rattle.compare.specs.Trees.{PutStands, HasPut}
 use Rattle.matching.specs.declared.cursor.Put.{Put}
-use Rattle.implication.specs.Sides.{result_of}
-use Rattle.implication.specs.declared.Condition.{Condition}
+use Rattle.implication.specs.Sides.{Condition, result_of}
 use Rattle.ends.specs.Places.{end_at, WrittenAt}
 
 -- the right side at a, for the identifier that the word is

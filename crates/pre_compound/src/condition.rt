@@ -2,38 +2,39 @@ ghost use Rattle.pre_compound.specs.Conditions.{CanSplit, SplitAt, CanJoin, Join
 
 use compare::antecedent::{Antecedent, same_antecedent};
 use ends::end_at;
+use goals::file::File;
 use matching::cursor::Put;
 
 // Rule 20: whether φ at f is (φ1 ∧ B) ∨ (φ2 ∧ ¬B), with B at b, φ1 at p and φ2 at q.
-pub fn is_split(w: &[u32], ends: &[u32], f: usize, b: usize, p: usize, q: usize) -> bool
-    requires { CanSplit w.now ends.now f b p q }
-    ensures { SplitAt w.now ends.now f b p q result }
+pub fn is_split(file: &File, f: usize, b: usize, p: usize, q: usize) -> bool
+    requires { CanSplit file.now.words.now file.now.ends.now f b p q }
+    ensures { SplitAt file.now.words.now file.now.ends.now f b p q result }
 {
-    same_antecedent(w, ends, f, Antecedent::Split(p, q, b))
+    same_antecedent(file.words, file.ends, f, Antecedent::Split(p, q, b))
 }
 
 // Rule 26: whether φ at f is φ' ∧ B, with φ' at g and B at b.
-pub fn is_join(w: &[u32], ends: &[u32], f: usize, g: usize, b: usize) -> bool
-    requires { CanJoin w.now ends.now f g b }
-    ensures { JoinAt w.now ends.now f g b result }
+pub fn is_join(file: &File, f: usize, g: usize, b: usize) -> bool
+    requires { CanJoin file.now.words.now file.now.ends.now f g b }
+    ensures { JoinAt file.now.words.now file.now.ends.now f g b result }
 {
-    same_antecedent(w, ends, f, Antecedent::And(g, b))
+    same_antecedent(file.words, file.ends, f, Antecedent::And(g, b))
 }
 
 // Rules 24 and 25: whether φ at f is φ' at g with the right side at a in the place of the identifier's word.
-pub fn is_replaced(w: &[u32], ends: &[u32], f: usize, g: usize, word: u32, a: usize) -> bool
-    requires { CanReplace w.now ends.now f g word a }
-    ensures { ReplacedAt w.now ends.now f g word a result }
+pub fn is_replaced(file: &File, f: usize, g: usize, word: u32, a: usize) -> bool
+    requires { CanReplace file.now.words.now file.now.ends.now f g word a }
+    ensures { ReplacedAt file.now.words.now file.now.ends.now f g word a result }
 {
-    let to = end_at(ends, a);
+    let to = end_at(file.ends, a);
     let put = Put { word, from: a, to };
-    same_antecedent(w, ends, f, Antecedent::Replaced(g, put))
+    same_antecedent(file.words, file.ends, f, Antecedent::Replaced(g, put))
 }
 
 // Rule 29: whether φ at f is true.
-pub fn is_true(w: &[u32], ends: &[u32], f: usize) -> bool
-    requires { CanTrue w.now ends.now f }
-    ensures { TrueAt w.now ends.now f result }
+pub fn is_true(file: &File, f: usize) -> bool
+    requires { CanTrue file.now.words.now file.now.ends.now f }
+    ensures { TrueAt file.now.words.now file.now.ends.now f result }
 {
-    same_antecedent(w, ends, f, Antecedent::True)
+    same_antecedent(file.words, file.ends, f, Antecedent::True)
 }

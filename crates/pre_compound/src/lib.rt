@@ -1,6 +1,6 @@
 // The rules of necessary preconditions of compound commands (document 01, rules 20, 21, 23 and 30), tried at an evidence
-// word of kind 35. All take the same, also what a rule does not ask for: the file, its ends, the context, the place of
-// the evidence word, and the places f, c and g of the assertion, the command and the other assertion.
+// word of kind 35. All take the same, also what a rule does not ask for: the file, the place of the evidence word, and
+// the places f, c and g of the assertion, the command and the other assertion.
 #![tactic(auto)]
 
 pub mod condition; // the rules' tests of assertions, by plain forms

@@ -1,29 +1,28 @@
 -- `pre_compound::iteration::rule_21` meets its contract.
 -- Assumes nothing.
 use native.Mathlib.Omega.{arith}
+use Rattle.std.proofs.lemmas.Result.{err_from_is_err_and}
 use Rattle.context.proofs.Limits.{most-comparisons}
-use Rattle.rule_laws.proofs.Trying.{low-head}
-use Rattle.pre_compound.proofs.Goal.{command-head, low-command}
+use Rattle.goals.proofs.Ensured.{is-equal, exits-unequal}
+use Rattle.pre_compound.proofs.Goal.{command-head}
 use Rattle.pre_compound.proofs.Iterations.{while-fails, can-repeat, while-rule}
 use Rattle.pre_compound.proofs.iteration.rule_21.Goals as goal
 
-pub offset_bounds-w-c : goal.offset_bounds-w-c
-offset_bounds-w-c c = let i = command-head c.requires in omega arith
+pub offset_bounds-file-c : goal.offset_bounds-file-c
+offset_bounds-file-c c = let i = command-head c.requires in omega arith
 
-pub bounds-w-c : goal.bounds-w-c
-bounds-w-c c = command-head c.requires
+pub bounds-file-c : goal.bounds-file-c
+bounds-file-c c = command-head c.requires
 
-pub returns-then-w-c-ne-WHILE : goal.returns-then-w-c-ne-WHILE
-returns-then-w-c-ne-WHILE c = while-fails c.requires c.if-w-c-ne-WHILE.true
-
-pub overflow_add-at : goal.overflow_add-at
-overflow_add-at c = let i = low-head c.requires in omega arith
-
-pub overflow_add-c : goal.overflow_add-c
-overflow_add-c c = let i = low-command c.requires in omega arith
+pub returns-in_err-ensure : goal.returns-in_err-ensure
+returns-in_err-ensure c =
+    exits-unequal (err_from_is_err_and _ c.from_residual.ensures.1) c.in_err-ensure.ensures (while-fails c.requires)
 
 pub repeats-requires : goal.repeats-requires
-repeats-requires c = can-repeat c.requires c.if-w-c-ne-WHILE.false (most-comparisons c.args.context _)
+repeats-requires c =
+    can-repeat c.requires (is-equal c.in_ok-ensure.ensures) (most-comparisons c.args.file.now.context _)
 
 pub returns : goal.returns
-returns c = while-rule c.requires c.if-w-c-ne-WHILE.false (most-comparisons c.args.context _) c.repeats.ensures
+returns c =
+    while-rule c.requires (is-equal c.in_ok-ensure.ensures) (most-comparisons c.args.file.now.context _)
+    c.repeats.ensures
