@@ -9,13 +9,14 @@ use mathlib.Core.Bool.{Bool}
 use mathlib.Core.List.{List}
 use Prim.Native.Nat.{ℕ, ◌+◌}
 use Rattle.language.specs.Syntax.{Assignment, to_scalar, to_array}
+use Rattle.std.specs.Prelude.{Err}
 use Rattle.rules.specs.Context.{Context}
 use Rattle.rules.specs.Condition.{by_form}
 use Rattle.rules.specs.Evidence.{pre22, pre24, pre25, pre26}
 use Rattle.rules.specs.Judge.{misfit, childless, pre_rule}
 use Rattle.layout.specs.Bytes.{kind_at, payload_at, word_of}
-use Rattle.implication.specs.declared.Condition.{Condition}
-use Rattle.implication.specs.declared.Condition.TheVariants.{Fails}
+use Rattle.implication.specs.Sides.{Condition}
+use Rattle.implication.specs.declared.Failure.TheVariants.{Fails}
 use Rattle.goals.specs.Conditions.{condition_of}
 use Rattle.goals.specs.Goals.{CanTry, StepOf}
 use Rattle.goals.specs.declared.Goal.TheVariants.{Pre}
@@ -29,7 +30,7 @@ use Rattle.pre_compound.proofs.Goal.{here, first-boolean, second-boolean, leaf-r
 
 module _ {file ends : List ℕ} {Γ : Context} {f c g at : ℕ} where
   module _ (can : CanTry file ends Γ 22 (Pre f c g) at) where
-    pub skip-fails : (kind_at file c ≡ 24 → ⊥) → StepOf file ends Γ (Pre f c g) at Fails
+    pub skip-fails : (kind_at file c ≡ 24 → ⊥) → StepOf file ends Γ (Pre f c g) at (Err Fails)
     unfolding pre_rule
     skip-fails h = leaf-rule can pre22 refl λ φ φ' e x y z. other-than_skip Γ misfit e _ (other-kind y h)
 
@@ -49,7 +50,7 @@ module _ {file ends : List ℕ} {Γ : Context} {f c g at : ℕ} where
   }
 
   module _ (can : CanTry file ends Γ 24 (Pre f c g) at) where
-    pub scalar-fails : (kind_at file c ≡ 27 → ⊥) → StepOf file ends Γ (Pre f c g) at Fails
+    pub scalar-fails : (kind_at file c ≡ 27 → ⊥) → StepOf file ends Γ (Pre f c g) at (Err Fails)
     unfolding pre_rule
     scalar-fails h = leaf-rule can pre24 refl λ φ φ' e x y z. other-than_scalar Γ misfit e _ (other-kind y h)
 
@@ -69,7 +70,7 @@ module _ {file ends : List ℕ} {Γ : Context} {f c g at : ℕ} where
           ap (λ u. pre_rule Γ pre24 φ u φ') a.is ∙ ap childless (sym (tested i is))
 
   module _ (can : CanTry file ends Γ 25 (Pre f c g) at) where
-    pub array-fails : (kind_at file c ≡ 28 → ⊥) → StepOf file ends Γ (Pre f c g) at Fails
+    pub array-fails : (kind_at file c ≡ 28 → ⊥) → StepOf file ends Γ (Pre f c g) at (Err Fails)
     unfolding pre_rule
     array-fails h = leaf-rule can pre25 refl λ φ φ' e x y z. other-than_array Γ misfit e _ (other-kind y h)
 
@@ -89,7 +90,7 @@ module _ {file ends : List ℕ} {Γ : Context} {f c g at : ℕ} where
           ap (λ u. pre_rule Γ pre25 φ u φ') a.is ∙ ap childless (sym (tested i is))
 
   module _ (can : CanTry file ends Γ 26 (Pre f c g) at) where
-    pub assert-fails : (kind_at file c ≡ 26 → ⊥) → StepOf file ends Γ (Pre f c g) at Fails
+    pub assert-fails : (kind_at file c ≡ 26 → ⊥) → StepOf file ends Γ (Pre f c g) at (Err Fails)
     unfolding pre_rule
     assert-fails h = leaf-rule can pre26 refl λ φ φ' e x y z. other-than_assert Γ misfit e _ (other-kind y h)
 

@@ -9,7 +9,7 @@ use Prim.Native.Nat.{ℕ, ◌+◌}
 use Rattle.rules.specs.Context.{Context}
 use Rattle.rules.specs.Evidence.{assertion, child, done, ◌&◌, pre28, pre29}
 use Rattle.rules.specs.Judge.{childless, pre_rule, judge}
-use Rattle.implication.specs.declared.Condition.{Condition}
+use Rattle.implication.specs.Sides.{Condition}
 use Rattle.goals.specs.Conditions.{condition_of}
 use Rattle.goals.specs.Goals.{CanTry, StepOf, pre-stands}
 use Rattle.goals.specs.declared.Goal.TheVariants.{Pre}

@@ -25,21 +25,6 @@ child_32-requires c =
     let e = is_32 p n.0.0.0.0.1 n.0.0.0.1 n.0.0.1 n.0.1 n.1 in
     (p.size, p.command, child-of e p)
 
-pub returns-in-20 : goal.returns-in-20
-returns-in-20 c = rw c.in-20.is c.child_20.ensures
-
-pub returns-in-21 : goal.returns-in-21
-returns-in-21 c = rw c.in-21.is c.child_21.ensures
-
-pub returns-in-23 : goal.returns-in-23
-returns-in-23 c = rw c.in-23.is c.child_23.ensures
-
-pub returns-in-28 : goal.returns-in-28
-returns-in-28 c = rw c.in-28.is c.child_28.ensures
-
-pub returns-in-30 : goal.returns-in-30
-returns-in-30 c = rw c.in-30.is c.child_30.ensures
-
 pub returns-in_default : goal.returns-in_default
 returns-in_default c =
     let n = c.in_default.in_default-own.rest in

@@ -1,24 +1,24 @@
 -- `pre_rules::command::rule_24` meets its contract.
 -- Assumes nothing.
 use native.Mathlib.Omega.{arith}
-use Rattle.pre_compound.proofs.Goal.{command-head, low-command}
+use Rattle.std.proofs.lemmas.Result.{err_from_is_err_and}
+use Rattle.goals.proofs.Ensured.{is-equal, exits-unequal}
+use Rattle.pre_compound.proofs.Goal.{command-head}
 use Rattle.pre_rules.proofs.Commands.{can-scalar, scalar-fails, scalar-rule}
 use Rattle.pre_rules.proofs.command.rule_24.Goals as goal
 
-pub offset_bounds-w-c : goal.offset_bounds-w-c
-offset_bounds-w-c c = let i = command-head c.requires in omega arith
+pub offset_bounds-file-c : goal.offset_bounds-file-c
+offset_bounds-file-c c = let i = command-head c.requires in omega arith
 
-pub bounds-w-c : goal.bounds-w-c
-bounds-w-c c = command-head c.requires
+pub bounds-file-c : goal.bounds-file-c
+bounds-file-c c = command-head c.requires
 
-pub returns-then-x-ne-TO_SCALAR : goal.returns-then-x-ne-TO_SCALAR
-returns-then-x-ne-TO_SCALAR c = scalar-fails c.requires c.if-x-ne-TO_SCALAR.true
-
-pub overflow_add-c : goal.overflow_add-c
-overflow_add-c c = let i = low-command c.requires in omega arith
+pub returns-in_err-ensure : goal.returns-in_err-ensure
+returns-in_err-ensure c =
+    exits-unequal (err_from_is_err_and _ c.from_residual.ensures.1) c.in_err-ensure.ensures (scalar-fails c.requires)
 
 pub is_replaced-requires : goal.is_replaced-requires
-is_replaced-requires c = can-scalar c.requires c.if-x-ne-TO_SCALAR.false
+is_replaced-requires c = can-scalar c.requires (is-equal c.in_ok-ensure.ensures)
 
 pub returns : goal.returns
-returns c = scalar-rule c.requires c.if-x-ne-TO_SCALAR.false c.is_replaced.ensures c.condition.ensures
+returns c = scalar-rule c.requires (is-equal c.in_ok-ensure.ensures) c.is_replaced.ensures c.ensure-2.ensures

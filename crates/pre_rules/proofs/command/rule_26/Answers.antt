@@ -1,24 +1,24 @@
 -- `pre_rules::command::rule_26` meets its contract.
 -- Assumes nothing.
 use native.Mathlib.Omega.{arith}
-use Rattle.pre_compound.proofs.Goal.{command-head, low-command}
+use Rattle.std.proofs.lemmas.Result.{err_from_is_err_and}
+use Rattle.goals.proofs.Ensured.{is-equal, exits-unequal}
+use Rattle.pre_compound.proofs.Goal.{command-head}
 use Rattle.pre_rules.proofs.Commands.{can-join, assert-fails, assert-rule}
 use Rattle.pre_rules.proofs.command.rule_26.Goals as goal
 
-pub offset_bounds-w-c : goal.offset_bounds-w-c
-offset_bounds-w-c c = let i = command-head c.requires in omega arith
+pub offset_bounds-file-c : goal.offset_bounds-file-c
+offset_bounds-file-c c = let i = command-head c.requires in omega arith
 
-pub bounds-w-c : goal.bounds-w-c
-bounds-w-c c = command-head c.requires
+pub bounds-file-c : goal.bounds-file-c
+bounds-file-c c = command-head c.requires
 
-pub returns-then-w-c-ne-ASSERT : goal.returns-then-w-c-ne-ASSERT
-returns-then-w-c-ne-ASSERT c = assert-fails c.requires c.if-w-c-ne-ASSERT.true
-
-pub overflow_add-c : goal.overflow_add-c
-overflow_add-c c = let i = low-command c.requires in omega arith
+pub returns-in_err-ensure : goal.returns-in_err-ensure
+returns-in_err-ensure c =
+    exits-unequal (err_from_is_err_and _ c.from_residual.ensures.1) c.in_err-ensure.ensures (assert-fails c.requires)
 
 pub is_join-requires : goal.is_join-requires
-is_join-requires c = can-join c.requires c.if-w-c-ne-ASSERT.false
+is_join-requires c = can-join c.requires (is-equal c.in_ok-ensure.ensures)
 
 pub returns : goal.returns
-returns c = assert-rule c.requires c.if-w-c-ne-ASSERT.false c.is_join.ensures c.condition.ensures
+returns c = assert-rule c.requires (is-equal c.in_ok-ensure.ensures) c.is_join.ensures c.ensure-2.ensures

@@ -8,4 +8,4 @@ pub is_true-requires : goal.is_true-requires
 is_true-requires c = let p = c.requires in record { ends_of = p.can.ends_of; whole = first-boolean p }
 
 pub returns : goal.returns
-returns c = true-rule c.requires c.is_true.ensures c.condition.ensures
+returns c = true-rule c.requires c.is_true.ensures c.ensure.ensures
