@@ -11,7 +11,8 @@ use Rattle.rules.specs.Condition.{by_form, on_one}
 use Rattle.rules.specs.Evidence.{Parts, row, flow6, members, assertion, child, done, ◌&◌}
 use Rattle.rules.specs.Judge.{misfit, flow_rule, judge}
 use Rattle.layout.specs.Bytes.{kind_at}
-use Rattle.implication.specs.declared.Condition.TheVariants.{Fails}
+use Rattle.std.specs.Prelude.{Err}
+use Rattle.implication.specs.declared.Failure.TheVariants.{Fails}
 use Rattle.goals.specs.declared.Goal.TheVariants.{Flow}
 use Rattle.goals.specs.Conditions.{condition_of}
 use Rattle.goals.specs.Goals.{flow-stands, pre-stands, CanTry, StepOf}
@@ -25,12 +26,12 @@ use Rattle.set_laws.proofs.Sets.{has-set, is_one, not-one}
 use Rattle.flow_compound.proofs.Goal.{second, third, by-test, trees}
 
 module _ {Γ : Context} {file ends : List ℕ} {p c q at : ℕ} (can : CanTry file ends Γ 6 (Flow p c q) at) where
-  pub not-if : (kind_at file c ≡ 29 → ⊥) → StepOf file ends Γ (Flow p c q) at Fails
+  pub not-if : (kind_at file c ≡ 29 → ⊥) → StepOf file ends Γ (Flow p c q) at (Err Fails)
   unfolding flow_rule
   not-if h = flow-rule can flow6 λ x y e t d end a k z s. misfit-comes (other-than_if Γ misfit e _ (other-kind k h))
 
   module _ (h : kind_at file c ≡ 29) where
-    pub not-one_after : (count_at file q ≡ 1 → ⊥) → StepOf file ends Γ (Flow p c q) at Fails
+    pub not-one_after : (count_at file q ≡ 1 → ⊥) → StepOf file ends Γ (Flow p c q) at (Err Fails)
     unfolding flow_rule by_form
     not-one_after n = flow-rule can flow6 λ x y e t d end a k z s.
         rw (is-if can.can.ends_of k h).is (misfit-comes (not-one z misfit _ n))

@@ -19,7 +19,8 @@ use Rattle.rules.specs.Evidence.{done, Parts}
 use Rattle.rules.specs.Condition.{Result, test, ◌then◌}
 use Rattle.rules.specs.Judge.{Verdict, RuleStep, step}
 use Rattle.ends.specs.Places.{end_at, SetAt}
-use Rattle.implication.specs.declared.Condition.TheVariants.{Fails}
+use Rattle.std.specs.Prelude.{Err}
+use Rattle.implication.specs.declared.Failure.TheVariants.{Fails}
 use Rattle.goals.specs.declared.Goal.{Goal}
 use Rattle.goals.specs.declared.Goal.TheVariants.{Flow}
 use Rattle.goals.specs.Conditions.{condition_of}
@@ -59,7 +60,7 @@ module _ {Γ : Context} {file ends : List ℕ} {s : RuleStep} {goals : List Goal
   by-test e h k = test-comes v a (e ∙ ap (λ i. step (test i) v) (sym h)) (λ _. k)
 
   pub first-fails : (x : Result) → s ≡ step (test b then x) v → a ≡ b → a ≡ false →
-      ComesTo Γ file ends s goals d next end Fails
+      ComesTo Γ file ends s goals d next end (Err Fails)
   first-fails x e h f = fails-comes v (e ∙ ap (λ i. step i v) (then-fails x (sym h ∙ f)))
 
   pub second-test : {x : Bool} → s ≡ step (test x then test b) v → x ≡ true → a ≡ b →

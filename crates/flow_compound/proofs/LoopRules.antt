@@ -11,7 +11,8 @@ use Rattle.rules.specs.Condition.{by_form}
 use Rattle.rules.specs.Evidence.{Parts, row, flow13, flow14, command, child, done, ◌&◌}
 use Rattle.rules.specs.Judge.{misfit, flow_rule, judge}
 use Rattle.layout.specs.Bytes.{kind_at}
-use Rattle.implication.specs.declared.Condition.TheVariants.{Fails}
+use Rattle.std.specs.Prelude.{Err}
+use Rattle.implication.specs.declared.Failure.TheVariants.{Fails}
 use Rattle.goals.specs.declared.Goal.TheVariants.{Flow}
 use Rattle.ends.specs.Places.{CommandAt}
 use Rattle.goals.specs.Conditions.{condition_of}
@@ -28,7 +29,7 @@ use Rattle.flow_compound.proofs.Goal.{by-test, first-fails, second-test, trees}
 use Rattle.flow_compound.proofs.Goal.{command-head}
 
 module _ {Γ : Context} {file ends : List ℕ} {p c q at : ℕ} (can : CanTry file ends Γ 13 (Flow p c q) at) where
-  pub not-while : (kind_at file c ≡ 30 → ⊥) → StepOf file ends Γ (Flow p c q) at Fails
+  pub not-while : (kind_at file c ≡ 30 → ⊥) → StepOf file ends Γ (Flow p c q) at (Err Fails)
   unfolding flow_rule
   not-while h = flow-rule can flow13 λ x y e t d end f g z s. misfit-comes (other-than_while Γ misfit e _ (other-kind g h))
 
@@ -41,7 +42,7 @@ module _ {Γ : Context} {file ends : List ℕ} {p c q at : ℕ} (can : CanTry fi
     }
 
     module _ {a : Bool} (u : SameWritten file ends p q a) where
-      pub not_same : a ≡ false → StepOf file ends Γ (Flow p c q) at Fails
+      pub not_same : a ≡ false → StepOf file ends Γ (Flow p c q) at (Err Fails)
       unfolding flow_rule by_form
       not_same n = flow-rule can flow13 λ x y e t d end f g z s.
           rw (is-while can.can.ends_of g h).is (first-fails _ refl (u.does x y f z) n)
@@ -59,7 +60,7 @@ module _ {Γ : Context} {file ends : List ℕ} {p c q at : ℕ} (can : CanTry fi
       while-comes n w = flow-rule can flow13 (comes n w)
 
 module _ {Γ : Context} {file ends : List ℕ} {p c q at : ℕ} (can : CanTry file ends Γ 14 (Flow p c q) at) where
-  pub not-for : (kind_at file c ≡ 31 → ⊥) → StepOf file ends Γ (Flow p c q) at Fails
+  pub not-for : (kind_at file c ≡ 31 → ⊥) → StepOf file ends Γ (Flow p c q) at (Err Fails)
   unfolding flow_rule
   not-for h = flow-rule can flow14 λ x y e t d end f g z s. misfit-comes (other-than_for Γ misfit e _ (other-kind g h))
 

@@ -1,43 +1,30 @@
 // An if.
 ghost use Rattle.std.specs.Prelude.{◌≡◌};
-ghost use Rattle.context.specs.Contexts.{context_in};
 ghost use Rattle.goals.specs.Children.{flow_child};
-ghost use Rattle.goals.specs.Goals.{CanTry, StepOf};
+ghost use Rattle.goals.specs.Files.{CanTryIn, StepIn};
 ghost use Rattle.goals.specs.declared.Goal.TheVariants.{Flow};
 ghost use Rattle.flow_compound.specs.Children.{CanFlowChild};
 
-use context::Context;
 use ends::end_or_zero;
-use goals::{Goal, condition};
-use implication::Condition;
+use goals::file::File;
+use goals::{Goal, ensure};
+use implication::Failure;
 use sets::pile::count;
 use sets::rule::same_branches;
 use words::kinds::{IF, KIND};
 
 // Rule 6. If; Q one written member φ ⇒ E; carries S, T and φ0; P same as S under B, T under ¬B and φ0 ⇒ B
 // together.
-pub fn rule_6(
-    w: &[u32],
-    ends: &[u32],
-    context: Context,
-    at: usize,
-    p: usize,
-    c: usize,
-    q: usize,
-) -> Condition
-    requires { CanTry w.now ends.now (context_in context w.now) 6 (Flow p c q) «at» }
-    ensures { StepOf w.now ends.now (context_in context w.now) (Flow p c q) «at» result }
+pub fn rule_6(file: &File, at: usize, p: usize, c: usize, q: usize) -> Result<(), Failure>
+    requires { CanTryIn file.now 6 (Flow p c q) «at» }
+    ensures { StepIn file.now (Flow p c q) «at» result }
 {
-    if w[c] / KIND != IF {
-        return Condition::Fails;
-    }
-    if count(w, q) != 1 {
-        return Condition::Fails;
-    }
+    ensure(file.words[c] / KIND == IF)?;
+    ensure(count(file.words, q) == 1)?;
     let s = at + 1;
-    let t = end_or_zero(ends, s);
-    let f = end_or_zero(ends, t);
-    condition(same_branches(w, ends, p, s, t, c + 1, f))
+    let t = end_or_zero(file.ends, s);
+    let f = end_or_zero(file.ends, t);
+    ensure(same_branches(file.words, file.ends, p, s, t, c + 1, f))
 }
 
 // Its children: (S, C1, Q), (T, C2, Q), precondition (φ0, C, φ).

@@ -1,39 +1,26 @@
 // A while, and a for by the command that it means.
 ghost use Rattle.std.specs.Prelude.{◌≡◌};
-ghost use Rattle.context.specs.Contexts.{context_in};
 ghost use Rattle.goals.specs.Children.{flow_child};
-ghost use Rattle.goals.specs.Goals.{CanTry, StepOf};
+ghost use Rattle.goals.specs.Files.{CanTryIn, StepIn};
 ghost use Rattle.goals.specs.declared.Goal.TheVariants.{Flow};
 ghost use Rattle.flow_compound.specs.Children.{CanFlowChild};
 
-use context::Context;
 use ends::end_or_zero;
-use goals::{Goal, condition};
-use implication::Condition;
+use goals::file::File;
+use goals::{Goal, ensure};
+use implication::Failure;
 use rule_laws::same::is_meaning;
 use sets::rule::{same_written, test_stands};
 use words::kinds::{FOR, KIND, WHILE};
 
 // Rule 13. While; P same as Q; true ⇒ B stands in P.
-pub fn rule_13(
-    w: &[u32],
-    ends: &[u32],
-    context: Context,
-    at: usize,
-    p: usize,
-    c: usize,
-    q: usize,
-) -> Condition
-    requires { CanTry w.now ends.now (context_in context w.now) 13 (Flow p c q) «at» }
-    ensures { StepOf w.now ends.now (context_in context w.now) (Flow p c q) «at» result }
+pub fn rule_13(file: &File, at: usize, p: usize, c: usize, q: usize) -> Result<(), Failure>
+    requires { CanTryIn file.now 13 (Flow p c q) «at» }
+    ensures { StepIn file.now (Flow p c q) «at» result }
 {
-    if w[c] / KIND != WHILE {
-        return Condition::Fails;
-    }
-    if !same_written(w, ends, p, q) {
-        return Condition::Fails;
-    }
-    condition(test_stands(w, ends, p, c + 1))
+    ensure(file.words[c] / KIND == WHILE)?;
+    ensure(same_written(file.words, file.ends, p, q))?;
+    ensure(test_stands(file.words, file.ends, p, c + 1))
 }
 
 // Its child: (P, C1, Q).
@@ -46,22 +33,12 @@ pub fn child_13(ends: &[u32], at: usize, p: usize, c: usize, q: usize, k: usize)
 }
 
 // Rule 14. For; carries the command D that it means.
-pub fn rule_14(
-    w: &[u32],
-    ends: &[u32],
-    context: Context,
-    at: usize,
-    p: usize,
-    c: usize,
-    q: usize,
-) -> Condition
-    requires { CanTry w.now ends.now (context_in context w.now) 14 (Flow p c q) «at» }
-    ensures { StepOf w.now ends.now (context_in context w.now) (Flow p c q) «at» result }
+pub fn rule_14(file: &File, at: usize, p: usize, c: usize, q: usize) -> Result<(), Failure>
+    requires { CanTryIn file.now 14 (Flow p c q) «at» }
+    ensures { StepIn file.now (Flow p c q) «at» result }
 {
-    if w[c] / KIND != FOR {
-        return Condition::Fails;
-    }
-    condition(is_meaning(w, ends, at + 1, c))
+    ensure(file.words[c] / KIND == FOR)?;
+    ensure(is_meaning(file.words, file.ends, at + 1, c))
 }
 
 // Its child: (P, D, Q).

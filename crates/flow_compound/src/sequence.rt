@@ -1,34 +1,22 @@
 // A sequence.
 ghost use Rattle.std.specs.Prelude.{◌≡◌};
-ghost use Rattle.context.specs.Contexts.{context_in};
 ghost use Rattle.goals.specs.Children.{flow_child};
-ghost use Rattle.goals.specs.Goals.{CanTry, StepOf};
+ghost use Rattle.goals.specs.Files.{CanTryIn, StepIn};
 ghost use Rattle.goals.specs.declared.Goal.TheVariants.{Flow};
 ghost use Rattle.flow_compound.specs.Children.{CanFlowChild};
 
-use context::Context;
 use ends::end_or_zero;
-use goals::Goal;
-use implication::Condition;
+use goals::file::File;
+use goals::{Goal, ensure};
+use implication::Failure;
 use words::kinds::{KIND, SEQUENCE};
 
 // Rule 2. Sequence; carries M.
-pub fn rule_2(
-    w: &[u32],
-    ends: &[u32],
-    context: Context,
-    at: usize,
-    p: usize,
-    c: usize,
-    q: usize,
-) -> Condition
-    requires { CanTry w.now ends.now (context_in context w.now) 2 (Flow p c q) «at» }
-    ensures { StepOf w.now ends.now (context_in context w.now) (Flow p c q) «at» result }
+pub fn rule_2(file: &File, at: usize, p: usize, c: usize, q: usize) -> Result<(), Failure>
+    requires { CanTryIn file.now 2 (Flow p c q) «at» }
+    ensures { StepIn file.now (Flow p c q) «at» result }
 {
-    if w[c] / KIND != SEQUENCE {
-        return Condition::Fails;
-    }
-    Condition::Passes
+    ensure(file.words[c] / KIND == SEQUENCE)
 }
 
 // Its children: (P, C1, M), (M, C2, Q).

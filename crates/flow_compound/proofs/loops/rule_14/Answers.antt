@@ -1,27 +1,27 @@
 -- `flow_compound::loops::rule_14` meets its contract.
 -- Assumes nothing.
 use native.Mathlib.Omega.{arith}
-use Rattle.rule_laws.proofs.Trying.{step-head}
+use Rattle.std.proofs.lemmas.Result.{err_from_is_err_and}
+use Rattle.goals.proofs.Ensured.{is-equal, exits-unequal}
 use Rattle.flow_compound.proofs.Goal.{command-head}
 use Rattle.flow_compound.proofs.LoopRules.{can-mean, not-for, for-comes}
 use Rattle.flow_compound.proofs.loops.rule_14.Goals as goal
 
-pub offset_bounds-w-c : goal.offset_bounds-w-c
-offset_bounds-w-c c = let i = command-head c.requires.can in omega arith
+pub offset_bounds-file-c : goal.offset_bounds-file-c
+offset_bounds-file-c c = let i = command-head c.requires.can in omega arith
 
-pub bounds-w-c : goal.bounds-w-c
-bounds-w-c c = command-head c.requires.can
+pub bounds-file-c : goal.bounds-file-c
+bounds-file-c c = command-head c.requires.can
 
-pub returns-then-w-c-ne-FOR : goal.returns-then-w-c-ne-FOR
-returns-then-w-c-ne-FOR c = not-for c.requires c.if-w-c-ne-FOR.true
-
-pub overflow_add-at : goal.overflow_add-at
-overflow_add-at c = let i = step-head c.requires.can in omega arith
+pub returns-in_err-ensure : goal.returns-in_err-ensure
+returns-in_err-ensure c =
+    exits-unequal (err_from_is_err_and _ c.from_residual.ensures.1) c.in_err-ensure.ensures
+    (not-for c.requires)
 
 pub is_meaning-requires : goal.is_meaning-requires
-is_meaning-requires c = can-mean c.requires c.if-w-c-ne-FOR.false
+is_meaning-requires c = can-mean c.requires (is-equal c.in_ok-ensure.ensures)
 
 pub returns : goal.returns
 returns c =
-    rw c.condition.ensures (for-comes c.requires
-    c.if-w-c-ne-FOR.false c.is_meaning.ensures)
+    rw c.ensure-2.ensures (for-comes c.requires
+    (is-equal c.in_ok-ensure.ensures) c.is_meaning.ensures)
