@@ -9,7 +9,8 @@ use Prim.Native.Nat.{ℕ, ◌+◌}
 use Rattle.rules.specs.Context.{Context}
 use Rattle.rules.specs.Evidence.{Parts, row, flow12, members, assertion, child, done, ◌&◌}
 use Rattle.rules.specs.Judge.{flow_rule, judge}
-use Rattle.implication.specs.declared.Condition.TheVariants.{Fails}
+use Rattle.std.specs.Prelude.{Err}
+use Rattle.implication.specs.declared.Failure.TheVariants.{Fails}
 use Rattle.goals.specs.declared.Goal.TheVariants.{Flow}
 use Rattle.goals.specs.Conditions.{condition_of}
 use Rattle.goals.specs.Goals.{flow-stands, pre-stands, CanTry, StepOf}
@@ -46,7 +47,7 @@ module _ {Γ : Context} {file ends : List ℕ} {p c q at : ℕ} (can : CanTry fi
   can-second = let x = parts-of can flow12 in (asked x.parts x.levels x.end x.parts-placed).1
 
   module _ {a : Bool} (u : SameUnder file ends p (at + 1) (third ends at) a) where
-    fails : a ≡ false → FlowComes Γ file ends p c q at flow12 Fails
+    fails : a ≡ false → FlowComes Γ file ends p c q at flow12 (Err Fails)
     unfolding flow_rule judge
     fails h x y e (members s & members s' & assertion φ & assertion φ' & l) d end f g z
         (s-at, (s'-at, (φ-at, (φ'-at, _)))) =
@@ -61,7 +62,7 @@ module _ {Γ : Context} {file ends : List ℕ} {p c q at : ℕ} (can : CanTry fi
         (w.does y s' φ' z s'-at φ'-at)
         (two-children (flow-stands s-at g s'-at k-at) (up-to (pre-stands φ-at g φ'-at l-at) last))
 
-    pub under-fails : a ≡ false → StepOf file ends Γ (Flow p c q) at Fails
+    pub under-fails : a ≡ false → StepOf file ends Γ (Flow p c q) at (Err Fails)
     under-fails h = flow-rule can flow12 (fails h)
 
     pub under-comes : a ≡ true → {b : Bool} → SameUnder file ends q (second ends at) (fourth ends at) b →

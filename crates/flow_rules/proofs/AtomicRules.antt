@@ -15,7 +15,8 @@ use Rattle.rules.specs.Evidence.{flow1, flow3, flow4, flow5}
 use Rattle.rules.specs.Judge.{misfit, flow_rule}
 use Rattle.layout.specs.Bytes.{kind_at}
 use Rattle.matching.specs.declared.cursor.Put.{Put}
-use Rattle.implication.specs.declared.Condition.TheVariants.{Fails}
+use Rattle.std.specs.Prelude.{Err}
+use Rattle.implication.specs.declared.Failure.TheVariants.{Fails}
 use Rattle.goals.specs.declared.Goal.TheVariants.{Flow}
 use Rattle.goals.specs.Conditions.{condition_of}
 use Rattle.goals.specs.Goals.{CanStep, CanTry, StepOf}
@@ -56,7 +57,7 @@ module _ {Γ : Context} {file ends : List ℕ} {p c q at : ℕ} where
     }
 
   module _ (can : CanTry file ends Γ 1 (Flow p c q) at) where
-    pub not-skip : (kind_at file c ≡ 24 → ⊥) → StepOf file ends Γ (Flow p c q) at Fails
+    pub not-skip : (kind_at file c ≡ 24 → ⊥) → StepOf file ends Γ (Flow p c q) at (Err Fails)
     unfolding flow_rule
     not-skip h = flow-rule can flow1 λ x y e t d end a k z s. misfit-comes (other-than_skip Γ misfit e _ (other-kind k h))
 
@@ -68,7 +69,7 @@ module _ {Γ : Context} {file ends : List ℕ} {p c q at : ℕ} where
         (no-children (no-parts Γ file ends d t s)))
 
   module _ (can : CanTry file ends Γ 3 (Flow p c q) at) where
-    pub not_scalar : (kind_at file c ≡ 27 → ⊥) → StepOf file ends Γ (Flow p c q) at Fails
+    pub not_scalar : (kind_at file c ≡ 27 → ⊥) → StepOf file ends Γ (Flow p c q) at (Err Fails)
     unfolding flow_rule
     not_scalar h = flow-rule can flow3 λ x y e t d end a k z s. misfit-comes (other-than_scalar Γ misfit e _ (other-kind k h))
 
@@ -81,7 +82,7 @@ module _ {Γ : Context} {file ends : List ℕ} {p c q at : ℕ} where
         (no-children (no-parts Γ file ends d t s)))
 
   module _ (can : CanTry file ends Γ 4 (Flow p c q) at) where
-    pub not-array : (kind_at file c ≡ 28 → ⊥) → StepOf file ends Γ (Flow p c q) at Fails
+    pub not-array : (kind_at file c ≡ 28 → ⊥) → StepOf file ends Γ (Flow p c q) at (Err Fails)
     unfolding flow_rule
     not-array h = flow-rule can flow4 λ x y e t d end a k z s. misfit-comes (other-than_array Γ misfit e _ (other-kind k h))
 
@@ -94,7 +95,7 @@ module _ {Γ : Context} {file ends : List ℕ} {p c q at : ℕ} where
         (no-children (no-parts Γ file ends d t s)))
 
   module _ (can : CanTry file ends Γ 5 (Flow p c q) at) where
-    pub not-assert : (kind_at file c ≡ 26 → ⊥) → StepOf file ends Γ (Flow p c q) at Fails
+    pub not-assert : (kind_at file c ≡ 26 → ⊥) → StepOf file ends Γ (Flow p c q) at (Err Fails)
     unfolding flow_rule
     not-assert h = flow-rule can flow5 λ x y e t d end a k z s. misfit-comes (other-than_assert Γ misfit e _ (other-kind k h))
 

@@ -15,7 +15,8 @@ use Rattle.rules.specs.Judge.{misfit, flow_rule}
 use Rattle.layout.specs.Bytes.{kind_at, payload_at}
 use Rattle.ends.specs.Places.{end_at}
 use Rattle.ends.specs.Procedures.{start_at}
-use Rattle.implication.specs.declared.Condition.TheVariants.{Fails}
+use Rattle.std.specs.Prelude.{Err}
+use Rattle.implication.specs.declared.Failure.TheVariants.{Fails}
 use Rattle.goals.specs.declared.Goal.TheVariants.{Flow}
 use Rattle.goals.specs.Conditions.{condition_of}
 use Rattle.goals.specs.Goals.{CanTry, StepOf}
@@ -33,7 +34,7 @@ abbrev pub post_at : List ℕ → List ℕ → ℕ → ℕ
 post_at file ends c = end_at ends (pre_at file ends c)
 
 module _ {Γ : Context} {file ends : List ℕ} {p c q at : ℕ} (can : CanTry file ends Γ 31 (Flow p c q) at) where
-  pub not_call : (kind_at file c ≡ 38 → ⊥) → StepOf file ends Γ (Flow p c q) at Fails
+  pub not_call : (kind_at file c ≡ 38 → ⊥) → StepOf file ends Γ (Flow p c q) at (Err Fails)
   unfolding flow_rule
   not_call h = flow-rule can flow31 λ x y e t d end f g z s. misfit-comes (other-than_call Γ misfit e _ (other-kind g h))
 
@@ -53,7 +54,7 @@ module _ {Γ : Context} {file ends : List ℕ} {p c q at : ℕ} (can : CanTry fi
     }
 
     module _ {a : Bool} (u : SameWritten file ends p (pre_at file ends c) a) where
-      pub other-pre : a ≡ false → StepOf file ends Γ (Flow p c q) at Fails
+      pub other-pre : a ≡ false → StepOf file ends Γ (Flow p c q) at (Err Fails)
       unfolding flow_rule by_form on_some
       other-pre n = flow-rule can flow31 λ x y e t d end f g z s.
           let l = is_call g h in

@@ -9,7 +9,8 @@ use Prim.Native.Nat.{ℕ, ◌+◌}
 use Rattle.rules.specs.Context.{Context}
 use Rattle.rules.specs.Evidence.{Parts, row, flow9, members, child, done, ◌&◌}
 use Rattle.rules.specs.Judge.{flow_rule, judge}
-use Rattle.implication.specs.declared.Condition.TheVariants.{Fails}
+use Rattle.std.specs.Prelude.{Err}
+use Rattle.implication.specs.declared.Failure.TheVariants.{Fails}
 use Rattle.goals.specs.declared.Goal.TheVariants.{Flow}
 use Rattle.goals.specs.Conditions.{condition_of}
 use Rattle.goals.specs.Goals.{flow-stands, CanTry, StepOf}
@@ -46,7 +47,7 @@ module _ {Γ : Context} {file ends : List ℕ} {p c q at : ℕ} (can : CanTry fi
   can-second = let x = parts-of can flow9 in (asked x.parts x.levels x.end x.parts-placed).1
 
   module _ {a : Bool} (u : SameUnion file ends p (at + 1) (third ends at) a) where
-    fails : a ≡ false → FlowComes Γ file ends p c q at flow9 Fails
+    fails : a ≡ false → FlowComes Γ file ends p c q at flow9 (Err Fails)
     unfolding flow_rule judge
     fails h x y e (members s & members s' & members t & members t' & l) d end f g z
         (s-at, (s'-at, (t-at, (t'-at, _)))) =
@@ -61,7 +62,7 @@ module _ {Γ : Context} {file ends : List ℕ} {p c q at : ℕ} (can : CanTry fi
         (w.does y s' t' z s'-at t'-at)
         (two-children (flow-stands s-at g s'-at k-at) (up-to (flow-stands t-at g t'-at l-at) last))
 
-    pub union_fails : a ≡ false → StepOf file ends Γ (Flow p c q) at Fails
+    pub union_fails : a ≡ false → StepOf file ends Γ (Flow p c q) at (Err Fails)
     union_fails h = flow-rule can flow9 (fails h)
 
     pub union_comes : a ≡ true → {b : Bool} → SameUnion file ends q (second ends at) (fourth ends at) b →

@@ -14,7 +14,8 @@ use Rattle.rules.specs.Evidence.{flow10, flow11, child, done, ◌&◌}
 use Rattle.rules.specs.Judge.{misfit, flow_rule, judge}
 use Rattle.ends.specs.Places.{end_at}
 use Rattle.masks.specs.Filled.{MasksOf}
-use Rattle.implication.specs.declared.Condition.TheVariants.{Fails}
+use Rattle.std.specs.Prelude.{Err}
+use Rattle.implication.specs.declared.Failure.TheVariants.{Fails}
 use Rattle.goals.specs.declared.Goal.TheVariants.{Flow}
 use Rattle.goals.specs.Conditions.{condition_of}
 use Rattle.goals.specs.Goals.{pre-stands, CanTry, StepOf}
@@ -37,7 +38,7 @@ module _ {Γ : Context} {file ends : List ℕ} {p c q at : ℕ} (can : CanTry fi
   }
 
   module _ {a : Bool} (u : SameWritten file ends p q a) where
-    pub not_same : a ≡ false → StepOf file ends Γ (Flow p c q) at Fails
+    pub not_same : a ≡ false → StepOf file ends Γ (Flow p c q) at (Err Fails)
     unfolding flow_rule
     not_same h = flow-rule can flow10 λ x y e t d end f g z s.
         first-fails _ refl (u.does x y f z) h
@@ -49,12 +50,12 @@ module _ {Γ : Context} {file ends : List ℕ} {p c q at : ℕ} (can : CanTry fi
         (no-children (no-parts Γ file ends d t s))
 
 module _ {Γ : Context} {file ends : List ℕ} {p c q at : ℕ} (can : CanTry file ends Γ 11 (Flow p c q) at) where
-  pub not-one_before : (count_at file p ≡ 1 → ⊥) → StepOf file ends Γ (Flow p c q) at Fails
+  pub not-one_before : (count_at file p ≡ 1 → ⊥) → StepOf file ends Γ (Flow p c q) at (Err Fails)
   unfolding flow_rule
   not-one_before n = flow-rule can flow11 λ x y e t d end f g z s. misfit-comes (not-one f misfit _ n)
 
   module _ (one : count_at file p ≡ 1) where
-    pub not-one_after : (count_at file q ≡ 1 → ⊥) → StepOf file ends Γ (Flow p c q) at Fails
+    pub not-one_after : (count_at file q ≡ 1 → ⊥) → StepOf file ends Γ (Flow p c q) at (Err Fails)
     unfolding flow_rule on_one
     not-one_after n = flow-rule can flow11 λ x y e t d end f g z s.
         rw (is_one f can.can.ends_of one).is (misfit-comes (not-one z misfit _ n))
@@ -79,7 +80,7 @@ module _ {Γ : Context} {file ends : List ℕ} {p c q at : ℕ} (can : CanTry fi
           }
 
       module _ {a : Bool} (u : SameAt file ends (end_at ends (p + 1)) (end_at ends (q + 1)) a) where
-        pub other-consequent : a ≡ false → StepOf file ends Γ (Flow p c q) at Fails
+        pub other-consequent : a ≡ false → StepOf file ends Γ (Flow p c q) at (Err Fails)
         unfolding flow_rule on_one
         other-consequent h = flow-rule can flow11 λ x y e t d end f g z s.
             let m = is_one f can.can.ends_of one in

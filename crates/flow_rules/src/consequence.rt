@@ -1,29 +1,20 @@
 // A set implied by the precondition, or one that implies the postcondition.
 ghost use Rattle.std.specs.Prelude.{◌≡◌};
-ghost use Rattle.context.specs.Contexts.{context_in};
 ghost use Rattle.goals.specs.Children.{flow_child};
-ghost use Rattle.goals.specs.Goals.{CanTry, StepOf};
+ghost use Rattle.goals.specs.Files.{CanTryIn, StepIn};
 ghost use Rattle.goals.specs.declared.Goal.TheVariants.{Flow};
 ghost use Rattle.flow_compound.specs.Children.{CanFlowChild};
 
-use context::Context;
 use goals::Goal;
-use implication::Condition;
+use goals::file::File;
+use implication::Failure;
 
 // Rule 7. Carries M; no condition.
-pub fn rule_7(
-    w: &[u32],
-    ends: &[u32],
-    context: Context,
-    at: usize,
-    p: usize,
-    c: usize,
-    q: usize,
-) -> Condition
-    requires { CanTry w.now ends.now (context_in context w.now) 7 (Flow p c q) «at» }
-    ensures { StepOf w.now ends.now (context_in context w.now) (Flow p c q) «at» result }
+pub fn rule_7(file: &File, at: usize, p: usize, c: usize, q: usize) -> Result<(), Failure>
+    requires { CanTryIn file.now 7 (Flow p c q) «at» }
+    ensures { StepIn file.now (Flow p c q) «at» result }
 {
-    Condition::Passes
+    Ok(())
 }
 
 // Its children: set (P, M), flow (M, C, Q).
@@ -39,19 +30,11 @@ pub fn child_7(ends: &[u32], at: usize, p: usize, c: usize, q: usize, k: usize) 
 }
 
 // Rule 8. Carries M; no condition.
-pub fn rule_8(
-    w: &[u32],
-    ends: &[u32],
-    context: Context,
-    at: usize,
-    p: usize,
-    c: usize,
-    q: usize,
-) -> Condition
-    requires { CanTry w.now ends.now (context_in context w.now) 8 (Flow p c q) «at» }
-    ensures { StepOf w.now ends.now (context_in context w.now) (Flow p c q) «at» result }
+pub fn rule_8(file: &File, at: usize, p: usize, c: usize, q: usize) -> Result<(), Failure>
+    requires { CanTryIn file.now 8 (Flow p c q) «at» }
+    ensures { StepIn file.now (Flow p c q) «at» result }
 {
-    Condition::Passes
+    Ok(())
 }
 
 // Its children: flow (P, C, M), set (M, Q).

@@ -1,38 +1,27 @@
 // Two parts of a set, each with its own evidence.
 ghost use Rattle.std.specs.Prelude.{◌≡◌};
-ghost use Rattle.context.specs.Contexts.{context_in};
 ghost use Rattle.goals.specs.Children.{flow_child};
-ghost use Rattle.goals.specs.Goals.{CanTry, StepOf};
+ghost use Rattle.goals.specs.Files.{CanTryIn, StepIn};
 ghost use Rattle.goals.specs.declared.Goal.TheVariants.{Flow};
 ghost use Rattle.flow_compound.specs.Children.{CanFlowChild};
 
-use context::Context;
 use ends::end_or_zero;
-use goals::{Goal, condition};
-use implication::Condition;
+use goals::file::File;
+use goals::{Goal, ensure};
+use implication::Failure;
 use sets::rule::same_union;
 
 // Rule 9. Carries S, S', T and T'; P same as S ∪ T, Q as S' ∪ T'.
-pub fn rule_9(
-    w: &[u32],
-    ends: &[u32],
-    context: Context,
-    at: usize,
-    p: usize,
-    c: usize,
-    q: usize,
-) -> Condition
-    requires { CanTry w.now ends.now (context_in context w.now) 9 (Flow p c q) «at» }
-    ensures { StepOf w.now ends.now (context_in context w.now) (Flow p c q) «at» result }
+pub fn rule_9(file: &File, at: usize, p: usize, c: usize, q: usize) -> Result<(), Failure>
+    requires { CanTryIn file.now 9 (Flow p c q) «at» }
+    ensures { StepIn file.now (Flow p c q) «at» result }
 {
     let s = at + 1;
-    let s1 = end_or_zero(ends, s);
-    let t = end_or_zero(ends, s1);
-    if !same_union(w, ends, p, s, t) {
-        return Condition::Fails;
-    }
-    let t1 = end_or_zero(ends, t);
-    condition(same_union(w, ends, q, s1, t1))
+    let s1 = end_or_zero(file.ends, s);
+    let t = end_or_zero(file.ends, s1);
+    ensure(same_union(file.words, file.ends, p, s, t))?;
+    let t1 = end_or_zero(file.ends, t);
+    ensure(same_union(file.words, file.ends, q, s1, t1))
 }
 
 // Its children: (S, C, S'), (T, C, T').

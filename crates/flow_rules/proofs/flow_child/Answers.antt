@@ -33,30 +33,6 @@ child_14-requires c =
     n.0.0.0.0.0.0.1 n.0.0.0.0.0.1 n.0.0.0.0.1 n.0.0.0.1 n.0.0.1 n.0.1 n.1)
     c.requires
 
-pub returns-in-2 : goal.returns-in-2
-returns-in-2 c = rw c.in-2.is c.child_2.ensures
-
-pub returns-in-6 : goal.returns-in-6
-returns-in-6 c = rw c.in-6.is c.child_6.ensures
-
-pub returns-in-7 : goal.returns-in-7
-returns-in-7 c = rw c.in-7.is c.child_7.ensures
-
-pub returns-in-8 : goal.returns-in-8
-returns-in-8 c = rw c.in-8.is c.child_8.ensures
-
-pub returns-in-9 : goal.returns-in-9
-returns-in-9 c = rw c.in-9.is c.child_9.ensures
-
-pub returns-in-11 : goal.returns-in-11
-returns-in-11 c = rw c.in-11.is c.child_11.ensures
-
-pub returns-in-12 : goal.returns-in-12
-returns-in-12 c = rw c.in-12.is c.child_12.ensures
-
-pub returns-in-13 : goal.returns-in-13
-returns-in-13 c = rw c.in-13.is c.child_13.ensures
-
 pub returns-in_default : goal.returns-in_default
 returns-in_default c =
     let n = c.in_default.in_default-own.rest in rw (last-rule c.requires n.0.0.0.0.0.0.0.1

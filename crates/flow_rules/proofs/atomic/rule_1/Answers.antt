@@ -1,23 +1,27 @@
 -- `flow_rules::atomic::rule_1` meets its contract.
 -- Assumes nothing.
 use native.Mathlib.Omega.{arith}
+use Rattle.std.proofs.lemmas.Result.{err_from_is_err_and}
+use Rattle.goals.proofs.Ensured.{is-equal, exits-unequal}
 use Rattle.flow_compound.proofs.Goal.{command-head, can-two}
 use Rattle.flow_rules.proofs.AtomicRules.{not-skip, skip-comes}
 use Rattle.flow_rules.proofs.atomic.rule_1.Goals as goal
 
-pub offset_bounds-w-c : goal.offset_bounds-w-c
-offset_bounds-w-c c = let i = command-head c.requires.can in omega arith
+pub offset_bounds-file-c : goal.offset_bounds-file-c
+offset_bounds-file-c c = let i = command-head c.requires.can in omega arith
 
-pub bounds-w-c : goal.bounds-w-c
-bounds-w-c c = command-head c.requires.can
+pub bounds-file-c : goal.bounds-file-c
+bounds-file-c c = command-head c.requires.can
 
-pub returns-then-w-c-ne-SKIP : goal.returns-then-w-c-ne-SKIP
-returns-then-w-c-ne-SKIP c = not-skip c.requires c.if-w-c-ne-SKIP.true
+pub returns-in_err-ensure : goal.returns-in_err-ensure
+returns-in_err-ensure c =
+    exits-unequal (err_from_is_err_and _ c.from_residual.ensures.1) c.in_err-ensure.ensures
+    (not-skip c.requires)
 
 pub same_written-requires : goal.same_written-requires
 same_written-requires c = can-two c.requires.can
 
 pub returns : goal.returns
 returns c =
-    rw c.condition.ensures (skip-comes c.requires
-    c.if-w-c-ne-SKIP.false c.same_written.ensures)
+    rw c.ensure-2.ensures (skip-comes c.requires
+    (is-equal c.in_ok-ensure.ensures) c.same_written.ensures)

@@ -1,26 +1,27 @@
 -- `flow_rules::atomic::rule_5` meets its contract.
 -- Assumes nothing.
 use native.Mathlib.Omega.{arith}
+use Rattle.std.proofs.lemmas.Result.{err_from_is_err_and}
+use Rattle.goals.proofs.Ensured.{is-equal, exits-unequal}
 use Rattle.flow_compound.proofs.Goal.{command-head}
 use Rattle.flow_rules.proofs.AtomicRules.{can-assert, not-assert, assert-comes}
 use Rattle.flow_rules.proofs.atomic.rule_5.Goals as goal
 
-pub offset_bounds-w-c : goal.offset_bounds-w-c
-offset_bounds-w-c c = let i = command-head c.requires.can in omega arith
+pub offset_bounds-file-c : goal.offset_bounds-file-c
+offset_bounds-file-c c = let i = command-head c.requires.can in omega arith
 
-pub bounds-w-c : goal.bounds-w-c
-bounds-w-c c = command-head c.requires.can
+pub bounds-file-c : goal.bounds-file-c
+bounds-file-c c = command-head c.requires.can
 
-pub returns-then-w-c-ne-ASSERT : goal.returns-then-w-c-ne-ASSERT
-returns-then-w-c-ne-ASSERT c = not-assert c.requires c.if-w-c-ne-ASSERT.true
-
-pub overflow_add-c : goal.overflow_add-c
-overflow_add-c c = let i = command-head c.requires.can in omega arith
+pub returns-in_err-ensure : goal.returns-in_err-ensure
+returns-in_err-ensure c =
+    exits-unequal (err_from_is_err_and _ c.from_residual.ensures.1) c.in_err-ensure.ensures
+    (not-assert c.requires)
 
 pub same_under-requires : goal.same_under-requires
-same_under-requires c = can-assert c.requires.can c.if-w-c-ne-ASSERT.false
+same_under-requires c = can-assert c.requires.can (is-equal c.in_ok-ensure.ensures)
 
 pub returns : goal.returns
 returns c =
-    rw c.condition.ensures (assert-comes c.requires
-    c.if-w-c-ne-ASSERT.false c.same_under.ensures)
+    rw c.ensure-2.ensures (assert-comes c.requires
+    (is-equal c.in_ok-ensure.ensures) c.same_under.ensures)

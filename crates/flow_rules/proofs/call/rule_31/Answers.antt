@@ -1,40 +1,43 @@
 -- `flow_rules::call::rule_31` meets its contract.
 -- Assumes nothing.
 use native.Mathlib.Omega.{arith}
+use Rattle.std.proofs.lemmas.Result.{err_from_is_err_and}
+use Rattle.goals.proofs.Ensured.{is-equal, ensured, exits, exits-unequal}
 use Rattle.flow_compound.proofs.Goal.{command-head}
 use Rattle.flow_rules.proofs.CallRules.{not_call, can-pre, can-post, other-pre, call-comes}
 use Rattle.flow_rules.proofs.call.rule_31.Goals as goal
 
-pub offset_bounds-w-c : goal.offset_bounds-w-c
-offset_bounds-w-c c = let i = command-head c.requires.can in omega arith
+pub offset_bounds-file-c : goal.offset_bounds-file-c
+offset_bounds-file-c c = let i = command-head c.requires.can in omega arith
 
-pub bounds-w-c : goal.bounds-w-c
-bounds-w-c c = command-head c.requires.can
+pub bounds-file-c : goal.bounds-file-c
+bounds-file-c c = command-head c.requires.can
 
-pub returns-then-w-c-ne-CALL : goal.returns-then-w-c-ne-CALL
-returns-then-w-c-ne-CALL c = not_call c.requires c.if-w-c-ne-CALL.true
+pub returns-in_err-ensure : goal.returns-in_err-ensure
+returns-in_err-ensure c =
+    exits-unequal (err_from_is_err_and _ c.from_residual.ensures.1) c.in_err-ensure.ensures
+    (not_call c.requires)
 
 pub start_of-body-requires : goal.start_of-body-requires
 start_of-body-requires c = (c.requires.can.size, command-head c.requires.can)
 
 pub same_written-requires : goal.same_written-requires
-same_written-requires c = rw (c.end_or_zero-pre.ensures, c.start_of-body.ensures) (can-pre c.requires (omega arith))
+same_written-requires c = rw (c.end_or_zero-pre.ensures, c.start_of-body.ensures) (can-pre c.requires (is-equal c.in_ok-ensure.ensures))
 
-pub returns-then-not-same_written : goal.returns-then-not-same_written
-returns-then-not-same_written c =
-    other-pre c.requires (omega arith)
-    (rw (c.end_or_zero-pre.ensures, c.start_of-body.ensures) at c.same_written.ensures)
-    c.if-not-same_written.true
+pub returns-in_err-ensure-2 : goal.returns-in_err-ensure-2
+returns-in_err-ensure-2 c =
+    exits (err_from_is_err_and _ c.from_residual-in_err-ensure-2.ensures.1) c.in_err-ensure-2.ensures
+    (other-pre c.requires (is-equal c.in_ok-ensure.ensures) (rw (c.end_or_zero-pre.ensures, c.start_of-body.ensures) at c.same_written.ensures))
 
 pub same_written-requires-2 : goal.same_written-requires-2
 same_written-requires-2 c =
     rw (c.end_or_zero-post.ensures, c.end_or_zero-pre.ensures, c.start_of-body.ensures)
-    (can-post c.requires (omega arith))
+    (can-post c.requires (is-equal c.in_ok-ensure.ensures))
 
 pub returns : goal.returns
 returns c =
-    rw c.condition.ensures (call-comes c.requires (omega arith)
+    rw c.ensure-3.ensures (call-comes c.requires (is-equal c.in_ok-ensure.ensures)
     (rw (c.end_or_zero-pre.ensures, c.start_of-body.ensures) at c.same_written.ensures)
-    c.if-not-same_written.false
+    (ensured _ c.in_ok-ensure-2.ensures)
     (rw (c.end_or_zero-post.ensures, c.end_or_zero-pre.ensures, c.start_of-body.ensures) at
     c.same_written-2.ensures))

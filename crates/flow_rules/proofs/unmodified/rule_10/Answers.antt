@@ -1,20 +1,24 @@
 -- `flow_rules::unmodified::rule_10` meets its contract.
 -- Assumes nothing.
+use Rattle.std.proofs.lemmas.Result.{err_from_is_err_and}
+use Rattle.goals.proofs.Ensured.{ensured, exits}
 use Rattle.flow_compound.proofs.Goal.{can-two}
 use Rattle.flow_rules.proofs.UnmodifiedRules.{can-keep_set, not_same, set-kept}
 use Rattle.flow_rules.proofs.unmodified.rule_10.Goals as goal
 
 pub same_written-requires : goal.same_written-requires
-same_written-requires c = can-two c.requires.0.can
+same_written-requires c = can-two c.requires.can
 
-pub returns-then-not-same_written : goal.returns-then-not-same_written
-returns-then-not-same_written c = not_same c.requires.0 c.same_written.ensures c.if-not-same_written.true
+pub returns-in_err-ensure : goal.returns-in_err-ensure
+returns-in_err-ensure c =
+    exits (err_from_is_err_and _ c.from_residual.ensures.1) c.in_err-ensure.ensures
+    (not_same c.requires c.same_written.ensures)
 
 pub is_kept-requires : goal.is_kept-requires
-is_kept-requires c = let asked = c.requires in can-keep_set asked.0 asked.1
+is_kept-requires c = can-keep_set c.requires c.args.file.now.masks_of
 
 pub returns : goal.returns
 returns c =
-    rw c.condition.ensures (set-kept c.requires.0
-    c.same_written.ensures c.if-not-same_written.false
+    rw c.ensure-2.ensures (set-kept c.requires
+    c.same_written.ensures (ensured _ c.in_ok-ensure.ensures)
     c.is_kept.ensures)
