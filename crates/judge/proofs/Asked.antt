@@ -11,7 +11,7 @@ use native.Mathlib.Omega.{arith}
 use lib.Dec.{eqb}
 use lib.ListN.{length}
 use Rattle.rules.specs.Context.{Context}
-use Rattle.implication.specs.declared.Condition.{Condition}
+use Rattle.implication.specs.Sides.{Condition}
 use Rattle.goals.specs.declared.Goal.{Goal}
 use Rattle.goals.specs.declared.Goal.TheVariants.{Flow, Set, Pre}
 use Rattle.goals.specs.Children.{of_rule, flow_children, set_children, pre_children, children_at, child_at}

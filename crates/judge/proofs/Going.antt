@@ -2,7 +2,7 @@
 -- Assumes nothing.
 --     level-due                                            evidence takes a level
 --     can-step, can-go                                     the word: what its conditions ask for; its children, where they pass
---     judged-failed, judged-large, judged-passed           its verdict by the result of its conditions
+--     judged-failed, judged-passed                         its verdict by the result of its conditions
 --     Going                                                the children from number k on, in the code's loop
 --     going_start, going_step, going_refused, going_end    at the start; past a child; a child refused; past the last
 --     child-asked, child-can                               what the goal of a child and judging it ask for
@@ -20,19 +20,20 @@ use Rattle.layout.specs.Bytes.{payload_at}
 use Rattle.layout.specs.EvidenceWords.{FitsTree}
 use Rattle.words.specs.Rows.{packed_items, row_of}
 use Rattle.words.proofs.RowItems.{no_item, digit-rest}
-use Rattle.implication.specs.Sides.{result_of}
-use Rattle.implication.specs.declared.Condition.{Condition}
-use Rattle.implication.specs.declared.Condition.TheVariants.{Passes, Fails, TooLarge}
+use Rattle.std.specs.Prelude.{Ok, Err}
+use Rattle.implication.specs.Sides.{Condition, result_of}
+use Rattle.implication.specs.declared.Failure.{Failure}
+use Rattle.implication.specs.declared.Failure.TheVariants.{Fails, TooLarge}
 use Rattle.context.specs.declared.Refusal.{Refusal}
 use Rattle.goals.specs.declared.Goal.{Goal}
 use Rattle.goals.specs.declared.Judged.{Judged}
-use Rattle.goals.specs.declared.Judged.TheVariants.{Accepted, Refused}
 use Rattle.goals.specs.Children.{children_at, child_at, judgement_of, carried_off}
 use Rattle.goals.specs.Goals.{TreeGoal, verdict, verdicts, tree_step, tree_items, GoalStands, GoalsStand}
-use Rattle.goals.specs.Goals.{flow, set, pre, flow-stands, set-stands, pre-stands, CanStep, StepOf, judged_of, CanJudge, JudgedOf}
+use Rattle.goals.specs.Goals.{flow, set, pre, flow-stands, set-stands, pre-stands, CanStep, StepOf, Answer, judged_of, CanJudge, JudgedOf}
 use Rattle.goals.proofs.Children.{row_is}
 use Rattle.judge.specs.Row.{PastCarried}
 use Rattle.judge.specs.declared.row.First.{First}
+use Rattle.judge.specs.Refusals.{refusal_of}
 use Rattle.judge.specs.Going.{CanChild, CanGo, Goes}
 use Rattle.judge.proofs.Asked.{children-few}
 use Rattle.judge.proofs.Counts.{goal-counts, goal-inside, goal-place, goal-low, goal-level}
@@ -48,8 +49,8 @@ word-is {Γ} (set-stands {k = by r i t} {p = p} {q = q} x y s) =
 word-is {Γ} (pre-stands {k = by r i t} {φ = φ} {φ' = φ'} {c = c} x y z s) =
     ap (λ n. judge_word n (tree_step Γ (pre (by r i t) φ c φ'))) s.stands.fit.0
 
-abbrev refusal : ℕ → ℕ → Judged
-refusal n i = Refused (record { number = n; place = i })
+abbrev answer : ℕ → ℕ → Answer
+answer n to = Ok (record { count = n; end = to })
 
 module _ {file ends : List ℕ} {Γ : Context} {goal : Goal} {at left : ℕ} (p : CanJudge file ends Γ goal at left) where
   pub level-due : 1 ≤ left
@@ -77,28 +78,25 @@ module _ {file ends : List ℕ} {Γ : Context} {goal : Goal} {at left : ℕ} (p 
 
   module _ {r : Condition} (s : StepOf file ends Γ goal at r) where
     refused-by : (n : ℕ) → ((v : Verdict) → judge_word at (step (result_of r) v) ≡ refused n at) →
-        JudgedOf file ends Γ goal at left (refusal n at)
+        JudgedOf file ends Γ goal at left (Err (record { number = n; place = at }))
     refused-by n h = record {
       judged = λ g end x.
           let c = s.comes g (left - 1) end (omega (arith, p.low)) (lowered x) in
           sym (ap (λ v. judged_of v end) (word-is (lowered x) ∙ ap (judge_word at) c.is ∙ h c.children));
     }
 
-    pub judged-failed : r ≡ Fails → JudgedOf file ends Γ goal at left (refusal 8 at)
+    pub judged-failed : (f : Failure) → r ≡ Err f → JudgedOf file ends Γ goal at left (Err (refusal_of f at))
     unfolding judge_word
-    judged-failed e = refused-by 8 λ v. ap (λ x. judge_word at (step (result_of x) v)) e
+    judged-failed Fails e = refused-by 8 λ v. ap (λ x. judge_word at (step (result_of x) v)) e
+    judged-failed TooLarge e = refused-by 9 λ v. ap (λ x. judge_word at (step (result_of x) v)) e
 
-    pub judged-large : r ≡ TooLarge → JudgedOf file ends Γ goal at left (refusal 9 at)
-    unfolding judge_word
-    judged-large e = refused-by 9 λ v. ap (λ x. judge_word at (step (result_of x) v)) e
-
-    pub can-go : r ≡ Passes → CanGo file ends Γ goal at (left - 1)
+    pub can-go : r ≡ Ok tt → CanGo file ends Γ goal at (left - 1)
     can-go e = record {
       can = subst (λ n. CanJudge file ends Γ goal at n) less_one p;
       passed = subst (λ x. StepOf file ends Γ goal at x) e s;
     }
 
-  pub judged-passed : {x : Judged} → Goes file ends Γ goal at (left - 1) x → JudgedOf file ends Γ goal at left x
+  pub judged-passed : {x : Answer} → Goes file ends Γ goal at (left - 1) x → JudgedOf file ends Γ goal at left x
   judged-passed {x} h = subst (λ n. JudgedOf file ends Γ goal at n x) (sym less_one) h
 
 one_more_lem : (v : Verdict) → one_more v ≡ accepted 1 also v
@@ -152,15 +150,16 @@ also_stop : (m k i : ℕ) (v : Verdict) → accepted m also (refused k i also v)
 unfolding ◌also◌
 also_stop m k i v = refl
 
-pub accepted-is : (v : Verdict) {m at end : ℕ} → Accepted m at ≡ judged_of v end → (v ≡ accepted m) × (at ≡ end)
-accepted-is (accepted n) e = (cc, cc)
+pub accepted-is : (v : Verdict) {j : Judged} {end : ℕ} → ◌≡◌ {A = Answer} (Ok j) (judged_of v end) →
+    (v ≡ accepted j.count) × (j.end ≡ end)
+accepted-is (accepted n) e = let i : ◌≡◌ {A = Judged} _ _ = cc e in (ap accepted (sym (ap (λ x. x.count) i)), ap (λ x. x.end) i)
 accepted-is (refused k i) e = absurd (let u : ◌≡◌ {A = ℕ} 0 1 = cc in omega (arith, u))
 
 -- a verdict that was written as a refusal stays one
-pub refused-is : (v w : Verdict) (m end last : ℕ) {r : Judged} {x : Refusal} → r ≡ Refused x → r ≡ judged_of v end →
-    r ≡ judged_of (accepted m also (v also w)) last
-refused-is (accepted n) w m end last e h = absurd (let u : ◌≡◌ {A = ℕ} 0 1 = cc in omega (arith, u))
-refused-is (refused k i) w m end last e h = h ∙ ap (λ v. judged_of v last) (sym (also_stop m k i w))
+pub refused-is : (v w : Verdict) (m end last : ℕ) {x : Refusal} → ◌≡◌ {A = Answer} (Err x) (judged_of v end) →
+    ◌≡◌ {A = Answer} (Err x) (judged_of (accepted m also (v also w)) last)
+refused-is (accepted n) w m end last h = absurd (let u : ◌≡◌ {A = ℕ} 0 1 = cc in omega (arith, u))
+refused-is (refused k i) w m end last h = h ∙ ap (λ v. judged_of v last) (sym (also_stop m k i w))
 
 -- the first of a row's items, where one is left
 record FirstItem (items : List Item) : Type 0 where
@@ -265,23 +264,23 @@ module _ {file ends : List ℕ} {Γ : Context} {goal : Goal} {at left : ℕ} (p 
           goal-stands = its_child.stands;
         }
 
-        module _ {r : Judged} (child-judged : JudgedOf file ends Γ child next left r) where
-          pub going_refused : {x : Refusal} → r ≡ Refused x → Goes file ends Γ goal at left r
-          going_refused h = record {
-            judged = λ g end s.
-                let y = child-of g end s in
-                refused-is (verdict Γ y.tree) (verdicts Γ y.others) count y.past end h
-                (child-judged.judged y.tree y.past y.stands)
-                ∙ sym (ap (λ v. judged_of v end) y.judged);
-          }
+        pub going_refused : {x : Refusal} {r : Answer} → JudgedOf file ends Γ child next left (Err x) →
+            (y : Refusal) × (r ≡ Err y) × (y ≡ x) → Goes file ends Γ goal at left r
+        going_refused child-judged out = record {
+          judged = λ g end s.
+              let y = child-of g end s in
+              out.1 ∙ ap Err out.2
+              ∙ refused-is (verdict Γ y.tree) (verdicts Γ y.others) count y.past end
+              (child-judged.judged y.tree y.past y.stands)
+              ∙ sym (ap (λ v. judged_of v end) y.judged);
+        }
 
-          module _ {n to : ℕ} (h : r ≡ Accepted n to) where
+        module _ {j : Judged} (child-judged : JudgedOf file ends Γ child next left (Ok j)) where
             judged-is : {g : TreeGoal} {end : ℕ} (y : ChildOf child g end) →
-                (verdict Γ y.tree ≡ accepted n) × (to ≡ y.past)
-            judged-is y =
-                accepted-is (verdict Γ y.tree) (sym h ∙ child-judged.judged y.tree y.past y.stands)
+                (verdict Γ y.tree ≡ accepted j.count) × (j.end ≡ y.past)
+            judged-is y = accepted-is (verdict Γ y.tree) (child-judged.judged y.tree y.past y.stands)
 
-            pub going_step : Going file ends Γ goal at left (rest / 8) to (count + n) (k + 1)
+            pub going_step : Going file ends Γ goal at left (rest / 8) j.end (count + j.count) (k + 1)
             going_step = record {
               items = item.others;
               rest-is = ap (λ m. m / 8) (going.rest-is ∙ ap packed_items item.is) ∙ digit-rest item.first item.others;
@@ -290,29 +289,29 @@ module _ {file ends : List ℕ} {Γ : Context} {goal : Goal} {at left : ℕ} (p 
                   let y = child-of g end s in
                   let i = judged-is y in
                   let few = (going.goes g end s).few in
-                  let c = goal-counts Γ file ends y.stands n i.0 in
+                  let c = goal-counts Γ file ends y.stands j.count i.0 in
                   record {
                     trees = y.others;
                     stand = subst (λ q. GoalsStand Γ file ends (drop (k + 1) (goals file ends Γ goal at left))
                         y.others left q end) (sym i.1) y.rest-stand;
                     judged = y.judged ∙ ap (λ v. accepted count also (v also verdicts Γ y.others)) i.0
-                        ∙ also_sum count n (verdicts Γ y.others);
+                        ∙ also_sum count j.count (verdicts Γ y.others);
                     few = omega (arith, few, c, i.1);
                   };
             }
 
             -- no count is larger than the words of the file, and one
-            pub count_fits : {bound : ℕ} → 8193 < bound → count + n < bound
+            pub count_fits : {bound : ℕ} → 8193 < bound → count + j.count < bound
             count_fits b =
                 let y = its_child in
                 let i = judged-is y in
                 let few = (going.goes p.can.tree p.can.end p.can.goal-stands).few in
-                let c = goal-counts Γ file ends y.stands n i.0 in
+                let c = goal-counts Γ file ends y.stands j.count i.0 in
                 let l = goal-inside Γ file ends y.stands in
                 let z = p.can.size in
                 omega (arith, few, c, l, z, b)
 
-    pub going_end : rest ≡ 0 → Goes file ends Γ goal at left (Accepted count next)
+    pub going_end : rest ≡ 0 → Goes file ends Γ goal at left (answer count next)
     going_end z = record {
       judged = λ g end s.
           let x = going.goes g end s in
@@ -324,7 +323,7 @@ module _ {file ends : List ℕ} {Γ : Context} {goal : Goal} {at left : ℕ} (p 
     }
       where
         go : (g : TreeGoal) (end : ℕ) (ts : List TreeGoal) → GoalsStand Γ file ends [] ts left next end →
-            verdict Γ g ≡ accepted count also verdicts Γ ts → Accepted count next ≡ judged_of (verdict Γ g) end
+            verdict Γ g ≡ accepted count also verdicts Γ ts → answer count next ≡ judged_of (verdict Γ g) end
         go g end [] h j =
-            ap (λ i. Accepted count i) h ∙ sym (ap (λ v. judged_of v end) (j ∙ also_last count))
+            ap (λ i. answer count i) h ∙ sym (ap (λ v. judged_of v end) (j ∙ also_last count))
         go g end (t ∷ ts) h j = absurd h

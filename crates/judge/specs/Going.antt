@@ -3,14 +3,12 @@
 -- that has the children. Assumes nothing.
 --     CanChild, GoalLow    what the goal of a child is asked for under: places of a small file, and a number that a child has
 --     CanGo, Goes          what judging the children asks for and promises
-use Rattle.std.specs.Prelude.{List, ℕ, suc, ◌<◌, ◌≤◌, length}
+use Rattle.std.specs.Prelude.{List, ℕ, suc, ◌<◌, ◌≤◌, length, Ok}
 use Rattle.rules.specs.Context.{Context}
-use Rattle.implication.specs.declared.Condition.TheVariants.{Passes}
 use Rattle.goals.specs.declared.Goal.{Goal}
 use Rattle.goals.specs.declared.Goal.TheVariants.{Flow, Set, Pre}
-use Rattle.goals.specs.declared.Judged.{Judged}
 use Rattle.goals.specs.Children.{children_at}
-use Rattle.goals.specs.Goals.{StepOf, CanJudge, JudgedOf}
+use Rattle.goals.specs.Goals.{StepOf, Answer, CanJudge, JudgedOf}
 
 -- places of a file
 abbrev pub GoalLow : List ℕ → Goal → Type 0
@@ -26,7 +24,7 @@ pub record CanChild (file ends : List ℕ) (goal : Goal) (rule at k : ℕ) : Typ
 
 pub record CanGo (file ends : List ℕ) (Γ : Context) (goal : Goal) (at left : ℕ) : Type 0 where
   pub can : CanJudge file ends Γ goal at (suc left)
-  pub passed : StepOf file ends Γ goal at Passes
+  pub passed : StepOf file ends Γ goal at (Ok tt)
 
-abbrev pub Goes : List ℕ → List ℕ → Context → Goal → ℕ → ℕ → Judged → Type 0
+abbrev pub Goes : List ℕ → List ℕ → Context → Goal → ℕ → ℕ → Answer → Type 0
 Goes file ends Γ goal at left r = JudgedOf file ends Γ goal at (suc left) r

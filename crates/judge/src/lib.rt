@@ -4,79 +4,62 @@
 pub mod row; // row.rt: what stands after an evidence word
 pub mod rule; // rule.rt: the rule of an evidence word, and the goals of its children
 
-ghost use Rattle.context.specs.Contexts.{context_in};
-ghost use Rattle.masks.specs.Filled.{MasksOf};
-ghost use Rattle.goals.specs.Goals.{CanJudge, JudgedOf};
+ghost use Rattle.std.specs.Prelude.{◌≡◌};
+ghost use Rattle.goals.specs.Files.{context_for, CanJudgeIn, JudgedIn};
+ghost use Rattle.judge.specs.Refusals.{refusal_of};
 ghost use Rattle.judge.specs.Going.{CanGo, Goes};
 
-use context::{Context, Refusal};
+use context::Refusal;
+use goals::file::File;
 use goals::{Goal, Judged};
-use implication::Condition;
+use implication::Failure;
 use row::{past_carried, row_at};
 use rule::{child_of, condition_at};
 use words::kinds::KIND;
 
-// The evidence at a place for a goal, with so many levels left: its word, then its children, each once. This is the one
-// place that makes a refusal of a condition's result.
-#[cycle(judge_judge_children)]
-pub fn judge(
-    w: &[u32],
-    ends: &[u32],
-    masks: &[u64],
-    context: Context,
-    goal: Goal,
-    at: usize,
-    left: usize,
-) -> Judged
-    requires { CanJudge w.now ends.now (context_in context w.now) goal «at» left × MasksOf w.now ends.now masks.now }
-    ensures { JudgedOf w.now ends.now (context_in context w.now) goal «at» left result }
+// The refusal of the evidence word at a place whose conditions do not pass. This is the one place that makes a refusal of
+// a condition's result.
+fn refusal_of(failure: Failure, at: usize) -> Refusal
+    ensures { result ≡ refusal_of failure «at» }
 {
-    let condition = condition_at(w, ends, masks, context, goal, at);
-    match condition {
-        Condition::Passes => judge_children(w, ends, masks, context, goal, at, left - 1),
-        Condition::Fails => Judged::Refused(Refusal {
-            number: 8,
-            place: at,
-        }),
-        Condition::TooLarge => Judged::Refused(Refusal {
-            number: 9,
-            place: at,
-        }),
+    let number = match failure {
+        Failure::Fails => 8,
+        Failure::TooLarge => 9,
+    };
+    Refusal { place: at, number }
+}
+
+// The evidence at a place for a goal, with so many levels left: its word, then its children, each once.
+#[cycle(judge_judge_children)]
+pub fn judge(file: &File, goal: Goal, at: usize, left: usize) -> Result<Judged, Refusal>
+    requires { CanJudgeIn file.now goal «at» left }
+    ensures { JudgedIn file.now goal «at» left result }
+{
+    match condition_at(file, goal, at) {
+        Ok(()) => judge_children(file, goal, at, left - 1),
+        Err(failure) => Err(refusal_of(failure, at)),
     }
 }
 
 // The children of the evidence word at a place whose conditions pass, in file order; the count of words with its own.
 #[cycle(judge_judge_children)]
-fn judge_children(
-    w: &[u32],
-    ends: &[u32],
-    masks: &[u64],
-    context: Context,
-    goal: Goal,
-    at: usize,
-    left: usize,
-) -> Judged
-    requires { CanGo w.now ends.now (context_in context w.now) goal «at» left × MasksOf w.now ends.now masks.now }
-    ensures { Goes w.now ends.now (context_in context w.now) goal «at» left result }
+fn judge_children(file: &File, goal: Goal, at: usize, left: usize) -> Result<Judged, Refusal>
+    requires { CanGo file.now.words.now file.now.ends.now (context_for file.now) goal «at» left }
+    ensures { Goes file.now.words.now file.now.ends.now (context_for file.now) goal «at» left result }
 {
-    let rule = w[at] % KIND;
-    let first = past_carried(ends, row_at(goal, rule), at + 1);
+    let rule = file.words[at] % KIND;
+    let first = past_carried(file.ends, row_at(goal, rule), at + 1);
     let mut rest = first.rest;
     let mut next = first.at;
     let mut count = 1;
     let mut k = 0;
     while rest != 0 {
-        let child = child_of(w, ends, rule, goal, at, k);
-        let judged = judge(w, ends, masks, context, child, next, left);
-        match judged {
-            Judged::Accepted(n, to) => {
-                count += n;
-                next = to;
-            }
-            Judged::Refused(_) => return judged,
-        }
+        let child = child_of(file, rule, goal, at, k);
+        let judged = judge(file, child, next, left)?;
+        count += judged.count;
+        next = judged.end;
         rest = rest / 8;
         k += 1;
     }
-    Judged::Accepted(count, next)
+    Ok(Judged { count, end: next })
 }

@@ -4,72 +4,71 @@
 -- Assumes nothing.
 use mathlib.Core.Path.{refl}
 use native.Mathlib.Omega.{arith}
-use Rattle.judge.proofs.Going.{level-due, can-step, can-go, judged-failed, judged-large, judged-passed}
+use Rattle.std.proofs.lemmas.Result.{err_from_is_err_and}
+use Rattle.judge.proofs.Going.{level-due, can-step, can-go, judged-failed, judged-passed}
 use Rattle.judge.proofs.Going.{going_start, going_step, going_refused, going_end, child-asked, child-can}
 use Rattle.judge.proofs.Going.{next_fits, count_fits}
 use Rattle.judge.proofs.Counts.{goal-place}
 use Rattle.judge.proofs.+judge_judge_children.Goals as goal
 
-pub judge-condition_at-condition-requires : goal.judge-condition_at-condition-requires
-judge-condition_at-condition-requires t c = (can-step c.requires.0, c.requires.1)
+pub judge-condition_at-requires : goal.judge-condition_at-requires
+judge-condition_at-requires t c = can-step c.requires
 
 pub judge-overflow_sub-left : goal.judge-overflow_sub-left
-judge-overflow_sub-left t c = level-due c.requires.0
+judge-overflow_sub-left t c = level-due c.requires
 
 pub judge-judge_children-requires : goal.judge-judge_children-requires
 judge-judge_children-requires t c =
-    let l = level-due c.requires.0 in
-    let passed = can-go c.requires.0 c.condition_at-condition.ensures c.in-Passes.is in
-    (omega (arith, c.decreases), (passed, c.requires.1))
+    let l = level-due c.requires in
+    let passed = can-go c.requires c.condition_at.ensures c.in-Ok.is in
+    (omega (arith, c.decreases), passed)
 
-pub judge-returns-in-Passes : goal.judge-returns-in-Passes
-judge-returns-in-Passes t c = judged-passed c.requires.0 c.judge_children.ensures
+pub judge-returns-in-Ok : goal.judge-returns-in-Ok
+judge-returns-in-Ok t c = judged-passed c.requires c.judge_children.ensures
 
-pub judge-returns-in-Fails : goal.judge-returns-in-Fails
-judge-returns-in-Fails t c = judged-failed c.requires.0 c.condition_at-condition.ensures c.in-Fails.is
+pub judge-returns-in-Err : goal.judge-returns-in-Err
+judge-returns-in-Err t c =
+    rw c.refusal_of.ensures (judged-failed c.requires c.condition_at.ensures c.in-Err.failure c.in-Err.is)
 
-pub judge-returns-in-TooLarge : goal.judge-returns-in-TooLarge
-judge-returns-in-TooLarge t c = judged-large c.requires.0 c.condition_at-condition.ensures c.in-TooLarge.is
+pub judge_children-offset_bounds-file-at : goal.judge_children-offset_bounds-file-at
+judge_children-offset_bounds-file-at t c = let h = goal-place _ _ _ c.requires.can.goal-stands in omega arith
 
-pub judge_children-offset_bounds-w-at : goal.judge_children-offset_bounds-w-at
-judge_children-offset_bounds-w-at t c = let h = goal-place _ _ _ c.requires.0.can.goal-stands in omega arith
-
-pub judge_children-bounds-w-at : goal.judge_children-bounds-w-at
-judge_children-bounds-w-at t c = goal-place _ _ _ c.requires.0.can.goal-stands
+pub judge_children-bounds-file-at : goal.judge_children-bounds-file-at
+judge_children-bounds-file-at t c = goal-place _ _ _ c.requires.can.goal-stands
 
 pub judge_children-overflow_add-at : goal.judge_children-overflow_add-at
 judge_children-overflow_add-at t c =
-    let h = goal-place _ _ _ c.requires.0.can.goal-stands in
-    let l = c.requires.0.can.size in
+    let h = goal-place _ _ _ c.requires.can.goal-stands in
+    let l = c.requires.can.size in
     omega arith
 
 pub judge_children-loop-rest-init : goal.judge_children-loop-rest-init
-judge_children-loop-rest-init t c = (refl, going_start c.requires.0 refl c.row_at.ensures c.past_carried-first.ensures)
+judge_children-loop-rest-init t c = (refl, going_start c.requires refl c.row_at.ensures c.past_carried-first.ensures)
 
 pub judge_children-child_of-child-requires : goal.judge_children-child_of-child-requires
-judge_children-child_of-child-requires t c = child-asked c.requires.0 c.loop-rest.invariant.0 c.loop-rest.invariant.1 c.loop-rest-test.true
+judge_children-child_of-child-requires t c = child-asked c.requires c.loop-rest.invariant.0 c.loop-rest.invariant.1 c.loop-rest-test.true
 
-pub judge_children-judge-judged-requires : goal.judge_children-judge-judged-requires
-judge_children-judge-judged-requires t c =
-    let can = child-can c.requires.0 c.loop-rest.invariant.0 c.loop-rest.invariant.1 c.loop-rest-test.true
+pub judge_children-judge-requires : goal.judge_children-judge-requires
+judge_children-judge-requires t c =
+    let can = child-can c.requires c.loop-rest.invariant.0 c.loop-rest.invariant.1 c.loop-rest-test.true
     c.child_of-child.ensures in
-    (omega (arith, c.decreases), (can, c.requires.1))
+    (omega (arith, c.decreases), can)
+
+pub judge_children-returns-in_err-judged : goal.judge_children-returns-in_err-judged
+judge_children-returns-in_err-judged t c =
+    going_refused c.requires c.loop-rest.invariant.0 c.loop-rest.invariant.1 c.loop-rest-test.true
+    c.child_of-child.ensures c.in_err-judged.ensures (err_from_is_err_and _ c.from_residual.ensures.1)
 
 pub judge_children-overflow_add-count : goal.judge_children-overflow_add-count
 judge_children-overflow_add-count t c =
     record {
-      fits = count_fits c.requires.0 c.loop-rest.invariant.0 c.loop-rest.invariant.1 c.loop-rest-test.true
-          c.child_of-child.ensures c.judge-judged.ensures c.in-Accepted.is (omega arith);
+      fits = count_fits c.requires c.loop-rest.invariant.0 c.loop-rest.invariant.1 c.loop-rest-test.true
+          c.child_of-child.ensures c.in_ok-judged.ensures (omega arith);
     }
-
-pub judge_children-returns-in-Refused : goal.judge_children-returns-in-Refused
-judge_children-returns-in-Refused t c =
-    going_refused c.requires.0 c.loop-rest.invariant.0 c.loop-rest.invariant.1 c.loop-rest-test.true
-    c.child_of-child.ensures c.judge-judged.ensures c.in-Refused.is
 
 pub judge_children-overflow_add-k : goal.judge_children-overflow_add-k
 judge_children-overflow_add-k t c =
-    let h = next_fits c.requires.0 c.loop-rest.invariant.0 c.loop-rest.invariant.1 c.loop-rest-test.true in
+    let h = next_fits c.requires c.loop-rest.invariant.0 c.loop-rest.invariant.1 c.loop-rest-test.true in
     omega arith
 
 pub judge_children-loop-rest-smaller : goal.judge_children-loop-rest-smaller
@@ -78,10 +77,9 @@ judge_children-loop-rest-smaller t c = let h = c.loop-rest-test.true in omega ar
 pub judge_children-loop-rest-preserved : goal.judge_children-loop-rest-preserved
 judge_children-loop-rest-preserved t c = (
   c.loop-rest.invariant.0,
-  going_step c.requires.0 c.loop-rest.invariant.0 c.loop-rest.invariant.1
-      c.loop-rest-test.true c.child_of-child.ensures c.judge-judged.ensures
-      c.in-Accepted.is,
+  going_step c.requires c.loop-rest.invariant.0 c.loop-rest.invariant.1
+      c.loop-rest-test.true c.child_of-child.ensures c.in_ok-judged.ensures,
 )
 
 pub judge_children-returns : goal.judge_children-returns
-judge_children-returns t c = going_end c.requires.0 c.loop-rest.invariant.0 c.loop-rest.invariant.1 c.loop-rest-test.false
+judge_children-returns t c = going_end c.requires c.loop-rest.invariant.0 c.loop-rest.invariant.1 c.loop-rest-test.false

@@ -4,8 +4,8 @@
 -- Assumes nothing.
 use mathlib.Core.Path.{◌≡◌}
 use Prim.Native.Nat.{◌+◌, ◌*◌}
-use Rattle.context.specs.Contexts.{context_in}
 use Rattle.layout.specs.Bytes.{payload_at}
+use Rattle.goals.specs.Files.{context_for}
 use Rattle.judge.proofs.Going.{Going}
 use Rattle.judge.proofs.+judge_judge_children.Given as goal
 
@@ -16,7 +16,8 @@ abbrev pub decreases-judge_children : goal.decreases-judge_children
 decreases-judge_children l = 2 * l.left + 1
 
 abbrev pub invariant-judge_children-loop-rest : goal.invariant-judge_children-loop-rest
-invariant-judge_children-loop-rest l = (l.rule ≡ payload_at l.w l.at) × Going l.w l.ends (context_in l.context l.w) l.goal l.at l.left l.rest l.next l.count l.k
+invariant-judge_children-loop-rest l = (l.rule ≡ payload_at l.file.words.now l.at) ×
+    Going l.file.words.now l.file.ends.now (context_for l.file) l.goal l.at l.left l.rest l.next l.count l.k
 
 abbrev pub decreases-judge_children-loop-rest : goal.decreases-judge_children-loop-rest
 decreases-judge_children-loop-rest l = l.rest

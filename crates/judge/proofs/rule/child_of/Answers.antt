@@ -15,14 +15,14 @@ pre_child-requires c = pre-child_asked c.in-Pre.is c.requires
 pub returns-in-Flow : goal.returns-in-Flow
 returns-in-Flow c =
     let a = c.args in
-    child-is c.in-Flow.is a.w.now a.ends.now a.rule a.at a.k c.flow_child.ensures
+    child-is c.in-Flow.is a.file.now.words.now a.file.now.ends.now a.rule a.at a.k c.flow_child.ensures
 
 pub returns-in-Set : goal.returns-in-Set
 returns-in-Set c =
     let a = c.args in
-    child-is c.in-Set.is a.w.now a.ends.now a.rule a.at a.k c.set_child.ensures
+    child-is c.in-Set.is a.file.now.words.now a.file.now.ends.now a.rule a.at a.k c.set_child.ensures
 
 pub returns-in-Pre : goal.returns-in-Pre
 returns-in-Pre c =
     let a = c.args in
-    child-is c.in-Pre.is a.w.now a.ends.now a.rule a.at a.k c.pre_child.ensures
+    child-is c.in-Pre.is a.file.now.words.now a.file.now.ends.now a.rule a.at a.k c.pre_child.ensures

@@ -5,16 +5,14 @@ use Rattle.judge.proofs.rule.condition_at.Goals as goal
 
 pub flow_condition-requires : goal.flow_condition-requires
 flow_condition-requires c =
-    let asked = c.requires in
-    (can-step_of c.in-Flow.is asked.0, asked.1)
+    can-step_of c.in-Flow.is c.requires
 
 pub set_condition-requires : goal.set_condition-requires
-set_condition-requires c = can-step_of c.in-Set.is c.requires.0
+set_condition-requires c = can-step_of c.in-Set.is c.requires
 
 pub pre_condition-requires : goal.pre_condition-requires
 pre_condition-requires c =
-    let asked = c.requires in
-    (can-step_of c.in-Pre.is asked.0, asked.1)
+    can-step_of c.in-Pre.is c.requires
 
 pub returns-in-Flow : goal.returns-in-Flow
 returns-in-Flow c = step_of c.in-Flow.is c.flow_condition.ensures
