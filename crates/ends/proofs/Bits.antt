@@ -1,7 +1,6 @@
 -- Bits of numbers.
 -- Assumes nothing.
 --     bit-or, bit-power, bit-ones    of a disjunction, of a power of 2, of the largest number of 64 bits
---     shifted                        a shifted 1 is a power of 2
 use mathlib.Core.Path.{◌≡◌, refl, sym, ap, ◌∙◌}
 use mathlib.Core.Bool.{true, false, ◌||◌}
 use mathlib.Core.Logic.{inl, inr}
@@ -11,7 +10,7 @@ use native.Mathlib.Nat.{eq-or-lt_of_le, div-eq_of_lt, mul-mod_left, mul_comm, on
 use borrow.Author.Tests.{eq-eqb, ne_eqb}
 use lib.Bits.{bit_or, or_shr, or_step}
 use lib.Dec.{eqb}
-use lib.Pow.{pow_pos, pow-lt, pow-add, shl_exact, shl-shr, high, ones_lt, ones_split}
+use lib.Pow.{pow_pos, pow-lt, pow-add, shl-shr, high, ones_lt, ones_split}
 use Rattle.ends.proofs.Sizes.{lt_or_le}
 use Rattle.ends.specs.Mask.{bit}
 
@@ -82,6 +81,3 @@ bit-ones i h =
     ∙ ap (λ n. eqb n 1)
     (ap (λ n. (n - 1) % 2) (pow-suc 2 (63 - i) ∙ mul_comm (2 ^ (63 - i)) 2)
     ∙ odd (2 ^ (63 - i)) (pow_pos (63 - i)))
-
-pub shifted : (m i : ℕ) → i < 64 → bit_or m (1 * 2 ^ i % 18446744073709551616) ≡ bit_or m (2 ^ i)
-shifted m i h = ap (λ n. bit_or m n) (shl_exact {a = 1} 1 i 64 (omega arith) (omega arith) ∙ one-mul (2 ^ i))

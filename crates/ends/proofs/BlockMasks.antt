@@ -1,12 +1,10 @@
 -- Masks of blocks, written from the first block to the last; a mask of a range by its blocks.
 -- Assumes nothing.
 --     Blocking                     the masks of the blocks before one are written
---     blocking_none, blocking_more, blocking_all
---                                  before the first turn; after a turn; after the last
---     joined-none, joined-more, joined-all
---                                  the masks of no blocks; of some and one more; of all
+--     blocking_more, blocking_all  after a turn; after the last
+--     joined-none, joined-more     the masks of no blocks; of some and one more
 --     between                      the words before the blocks, the blocks, the words after them
-use mathlib.Core.Path.{◌≡◌, refl, sym, ap₂, subst, ◌∙◌}
+use mathlib.Core.Path.{◌≡◌, sym, ap₂, subst, ◌∙◌}
 use mathlib.Core.List.{List}
 use mathlib.Core.Logic.{inl, inr}
 use Prim.Native.Nat.{ℕ, ◌+◌, ◌-◌, ◌*◌, ◌/◌, ◌<◌, ◌≤◌}
@@ -20,20 +18,10 @@ use Rattle.ends.proofs.Marks.{marks-range, marks-empty, marks-join, called_same}
 
 module _ (file before : List ℕ) where
   pub record Blocking (ends : List ℕ) (i : ℕ) : Type 0 where
-    pub inside : i ≤ length file / 32
     pub same_length : length ends ≡ length before
     pub kept : (at : ℕ) → at < length file → get_or ends at 0 ≡ get_or before at 0
     pub rest-kept : (at : ℕ) → table_at file ≤ at → get_or ends at 0 ≡ get_or before at 0
     pub done : (b : ℕ) → b < i → Marks (called_mask file before) file 32 (32 * b) (block_at ends (length file + 2 * b))
-
-  pub blocking_none : Blocking before 0
-  blocking_none = record {
-    inside = omega arith;
-    same_length = refl;
-    kept = λ at h. refl;
-    rest-kept = λ at h. refl;
-    done = λ b h. absurd (omega arith);
-  }
 
   pub blocking_all : {ends : List ℕ} {i : ℕ} → CanBlock file before → length file / 32 ≤ i → Blocking ends i →
       Blocked file before ends
@@ -55,7 +43,6 @@ module _ (file before : List ℕ) where
 
     written : (v : ℕ) → Marks (called_mask file before) file 32 (32 * i) v → Blocking (put ends place v) (i + 1)
     written v e = record {
-      inside = omega arith;
       same_length = put-length ends place v ∙ m.same_length;
       kept = λ at h. put_other ends place v at (λ f. omega arith) (λ f. omega arith) ∙ m.kept at h;
       rest-kept = λ at h. put_other ends place v at (λ f. omega arith) (λ f. omega arith) ∙ m.rest-kept at h;
@@ -98,12 +85,6 @@ module _ {file ends : List ℕ} (h : Blocks file ends) where
       (subst (λ s. Marks called file 32 s v) p (subst (Marks called file 32 (32 * i)) (sym e) (h.block i k))))
 
 module _ {called : ℕ → ℕ} {file : List ℕ} where
-  pub joined-all : (a : ℕ) {i b m : ℕ} → i ≤ b → b ≤ i → Marks called file (32 * (i - a)) (32 * a) m →
-      Marks called file (32 * (b - a)) (32 * a) m
-  joined-all a {i} {b} {m} h k n =
-      let e : i ≡ b = omega arith in
-      subst (λ j. Marks called file (32 * (j - a)) (32 * a) m) e n
-
   pub between : {from to a b x y z : ℕ} → from ≤ 32 * a → a ≤ b → 32 * b ≤ to →
       Marks called file (32 * a - from) from x → Marks called file (32 * (b - a)) (32 * a) y →
       Marks called file (to - 32 * b) (32 * b) z → Marks called file (to - from) from (bit_or (bit_or x y) z)

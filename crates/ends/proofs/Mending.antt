@@ -1,11 +1,9 @@
 -- Ends of some words written anew, from the last of these words to the first.
 -- Assumes nothing.
 --     Mending                  the ends of the words from a place on are written
---     mending_none, mending_more, mending_all
---                              before the first turn; after a turn; after the last
---     can-mend_all, mended_all the ends of all words
+--     mending_more             after a turn
 --     mending_end              what a turn writes, and that it goes no further than the last word
-use mathlib.Core.Path.{◌≡◌, refl, ◌∙◌}
+use mathlib.Core.Path.{◌≡◌, ◌∙◌}
 use mathlib.Core.Logic.{inl, inr}
 use mathlib.Core.List.{List}
 use Prim.Native.Nat.{ℕ, ◌+◌, ◌-◌, ◌<◌, ◌≤◌}
@@ -14,8 +12,8 @@ use lib.ListN.{length, get_or, set, length-set}
 use lib.Seq.{get_or-set_same, get_or-set_other}
 use Rattle.layout.specs.Bytes.{kind_at, payload_at}
 use Rattle.layout.specs.Nodes.{count_of}
-use Rattle.ends.specs.Sizes.{sizes, follow, CanFill, Filled}
-use Rattle.ends.specs.Mend.{CanMend, Mended}
+use Rattle.ends.specs.Sizes.{sizes, follow}
+use Rattle.ends.specs.Mend.{CanMend}
 use Rattle.ends.proofs.Sizes.{lt_or_le, Ended, follow-end}
 
 module _ (file before : List ℕ) (from to : ℕ) where
@@ -26,24 +24,6 @@ module _ (file before : List ℕ) (from to : ℕ) where
     pub ended : Ended file ends i
     pub kept-before : (at : ℕ) → at < i → get_or ends at 0 ≡ get_or before at 0
     pub kept-behind : (at : ℕ) → to ≤ at → get_or ends at 0 ≡ get_or before at 0
-
-  pub mending_none : CanMend file before from to → Mending before to
-  mending_none c = record {
-    low = c.ordered;
-    high = omega arith;
-    same_length = refl;
-    ended = c.sized;
-    kept-before = λ at h. refl;
-    kept-behind = λ at h. refl;
-  }
-
-  pub mending_all : (ends : List ℕ) (i : ℕ) → i ≤ from → Mending ends i → Mended file before ends from to
-  mending_all ends i l m = record {
-    same_length = m.same_length;
-    sized = λ at h. m.ended at (omega arith);
-    kept-before = λ at h. m.kept-before at (omega (arith, m.low));
-    kept-behind = m.kept-behind;
-  }
 
   module _ (can : CanMend file before from to) where
     pub mending_more : (ends : List ℕ) (i v : ℕ) → from < i → Mending ends i → v ≡ i - 1 + get_or (sizes file) (i - 1) 0 →
@@ -76,16 +56,3 @@ module _ (file before : List ℕ) (from to : ℕ) where
         × (follow ends (length file) n (i - 1 + 1) ≤ length file)
     mending_end ends i n l m e =
         follow-end file ends i m.ended (i - 1) n (omega arith) (omega (arith, m.high, can.inside)) e
-
--- the ends of all words
-pub can-mend_all : {file ends : List ℕ} → CanFill file ends → CanMend file ends 0 (length file)
-can-mend_all c = record {
-  ordered = omega arith;
-  inside = omega arith;
-  long = c.long;
-  small = c.small;
-  sized = λ at h l. absurd (omega arith);
-}
-
-pub mended_all : {file before after : List ℕ} → Mended file before after 0 (length file) → Filled file before after
-mended_all m = record { kept = m.kept-behind; ended = λ at h. m.sized at (omega arith) h }

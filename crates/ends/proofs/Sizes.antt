@@ -1,6 +1,5 @@
 -- The sizes of what starts at each word.
 -- Assumes nothing.
---     counted, uncounted         the count of a kind that has parts; of one that has none
 --     sizes-length, sizes-at     as many as the words; the size at a place, by the sizes after it
 --     sizes-inside               no size goes past the last word
 --     follow-past                following ends is going past parts by their sizes
@@ -12,32 +11,15 @@ use Prim.Native.Nat.{ℕ, zero, suc, ◌+◌, ◌-◌, ◌/◌, ◌%◌, ◌<◌
 use native.Mathlib.Omega.{arith}
 use native.Mathlib.Decide.{dec_lt}
 use native.Mathlib.Numerals.{add-one}
-use borrow.Author.Tests.{ne_eqb, lt-ltb, le-ltb}
+use borrow.Author.Tests.{lt-ltb, le-ltb}
 use lib.ListN.{length, get_or, drop, length-drop, drop_of_length-le}
 use lib.Seq.{drop-cons, drop-drop}
 use Rattle.layout.specs.Bytes.{kind_at, payload_at, payloads}
-use Rattle.layout.specs.Nodes.{count_beside, counts, count_of}
+use Rattle.layout.specs.Nodes.{count_of}
 use Rattle.ends.specs.Sizes.{past, sizes, follow}
 
 pub lt_or_le : (m n : ℕ) → (m < n) ⊎ (n ≤ m)
 lt_or_le m n = elim (dec_lt m n) [ yes h ↦ inl h | no h ↦ inr (omega arith) ]
-
-pub counted : (p : ℕ) {k n : ℕ} → k ≡ n → count_of k p ≡ count_beside n (counts p)
-unfolding count_of
-counted p e = ap (λ i. count_beside i (counts p)) e
-
--- none of the kinds
-abbrev KindMissed : ℕ → List (ℕ × ℕ) → Type 0
-KindMissed k [] = Unit {0}
-KindMissed k (e ∷ l) = KindMissed k l × (k ≡ e.0 → ⊥)
-
-missed : (k : ℕ) (l : List (ℕ × ℕ)) → KindMissed k l → count_beside k l ≡ 0
-missed k [] h = refl
-missed k (e ∷ l) h = rw (ne_eqb k e.0 h.1) (missed k l h.0)
-
-pub uncounted : (k p : ℕ) → KindMissed k (counts p) → count_of k p ≡ 0
-unfolding count_of
-uncounted k p h = missed k (counts p) h
 
 pub sizes-length : (file : List ℕ) → length (sizes file) ≡ length file
 unfolding sizes
@@ -121,12 +103,11 @@ follow-next : (ends : List ℕ) (n k at : ℕ) → at < n → follow ends n (suc
 unfolding follow
 follow-next ends n k at h = rw (lt-ltb at n h, follow) refl
 
-pub follow-on : (ends : List ℕ) (n k at : ℕ) → 0 < k → at < n →
-    follow ends n k at ≡ follow ends n (k - 1) (get_or ends at 0)
-follow-on ends n zero at l h = absurd (omega arith)
-follow-on ends n (suc k) at l h =
-    let e : k ≡ suc k - 1 = omega arith in
-    follow-next ends n k at h ∙ ap (λ i. follow ends n i (get_or ends at 0)) e
+pub follow-on : (ends : List ℕ) (n k i at : ℕ) → i < k → at < n →
+    follow ends n (k - i) at ≡ follow ends n (k - (i + 1)) (get_or ends at 0)
+follow-on ends n k i at l h =
+    let e : k - i ≡ suc (k - (i + 1)) = omega arith in
+    ap (λ j. follow ends n j at) e ∙ follow-next ends n (k - (i + 1)) at h
 
 module _ (file ends : List ℕ) (from : ℕ) (h : Ended file ends from) where
   pub follow-past : (k at : ℕ) → from ≤ at →

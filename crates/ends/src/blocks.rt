@@ -4,19 +4,17 @@ ghost use Rattle.std.specs.Prelude.{◌≡◌, ◌*◌, ◌-◌, ◌/◌, ◌≤
 ghost use Rattle.ends.specs.Blocks.{called_mask, marks_in, Marks, Blocks, CanBlock, Blocked};
 
 use super::mask::{mark, mask_at, put_mask};
+use super::procedures::masks_at;
 
 // The mask of what the words from a place up to another assign. The masks of procedures that they call stand in the list.
 pub fn marks(w: &[u32], ends: &[u32], from: usize, to: usize) -> u64
     requires { CanBlock w.now ends.now × (to ≤ length w.now) }
     ensures { result ≡ marks_in (called_mask w.now ends.now) w.now (to - from) from 0 }
 {
-    let n = w.len();
-    let procedures = n + 2 * (n / 32) + 17;
-    let mut mask: u64 = 0;
-    let mut at = from;
-    while at < to {
+    let procedures = masks_at(w);
+    let mut mask = 0;
+    for at in from..to {
         mask = mark(ends, procedures, mask, w[at]);
-        at += 1;
     }
     mask
 }
@@ -27,11 +25,9 @@ pub fn fill_blocks(w: &[u32], ends: &mut [u32])
     ensures { Blocked w.now ends.old ends.new }
 {
     let n = w.len();
-    let mut b = 0;
-    while b < n / 32 {
+    for b in 0..n / 32 {
         let mask = marks(w, ends, 32 * b, 32 * b + 32);
         put_mask(ends, n + 2 * b, mask);
-        b += 1;
     }
 }
 
@@ -41,11 +37,9 @@ fn block_marks(w: &[u32], ends: &[u32], a: usize, b: usize) -> u64
     ensures { Marks (called_mask w.now ends.now) w.now (32 * (b - a)) (32 * a) result }
 {
     let n = w.len();
-    let mut mask: u64 = 0;
-    let mut i = a;
-    while i < b {
-        mask = mask | mask_at(ends, n + 2 * i);
-        i += 1;
+    let mut mask = 0;
+    for i in a..b {
+        mask |= mask_at(ends, n + 2 * i);
     }
     mask
 }

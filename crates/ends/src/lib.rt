@@ -5,6 +5,7 @@
 pub mod mask; // mask.rt: identifiers as the bits of a number
 pub mod blocks; // blocks.rt: what words assign, by blocks
 pub mod mend; // mend.rt: the ends of some words, written anew
+pub mod procedures; // procedures.rt: where those of a file start, and their masks
 
 ghost use Rattle.std.specs.Prelude.{◌≡◌, ◌/◌, ◌%◌, ◌<◌, ◌≤◌, length, get_or};
 ghost use Rattle.layout.specs.Bytes.{payloads};
@@ -22,23 +23,18 @@ pub fn end_at(ends: &[u32], at: usize) -> usize
     requires { «at» < length ends.now }
     ensures { result ≡ get_or ends.now «at» 0 }
 {
-    let e = ends[at];
-    e as usize
+    ends[at] as usize
 }
 
 // The same of any place: 0 past the list.
 pub fn end_or_zero(ends: &[u32], place: usize) -> usize
     ensures { result ≡ get_or ends.now place 0 }
 {
-    if place < ends.len() {
-        let e = ends[place];
-        e as usize
-    } else {
-        0
-    }
+    ends.get(place).copied().unwrap_or(0) as usize
 }
 
 // How many expressions and commands follow a word (document 01, "Layout").
+#[tactic(auto, unfolding(layout::specs::Nodes::count_of))]
 pub fn parts(x: u32) -> usize
     ensures { result ≡ count_of (x / payloads) (x % payloads) }
 {
@@ -69,13 +65,11 @@ pub fn past(ends: &[u32], words: usize, from: usize, count: usize) -> usize
     ensures { result ≡ follow ends.now words count from }
 {
     let mut at = from;
-    let mut left = count;
-    while 0 < left {
+    for _ in 0..count {
         if words <= at {
             return at;
         }
         at = ends[at] as usize;
-        left -= 1;
     }
     at
 }

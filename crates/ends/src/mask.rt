@@ -8,6 +8,7 @@ ghost use Rattle.ends.specs.Blocks.{block_at, procedure_mask, written, with_mark
 use words::kinds::{CALL, FOR, KIND, TO_ARRAY, TO_SCALAR};
 
 // Whether the mask has bit i.
+#[tactic(auto, unfolding(crate::specs::Mask::bit))]
 pub fn has_bit(mask: u64, i: u32) -> bool
     requires { i < 64 }
     ensures { result ≡ bit mask i }
@@ -23,14 +24,15 @@ pub fn with_bit(mask: u64, i: u32) -> u64
     mask | (1u64 << i)
 }
 
-// A mask that stands in a list, in two halves.
+// A mask stands in a list in two halves: scalars, then arrays.
+const HALF: u64 = 1 << 32;
+
+// A mask that stands in a list.
 pub fn mask_at(ends: &[u32], at: usize) -> u64
     requires { «at» + 1 < length ends.now }
     ensures { result ≡ block_at ends.now «at» }
 {
-    let scalars = ends[at] as u64;
-    let arrays = ends[at + 1] as u64;
-    scalars + 4294967296 * arrays
+    u64::from(ends[at]) + HALF * u64::from(ends[at + 1])
 }
 
 // Puts a mask in a list.
@@ -39,11 +41,12 @@ pub fn put_mask(ends: &mut [u32], at: usize, mask: u64)
     ensures { ends.new
         ≡ set (set ends.old «at» (mask % 4294967296)) («at» + 1) (mask / 4294967296) }
 {
-    ends[at] = (mask % 4294967296) as u32;
-    ends[at + 1] = (mask / 4294967296) as u32;
+    ends[at] = (mask % HALF) as u32;
+    ends[at + 1] = (mask / HALF) as u32;
 }
 
 // The mask of procedure p, of those that stand from a place on: none for a number that no procedure has.
+#[tactic(auto, unfolding(crate::specs::Blocks::procedure_mask))]
 fn procedure_mask(ends: &[u32], from: usize, p: u32) -> u64
     requires { from + 32 ≤ length ends.now }
     ensures { result ≡ procedure_mask ends.now from p }

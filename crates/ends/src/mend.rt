@@ -8,9 +8,7 @@ pub fn mend_ends(w: &[u32], ends: &mut [u32], from: usize, to: usize)
     requires { CanMend w.now ends.old from to }
     ensures { Mended w.now ends.old ends.new from to }
 {
-    let mut i = to;
-    while from < i {
-        i -= 1;
+    for i in (from..to).rev() {
         let end = past(ends, w.len(), i + 1, parts(w[i]));
         ends[i] = end as u32;
     }

@@ -1,11 +1,9 @@
 -- `ends::past` meets its contract: what is left to follow from the place at hand gives what is asked from the first.
--- The measure is the parts left. Assumes nothing.
+-- Assumes nothing.
 use mathlib.Core.Path.{◌≡◌}
+use Prim.Native.Nat.{◌-◌}
 use Rattle.ends.specs.Sizes.{follow}
 use Rattle.ends.proofs.past.Given as goal
 
-abbrev pub invariant-loop-left : goal.invariant-loop-left
-invariant-loop-left l = follow l.ends l.words l.left l.at ≡ follow l.ends l.words l.count l.from
-
-abbrev pub decreases-loop-left : goal.decreases-loop-left
-decreases-loop-left l = l.left
+abbrev pub invariant-loop : goal.invariant-loop
+invariant-loop l = follow l.ends l.words (l.count - l.counter) l.at ≡ follow l.ends l.words l.count l.from

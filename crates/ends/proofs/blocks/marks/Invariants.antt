@@ -1,5 +1,5 @@
 -- `ends::blocks::marks` meets its contract: what the words left add to the mask at hand is what all of them make.
--- The measure is the words left. Assumes nothing.
+-- Assumes nothing.
 use mathlib.Core.Path.{◌≡◌}
 use Prim.Native.Nat.{◌-◌}
 use Rattle.ends.specs.Blocks.{called_mask, marks_in}
@@ -7,6 +7,3 @@ use Rattle.ends.proofs.blocks.marks.Given as goal
 
 abbrev pub invariant-loop-at : goal.invariant-loop-at
 invariant-loop-at l = marks_in (called_mask l.w l.ends) l.w (l.to - l.at) l.at l.mask ≡ marks_in (called_mask l.w l.ends) l.w (l.to - l.from) l.from 0
-
-abbrev pub decreases-loop-at : goal.decreases-loop-at
-decreases-loop-at l = l.to - l.at
