@@ -19,7 +19,7 @@ use Rattle.layout.proofs.Nodes.{with_levels}
 use Rattle.layout.proofs.Forms.{Form, form-expression, form}
 use Rattle.ends.specs.Procedures.{start_at}
 use Rattle.scan.specs.Programs.{procedure_count, StartsFrom}
-use Rattle.scan.proofs.ProcedureMasks.{count_none, count-few}
+use Rattle.scan.proofs.ProcedureMasks.{count_none, count_some}
 
 pub next_start : (file ends : List ℕ) (Γ : Context) (l : List Program) (f : Program) (at p i : ℕ) →
     ProgramsStand Γ file l f at p → StartsFrom file ends l f i → start_at file ends i ≡ at
@@ -44,4 +44,4 @@ count-procedures limits file f h = go f.procedures f.main h.table h.few h.progra
         let k : ℕ = length (g ∷ l) in
         let small : k < payloads = omega arith in
         let e = remainder 62 k (number_at file 1) t.1 small in
-        sym (count-few file (quotient 62 k (number_at file 1) t.1 small) (omega (arith, e))) ∙ e
+        sym (count_some file (quotient 62 k (number_at file 1) t.1 small)) ∙ omega (arith, e)

@@ -1,4 +1,5 @@
 -- Scans of the words of expressions, commands and sets, and refusals 16 and 7.
+--     Least         the lesser of two numbers, as std's `min` answers it
 --     Ranges        a turn of a scan
 --     Trees         what the scans find where an expression, a command or a set stands
 --     Places        the same up to the end that a list of ends has
@@ -11,6 +12,7 @@
 --     Tests         the test of a place and the scan for the first
 --     ForMasks      the scalars that `for`s count with, as they are collected
 --     StillSteady   refusal 7 where a command is put in the place of another
+pub mod Least
 pub mod Ranges
 pub mod Trees
 pub mod Places

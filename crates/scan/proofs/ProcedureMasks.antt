@@ -1,19 +1,19 @@
 -- How many procedures a file has, and the masks of what they modify, as they are filled in order.
 -- Assumes nothing.
---     count-short, count_none, count-few, count-many    the count by word 1
+--     count_none, count_some                            the count by word 1
 --     count_most                                        at most 16
 --     Masking                                           the masks of the procedures before one are made
---     masking_none, masking_more, masking_all           before the first turn; after a turn; after the last
+--     masking_more                                      after a turn
 --     MasksAgree, made-moved                            two lists with the same ends, starts and masks; masks made in one, in the other
 use mathlib.Core.Path.{◌≡◌, refl, sym, ap, subst, ◌∙◌}
 use mathlib.Core.Bool.{Bool, true, false, cond}
 use mathlib.Core.List.{List}
 use mathlib.Core.Logic.{inl, inr}
-use Prim.Native.Nat.{ℕ, ◌+◌, ◌*◌, ◌-◌, ◌<◌, ◌≤◌}
+use Prim.Native.Nat.{ℕ, ◌+◌, ◌*◌, ◌-◌, ◌<◌, ◌≤◌, min}
 use native.Mathlib.Omega.{arith}
-use borrow.Author.Tests.{eq-eqb, ne_eqb, le-leb, lt-leb, leb-true, lt-ltb}
+use borrow.Author.Tests.{eq-eqb, ne_eqb, leb-true, leb-false, lt-ltb}
 use lib.Dec.{eqb, leb}
-use lib.ListN.{length, get_or, get_or-eq_default}
+use lib.ListN.{length, get_or}
 use Rattle.layout.specs.Bytes.{kind_at, payload_at}
 use Rattle.ends.specs.Blocks.{table_at, procedure_mask, called_mask, marks_in, Marks, CanBlock}
 use Rattle.ends.specs.Places.{end_at}
@@ -21,25 +21,20 @@ use Rattle.ends.specs.Procedures.{start_at, mask_at}
 use Rattle.ends.proofs.Sizes.{lt_or_le}
 use Rattle.ends.proofs.Marks.{marks-range}
 use Rattle.ends.proofs.Put.{put, put-length, put_other, put-block, put-before}
-use Rattle.scan.specs.Programs.{procedure_count, MaskMade, Masked}
+use Rattle.scan.specs.Programs.{procedure_count, MaskMade}
 
 module _ (file : List ℕ) where
   pub count_none : (kind_at file 1 ≡ 62 → ⊥) → 0 ≡ procedure_count file
   unfolding procedure_count
   count_none h = rw (ne_eqb (kind_at file 1) 62 h, procedure_count) refl
 
-  pub count-short : length file < 2 → 0 ≡ procedure_count file
-  count-short h =
-      let e : get_or file 1 0 ≡ 0 = get_or-eq_default file 0 (omega arith) in
-      count_none λ k. omega (arith, e, k)
-
-  pub count-few : kind_at file 1 ≡ 62 → payload_at file 1 ≤ 16 → payload_at file 1 ≡ procedure_count file
+  pub count_some : kind_at file 1 ≡ 62 → min (payload_at file 1) 16 ≡ procedure_count file
   unfolding procedure_count
-  count-few e h = rw (eq-eqb (kind_at file 1) 62 e, procedure_count) (rw (le-leb (payload_at file 1) 16 h) refl)
-
-  pub count-many : kind_at file 1 ≡ 62 → 16 < payload_at file 1 → 16 ≡ procedure_count file
-  unfolding procedure_count
-  count-many e h = rw (eq-eqb (kind_at file 1) 62 e, procedure_count) (rw (lt-leb (payload_at file 1) 16 h) refl)
+  count_some e = rw (eq-eqb (kind_at file 1) 62 e, procedure_count) (go (leb (payload_at file 1) 16) refl)
+    where
+      go : (a : Bool) → leb (payload_at file 1) 16 ≡ a → min (payload_at file 1) 16 ≡ cond a (payload_at file 1) 16
+      go true e = let h = leb-true (payload_at file 1) 16 e in omega arith
+      go false e = let h = leb-false (payload_at file 1) 16 e in omega arith
 
   pub count_most : procedure_count file ≤ 16
   unfolding procedure_count
@@ -67,25 +62,9 @@ made-moved {file} {l} {m} {i} a x = record {
 
 module _ (file before : List ℕ) where
   pub record Masking (ends : List ℕ) (i : ℕ) : Type 0 where
-    pub inside : i ≤ procedure_count file
     pub same_length : length ends ≡ length before
     pub kept : (at : ℕ) → at < table_at file + 17 → get_or ends at 0 ≡ get_or before at 0
     pub made : (j : ℕ) → j < i → MaskMade file ends j
-
-  pub masking_none : Masking before 0
-  masking_none = record {
-    inside = omega arith;
-    same_length = refl;
-    kept = λ at h. refl;
-    made = λ j h. absurd (omega arith);
-  }
-
-  pub masking_all : {ends : List ℕ} {i : ℕ} → procedure_count file ≤ i → Masking ends i → Masked file before ends
-  masking_all h m = record {
-    same_length = m.same_length;
-    kept = m.kept;
-    made = λ j l. m.made j (omega arith);
-  }
 
   module _ (can : CanBlock file before) {ends : List ℕ} {i : ℕ} (m : Masking ends i) (more : i < procedure_count file) where
     abbrev place : ℕ
@@ -123,7 +102,6 @@ module _ (file before : List ℕ) where
 
     written : (v : ℕ) → MaskMade file (put ends place v) i → Masking (put ends place v) (i + 1)
     written v x = record {
-      inside = omega arith;
       same_length = put-length ends place v ∙ m.same_length;
       kept = λ at h. table_kept v at h ∙ m.kept at h;
       made = λ j h. elim (lt_or_le j i) [

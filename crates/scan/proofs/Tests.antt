@@ -11,10 +11,9 @@
 use mathlib.Core.Path.{◌≡◌, refl, sym, ap, ap₂, subst, ◌∙◌}
 use mathlib.Core.Bool.{Bool, true, false, not, ◌&&◌, not-not}
 use mathlib.Core.List.{List}
-use mathlib.Core.Logic.{inl, inr}
-use Prim.Native.Nat.{ℕ, suc, ◌+◌, ◌*◌, ◌-◌, ◌/◌, ◌%◌, ◌<◌, ◌≤◌}
+use Prim.Native.Nat.{ℕ, suc, ◌+◌, ◌*◌, ◌-◌, ◌/◌, ◌%◌, ◌<◌, ◌≤◌, min}
 use native.Mathlib.Omega.{arith}
-use borrow.Author.Tests.{eq-eqb, ne_eqb, lt-leb}
+use borrow.Author.Tests.{eq-eqb, ne_eqb}
 use lib.Dec.{eqb}
 use lib.ListN.{get_or}
 use Rattle.std.specs.Prelude.{Some, None}
@@ -36,15 +35,12 @@ use Rattle.layout.specs.Nodes.{command_node}
 use Rattle.layout.proofs.Stands.{rest, less-fit}
 use Rattle.layout.proofs.Nodes.{content-at, node_inside}
 use Rattle.layout.proofs.Fors.{ForStands, for-read, file-fors}
-use Rattle.words.specs.Load.{lesser}
-use Rattle.words.proofs.Loading.{lesser-first}
 use Rattle.ends.specs.Ends.{EndsListed}
 use Rattle.ends.specs.Mask.{bit, ModifiedBy}
 use Rattle.ends.specs.Blocks.{called_mask, any_in, assigns, Marks}
 use Rattle.ends.specs.Sizes.{sizes}
 use Rattle.ends.proofs.Ends.{node_sized}
 use Rattle.ends.proofs.Marks.{marks-range}
-use Rattle.ends.proofs.Sizes.{lt_or_le}
 use Rattle.ends.proofs.Table.{node_listed}
 use Rattle.scan.specs.Programs.{Masks}
 use Rattle.scan.specs.Pass.{Passed}
@@ -231,18 +227,8 @@ module _ (file ends : List ℕ) where
     steady-from h l =
         steady-past (omega arith) (record { onward = omega arith; inside = λ _. l; none = λ i _ m. c.before i (omega arith) }) steady-none
 
-    pub found_none : (at : ℕ) {end : ℕ} → end ≡ lesser to (word_count file) → end ≤ at → at ≤ word_count file → SteadyBefore at →
+    pub found_none : (at : ℕ) {end : ℕ} → end ≡ min to (word_count file) → end ≤ at → at ≤ word_count file → SteadyBefore at →
         FirstFound file ends None
-    unfolding lesser
     found_none at {end} e h l p =
         none_left (word_count file) (omega arith)
-        (steady-past l (record { onward = l; inside = λ _. omega arith; none = λ i j m. c.behind i (past i (omega arith) m) m }) p)
-      where
-        past : (i : ℕ) → end ≤ i → i < word_count file → to ≤ i
-        past i j m = elim (lt_or_le i to) [
-          | inl k ↦ elim (lt_or_le (word_count file) to) [
-            | inl b ↦ absurd (let z : end ≡ word_count file = e ∙ simp (lt-leb to (word_count file) b) in omega arith)
-            | inr b ↦ absurd (let z = lesser-first to (word_count file) end e b in omega arith)
-          ]
-          | inr k ↦ k
-        ]
+        (steady-past l (record { onward = l; inside = λ _. omega arith; none = λ i j m. c.behind i (omega arith) m }) p)

@@ -1,6 +1,6 @@
 -- Refusal 16: calls on words, and in a file that stands.
 -- Assumes nothing.
---     callable-start, callable-stop, callable-here, callable-next
+--     callable-stop, callable-here, callable-next
 --                                                    how many procedures end before a place, as the loop counts them
 --     wrong_other, wrong-call                        a word of another kind; a call
 --     wrong_calls                                    in a file that stands, the calls that are wrong on words are the wrong calls
@@ -28,10 +28,6 @@ use Rattle.scan.proofs.FilePrograms.{next_start, count-procedures}
 
 one_less : (i n : ℕ) → i < n → n - i ≡ suc (n - (i + 1))
 one_less i n h = omega arith
-
-pub callable-start : (start : ℕ → ℕ) (at : ℕ) {k n : ℕ} → k ≡ n →
-    callable_from start (k - 0) 0 at ≡ callable_from start n 0 at
-callable-start start at {k} {n} h = let e : k - 0 ≡ n = omega arith in ap (λ i. callable_from start i 0 at) e
 
 module _ (start : ℕ → ℕ) (count i at : ℕ) where
   pub callable-stop : count ≤ i → callable_from start (count - i) i at ≡ i

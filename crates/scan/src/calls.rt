@@ -10,7 +10,7 @@ ghost use Rattle.scan.specs.Calls.{callable_from, wrong_at};
 
 use super::pass::pass;
 use super::programs::procedure_count;
-use ends::end_at;
+use ends::procedures::start_at;
 use words::kinds::{CALL, KIND};
 
 // How many procedures end before a place: these may be called there.
@@ -18,17 +18,13 @@ fn callable(w: &[u32], table: &[u32], at: usize) -> usize
     requires { CanBlock w.now table.now }
     ensures { result ≡ callable_from (start_at w.now table.now) (procedure_count w.now) 0 «at» }
 {
-    let n = w.len();
-    let starts = n + 2 * (n / 32);
     let count = procedure_count(w);
-    let mut i = 0;
-    while i < count {
-        if at < end_at(table, starts + (i + 1)) {
+    for i in 0..count {
+        if at < start_at(w, table, i + 1) {
             return i;
         }
-        i += 1;
     }
-    i
+    count
 }
 
 // Whether at a place stands such a call.
@@ -49,6 +45,7 @@ pub fn first_wrong_call(w: &[u32], table: &[u32]) -> Option<usize>
     requires { CanBlock w.now table.now }
     ensures { result ≡ fault_place (first_place (wrong_at w.now table.now) (word_count w.now) 0) }
 {
+    // stays a `while`: no range has the places at which `pass` stops
     let mut at = pass(w, 0, CALL);
     while at < w.len() {
         if wrong_at(w, table, at) {

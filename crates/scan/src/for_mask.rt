@@ -4,8 +4,8 @@ ghost use Rattle.scan.specs.ForsMask.{ForsFound};
 use super::pass::pass;
 use ends::end_or_zero;
 use ends::mask::with_bit;
+use std::cmp::min;
 use words::kinds::{FOR, KIND};
-use words::numbers::least;
 
 // The mask of q and m of each `for`, and two places: before `first` there is no `for`, and from `past` on there is none. `words` is how
 // many words all `for`s have, those inside several counted for each: it decides only how refusal 7 is tested.
@@ -23,7 +23,7 @@ fn with_body(words: usize, at: usize, end: usize) -> usize {
     if end <= at {
         return words;
     }
-    least(words, 8192) + least(end - at, 8192)
+    min(words, 8192) + min(end - at, 8192)
 }
 
 // Of the programs and of the evidence. Most files have few.
@@ -34,6 +34,7 @@ pub fn find_fors(w: &[u32], ends: &[u32]) -> Fors
     let mut words: usize = 0;
     let first = pass(w, 0, FOR);
     let mut past: usize = 0;
+    // stays a `while`: no range has the places at which `pass` stops
     let mut at = first;
     while at < w.len() {
         if w[at] / KIND != FOR {

@@ -35,6 +35,7 @@ pub fn pass(w: &[u32], from: usize, kind: u32) -> usize
         return from;
     }
     let last = w.len() - 7;
+    // stays a `while`: where it stops is the answer, also between the places of a range by eights
     let mut at = from;
     while at < last {
         if kind_in_eight(w, at, kind) {

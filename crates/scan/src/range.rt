@@ -12,12 +12,10 @@ fn any_marked(w: &[u32], from: usize, to: usize, mask: u64) -> bool
     requires { to ≤ length w.now }
     ensures { result ≡ any_in (marked mask) w.now (to - from) from }
 {
-    let mut at = from;
-    while at < to {
+    for at in from..to {
         if is_marked(mask, w[at]) {
             return true;
         }
-        at += 1;
     }
     false
 }
@@ -43,5 +41,5 @@ pub fn closed(w: &[u32], from: usize, to: usize) -> bool
     requires { to ≤ length w.now }
     ensures { Closed w.now from to result }
 {
-    !any_marked(w, from, to, 18446744073709551615)
+    !any_marked(w, from, to, u64::MAX)
 }

@@ -7,8 +7,8 @@ ghost use Rattle.scan.specs.Steady.{CanMarkBody, CanTestFor, CanScanFors, Tested
 use super::pass::pass;
 use ends::blocks::{marks, marks_between};
 use ends::mask::has_bit;
+use std::cmp::min;
 use words::kinds::{FOR, KIND};
-use words::numbers::least;
 
 // The mask of what a body assigns, by the masks of blocks where these are filled.
 fn body_mask(w: &[u32], ends: &[u32], from: usize, to: usize, blocked: bool) -> u64
@@ -16,9 +16,10 @@ fn body_mask(w: &[u32], ends: &[u32], from: usize, to: usize, blocked: bool) -> 
     ensures { Marks (called_mask w.now ends.now) w.now (to - from) from result }
 {
     if blocked {
-        return marks_between(w, ends, from, to);
+        marks_between(w, ends, from, to)
+    } else {
+        marks(w, ends, from, to)
     }
-    marks(w, ends, from, to)
 }
 
 // Whether the `for` at a place is such.
@@ -32,7 +33,7 @@ fn unsteady_at(w: &[u32], ends: &[u32], at: usize, blocked: bool) -> bool
     if q == m {
         return true;
     }
-    let end = least(ends[at] as usize, w.len());
+    let end = min(ends[at] as usize, w.len());
     let body = body_mask(w, ends, at + 1, end, blocked);
     if has_bit(body, q) {
         return true;
@@ -62,8 +63,9 @@ pub fn first_unsteady(
     requires { CanScanFors w.now ends.now from to blocked }
     ensures { FirstFound w.now ends.now result }
 {
-    let start = least(from, w.len());
-    let end = least(to, w.len());
+    let start = min(from, w.len());
+    let end = min(to, w.len());
+    // stays a `while`: no range has the places at which `next_for` stops
     let mut at = next_for(w, start, end);
     while at < end {
         if w[at] / KIND != FOR {

@@ -1,16 +1,18 @@
 -- `scan::programs::procedure_count` meets its contract, by word 1.
 -- Assumes nothing.
-use Rattle.scan.proofs.ProcedureMasks.{count-short, count_none, count-few, count-many}
+use mathlib.Core.Path.{◌≡◌, ◌∙◌}
+use borrow.Author.Rules.{rules}
+use lib.ListN.{get_or}
+use Rattle.scan.proofs.Least.{least}
+use Rattle.scan.proofs.ProcedureMasks.{count_none, count_some}
 use Rattle.scan.proofs.programs.procedure_count.Goals as goal
 
-pub returns-then-w-lt2 : goal.returns-then-w-lt2
-returns-then-w-lt2 c = count-short _ c.if-w-lt2.true
+pub returns-then-word-eq-PROCEDURES : goal.returns-then-word-eq-PROCEDURES
+returns-then-word-eq-PROCEDURES c =
+    let e : c.unwrap_or-word.result ≡ get_or c.args.w.now 1 0 = search rules in
+    rw e at c.min.ensures ∙ least _ _ ∙ count_some c.args.w.now (rw e at c.if-word-eq-PROCEDURES.true)
 
-pub returns-then-word-ne-PROCEDURES : goal.returns-then-word-ne-PROCEDURES
-returns-then-word-ne-PROCEDURES c = count_none _ c.if-word-ne-PROCEDURES.true
-
-pub returns-then-count-le16 : goal.returns-then-count-le16
-returns-then-count-le16 c = count-few _ c.if-word-ne-PROCEDURES.false c.if-count-le16.true
-
-pub returns-else-count-le16 : goal.returns-else-count-le16
-returns-else-count-le16 c = count-many _ c.if-word-ne-PROCEDURES.false c.if-count-le16.false
+pub returns-else-word-eq-PROCEDURES : goal.returns-else-word-eq-PROCEDURES
+returns-else-word-eq-PROCEDURES c =
+    let e : c.unwrap_or-word.result ≡ get_or c.args.w.now 1 0 = search rules in
+    count_none c.args.w.now (rw e at c.if-word-eq-PROCEDURES.false)

@@ -1,5 +1,5 @@
 -- `scan::range::any_marked` meets its contract: no word passed is marked, so that the words left settle the test.
--- The measure is the words left. Assumes nothing.
+-- Assumes nothing.
 use mathlib.Core.Path.{sym, ◌∙◌}
 use Rattle.scan.proofs.Ranges.{any_none, any-hit, any-miss}
 use Rattle.scan.proofs.range.any_marked.Goals as goal

@@ -1,5 +1,5 @@
 -- `scan::range::any_marked` meets its contract: no word passed is marked, so that the words left settle the test.
--- The measure is the words left. Assumes nothing.
+-- Assumes nothing.
 use mathlib.Core.Path.{◌≡◌}
 use Prim.Native.Nat.{◌-◌}
 use Rattle.ends.specs.Blocks.{any_in}
@@ -8,6 +8,3 @@ use Rattle.scan.proofs.range.any_marked.Given as goal
 
 abbrev pub invariant-loop-at : goal.invariant-loop-at
 invariant-loop-at l = any_in (marked l.mask) l.w (l.to - l.at) l.at ≡ any_in (marked l.mask) l.w (l.to - l.from) l.from
-
-abbrev pub decreases-loop-at : goal.decreases-loop-at
-decreases-loop-at l = l.to - l.at

@@ -3,8 +3,5 @@
 use Rattle.ends.proofs.Marks.{marks-range}
 use Rattle.scan.proofs.steady.body_mask.Goals as goal
 
-pub marks_between-requires : goal.marks_between-requires
-marks_between-requires c = let pre = c.requires in (pre.blocks c.if-blocked.true, pre.inside)
-
-pub returns : goal.returns
-returns c = marks-range _ c.marks.ensures
+pub returns-else-blocked : goal.returns-else-blocked
+returns-else-blocked c = marks-range _ c.marks.ensures
