@@ -2,7 +2,8 @@
 // the changed file.
 #![tactic(auto)]
 
-ghost use Rattle.std.specs.Prelude.{◌+◌, ◌*◌, ◌/◌, ◌<◌, ◌≤◌, length};
+ghost use Rattle.std.specs.Prelude.{◌≡◌, false, ◌+◌, ◌*◌, ◌/◌, ◌<◌, ◌≤◌, length};
+ghost use Rattle.layout.specs.File.{bad_length};
 ghost use Rattle.context.specs.Settings.{limits_given};
 ghost use Rattle.context.specs.Contexts.{limits_of, Settable};
 ghost use Rattle.changed_file.specs.Changed.{ChangedKnown};
@@ -202,99 +203,22 @@ fn put_in(
     }
 }
 
-// The same, of at most 256 words.
-fn put_256(
+// The same in room for so many words and a table of so many numbers: at most 8,192 words' table.
+fn put_sized<const WORDS: usize, const TABLE: usize>(
     context: Context,
     file: &mut [u8],
     masks: &mut [u64],
     place: usize,
     new: &[u8],
 ) -> Replaced
-    requires { (length file.old ≤ 4 * 256) × Settable context }
+    requires fits { bad_length file.old ≡ false → length file.old ≤ 4 * WORDS }
+    requires wide { WORDS + 2 * (WORDS / 32) + 49 ≤ TABLE }
+    requires small { TABLE ≤ 8753 }
+    requires settable { Settable context }
     ensures { PutDone (limits_of context) file.old masks.old place new.now result file.new masks.new }
 {
-    let mut words = [0u32; 256];
-    let mut table = [0u32; 321];
-    put_in(&mut words, &mut table, context, file, masks, place, new)
-}
-
-// The same, of at most 512 words.
-fn put_512(
-    context: Context,
-    file: &mut [u8],
-    masks: &mut [u64],
-    place: usize,
-    new: &[u8],
-) -> Replaced
-    requires { (length file.old ≤ 4 * 512) × Settable context }
-    ensures { PutDone (limits_of context) file.old masks.old place new.now result file.new masks.new }
-{
-    let mut words = [0u32; 512];
-    let mut table = [0u32; 593];
-    put_in(&mut words, &mut table, context, file, masks, place, new)
-}
-
-// The same, of at most 1,024 words.
-fn put_1024(
-    context: Context,
-    file: &mut [u8],
-    masks: &mut [u64],
-    place: usize,
-    new: &[u8],
-) -> Replaced
-    requires { (length file.old ≤ 4 * 1024) × Settable context }
-    ensures { PutDone (limits_of context) file.old masks.old place new.now result file.new masks.new }
-{
-    let mut words = [0u32; 1024];
-    let mut table = [0u32; 1137];
-    put_in(&mut words, &mut table, context, file, masks, place, new)
-}
-
-// The same, of at most 2,048 words.
-fn put_2048(
-    context: Context,
-    file: &mut [u8],
-    masks: &mut [u64],
-    place: usize,
-    new: &[u8],
-) -> Replaced
-    requires { (length file.old ≤ 4 * 2048) × Settable context }
-    ensures { PutDone (limits_of context) file.old masks.old place new.now result file.new masks.new }
-{
-    let mut words = [0u32; 2048];
-    let mut table = [0u32; 2225];
-    put_in(&mut words, &mut table, context, file, masks, place, new)
-}
-
-// The same, of at most 4,096 words.
-fn put_4096(
-    context: Context,
-    file: &mut [u8],
-    masks: &mut [u64],
-    place: usize,
-    new: &[u8],
-) -> Replaced
-    requires { (length file.old ≤ 4 * 4096) × Settable context }
-    ensures { PutDone (limits_of context) file.old masks.old place new.now result file.new masks.new }
-{
-    let mut words = [0u32; 4096];
-    let mut table = [0u32; 4401];
-    put_in(&mut words, &mut table, context, file, masks, place, new)
-}
-
-// The same, of at most 8,192 words.
-fn put_8192(
-    context: Context,
-    file: &mut [u8],
-    masks: &mut [u64],
-    place: usize,
-    new: &[u8],
-) -> Replaced
-    requires { Settable context }
-    ensures { PutDone (limits_of context) file.old masks.old place new.now result file.new masks.new }
-{
-    let mut words = [0u32; 8192];
-    let mut table = [0u32; 8753];
+    let mut words = [0u32; WORDS];
+    let mut table = [0u32; TABLE];
     put_in(&mut words, &mut table, context, file, masks, place, new)
 }
 
@@ -312,21 +236,21 @@ fn put_by_size(
 {
     let n = file.len();
     if n <= 1024 {
-        return put_256(context, file, masks, place, new);
+        return put_sized::<256, 321>(context, file, masks, place, new);
     }
     if n <= 2048 {
-        return put_512(context, file, masks, place, new);
+        return put_sized::<512, 593>(context, file, masks, place, new);
     }
     if n <= 4096 {
-        return put_1024(context, file, masks, place, new);
+        return put_sized::<1024, 1137>(context, file, masks, place, new);
     }
     if n <= 8192 {
-        return put_2048(context, file, masks, place, new);
+        return put_sized::<2048, 2225>(context, file, masks, place, new);
     }
     if n <= 16384 {
-        return put_4096(context, file, masks, place, new);
+        return put_sized::<4096, 4401>(context, file, masks, place, new);
     }
-    put_8192(context, file, masks, place, new)
+    put_sized::<8192, 8753>(context, file, masks, place, new)
 }
 
 // The workbench call: 19, and then the rest.
