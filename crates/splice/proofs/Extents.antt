@@ -7,7 +7,7 @@
 --                                  before the first part; after one more; past the file; after the last
 use mathlib.Core.Path.{◌≡◌, refl, sym, ap₂, subst, ◌∙◌}
 use mathlib.Core.List.{List, [], ◌∷◌, map}
-use Prim.Native.Nat.{ℕ, zero, suc, ◌+◌, ◌-◌, ◌<◌, ◌≤◌}
+use Prim.Native.Nat.{ℕ, zero, suc, max, ◌+◌, ◌-◌, ◌<◌, ◌≤◌}
 use native.Mathlib.Omega.{arith}
 use lib.ListN.{length}
 use Rattle.layout.specs.Bytes.{kind_at, payload_at}
@@ -81,21 +81,21 @@ module _ (file : List ℕ) (at most : ℕ) where
       go (suc n) h = omega arith
 
   -- r is what was returned for the first part that is ahead
-  pub ahead-next : {left end levels more : ℕ} {r : Extent} → Ahead left end levels → 0 < left → ExtentOf file end (most - 1) r →
-      more < most → ((d : ℕ) → levels ≤ d → r.levels ≤ d → more ≤ d) → Ahead (left - 1) r.end more
-  ahead-next {left} {end} {levels} {more} {r} a h e few m = record {
-    few = few;
+  pub ahead-next : {left rest end levels : ℕ} {r : Extent} → Ahead left end levels → left ≡ suc rest → ExtentOf file end (most - 1) r →
+      Ahead rest r.end (max levels r.levels)
+  ahead-next {left} {rest} {end} {levels} {r} a h e = record {
+    few = omega (arith, a.few, e.few);
     ahead = λ x d p l s. let b = a.ahead x d p l s in go d p (omega arith) b.0 b.1 b.2 b.3;
   }
     where
       go : (d p : ℕ) → d ≤ most - 1 → (l : List Node) → Chain file (map node_part l) d end p → length l ≡ left → levels ≤ d →
-          (l : List Node) × Chain file (map node_part l) d r.end p × (length l ≡ left - 1) × (more ≤ d)
+          (l : List Node) × Chain file (map node_part l) d r.end p × (length l ≡ rest) × (max levels r.levels ≤ d)
       go d p k [] c n i = absurd (omega arith)
       go d p k (y ∷ l) c n i = (
         l,
         subst (λ q. Chain file (map node_part l) d q p) (sym (e.end y d c.0 k c.1)) c.2,
         omega arith,
-        m d i (e.least y d c.0 k c.1),
+        omega (arith, e.least y d c.0 k c.1),
       )
 
   -- nothing stands past the file

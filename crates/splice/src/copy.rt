@@ -6,9 +6,5 @@ pub fn copy(from: &[u8], to: &mut [u8], at: usize)
     requires { «at» + length from.now ≤ length to.old }
     ensures { to.new ≡ spliced to.old «at» from.now }
 {
-    let mut i = 0;
-    while i < from.len() {
-        to[at + i] = from[i];
-        i += 1;
-    }
+    to[at..at + from.len()].copy_from_slice(from);
 }

@@ -26,10 +26,9 @@ pub fn extent_at(w: &[u32], at: usize, most: usize) -> Extent
             levels: 1,
         };
     }
-    let mut left = parts(w[at]);
     let mut end = at + 1;
     let mut levels = 0;
-    while 0 < left {
+    for _ in 0..parts(w[at]) {
         if w.len() <= end {
             return Extent {
                 end,
@@ -38,10 +37,7 @@ pub fn extent_at(w: &[u32], at: usize, most: usize) -> Extent
         }
         let part = extent_at(w, end, most - 1);
         end = part.end;
-        if levels < part.levels {
-            levels = part.levels;
-        }
-        left -= 1;
+        levels = levels.max(part.levels);
     }
     Extent {
         end,
