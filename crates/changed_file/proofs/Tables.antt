@@ -18,8 +18,7 @@
 --     mended_stays, mended_masks     the table of other words
 --     change-behind, change-start, change-same, change-past
 --                                    whether what a command modifies may change
---     StaysBefore, stays-none, stays-more, stays-not, stays_all
---                                    whether the masks of procedures stay
+--     StaysBefore                    what the procedures before one modify stays
 --     assigns-unknown, assigns-nothing, assigns-scalar, assigns-array
 --                                    whether a word assigns an identifier of a mask
 use mathlib.Core.Path.{◌≡◌, refl, sym, ap, ap₂, subst, ◌∙◌}
@@ -69,7 +68,7 @@ use Rattle.reader.specs.declared.Layout.{Layout}
 use Rattle.file.specs.Found.{CallsRight, TableRoom, Tabled}
 use Rattle.file.proofs.Found.{ReadAt, found-read, read-file, words-steady, words-unsteady}
 use Rattle.file.proofs.Files.{starts-moved, steady-none, unsteady-some}
-use Rattle.changed_file.specs.Tables.{Marked, StartsKept, Steadied, ReadMarked, Unchanged, MayChange, Stays}
+use Rattle.changed_file.specs.Tables.{Marked, StartsKept, Steadied, ReadMarked, Unchanged, MayChange}
 use Rattle.changed_file.specs.Tables.{SameBehind, CanMendTable, TableMended, AssignsAny}
 
 -- what refusals 16 and 7 let pass
@@ -314,29 +313,6 @@ module _ {start past from to : ℕ} {same : Bool} where
 -- of the procedures before i
 pub record StaysBefore (file table : List ℕ) (from to : ℕ) (same : Bool) (i : ℕ) : Type 0 where
   pub each : (j : ℕ) → j < i → Unchanged (start_at file table j) (end_at table (start_at file table j)) from to same
-
-module _ {file table : List ℕ} {from to : ℕ} {same : Bool} where
-  pub stays-none : StaysBefore file table from to same 0
-  stays-none = record { each = λ j h. absurd (omega arith) }
-
-  pub stays-more : {i start past : ℕ} {r : Bool} → StaysBefore file table from to same i → start ≡ start_at file table i →
-      past ≡ get_or table start 0 → MayChange start past from to same r → r ≡ false → StaysBefore file table from to same (i + 1)
-  stays-more {i} {start} {past} b e f c h = record {
-    each = λ j l. elim (lt_or_le j i) [
-      | inl k ↦ b.each j k
-      | inr k ↦
-          let z : i ≡ j = omega arith in
-          subst (λ n. Unchanged (start_at file table n) (end_at table (start_at file table n)) from to same) z
-          (subst (λ n. Unchanged n (end_at table n) from to same) e
-          (subst (λ n. Unchanged start n from to same) f (c.unchanged h)))
-    ];
-  }
-
-  pub stays-not : Stays file table from to same false
-  stays-not = record { each = λ e. clash e refl }
-
-  pub stays_all : {i : ℕ} → procedure_count file ≤ i → StaysBefore file table from to same i → Stays file table from to same true
-  stays_all h b = record { each = λ _ j l. b.each j (omega arith) }
 
 -- ---- whether a word assigns an identifier of a mask
 module _ {mask k p : ℕ} where

@@ -100,15 +100,12 @@ pub fn stays(w: &[u32], table: &[u32], from: usize, to: usize, same: bool) -> bo
 {
     let n = w.len();
     let starts = n + 2 * (n / 32);
-    let count = procedure_count(w);
-    let mut i = 0;
-    while i < count {
+    for i in 0..procedure_count(w) {
         let start = end_at(table, starts + i);
         let past = end_or_zero(table, start);
         if may_change(start, past, from, to, same) {
             return false;
         }
-        i += 1;
     }
     true
 }
