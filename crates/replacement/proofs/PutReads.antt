@@ -5,6 +5,7 @@
 --     bad-put, called-put                   1; 2 to 6 and 16
 --     loaded-rooms                          the words that were loaded, in their room
 use mathlib.Core.Path.{◌≡◌, sym, ap, subst, ◌∙◌}
+use Rattle.std.specs.Prelude.{Err}
 use mathlib.Core.Bool.{Bool, true, false}
 use mathlib.Core.List.{List}
 use Prim.Native.Nat.{ℕ, ◌/◌, ◌≤◌}
@@ -30,10 +31,8 @@ use Rattle.splice.specs.Walk.{Rooms}
 use Rattle.splice.proofs.Splice.{spliced-length}
 use Rattle.changed_file.specs.Tables.{StartsKept, Steadied}
 use Rattle.changed_file.proofs.Tables.{found_none, same-file, kept_on, right-moved, steadied-again}
-use Rattle.replacement.specs.Put.{PutDone}
+use Rattle.replacement.specs.Put.{Replaced, PutDone}
 use Rattle.replacement.specs.Steps.{CanRead, CanReplace}
-use Rattle.replacement.specs.declared.Replaced.{Replaced}
-use Rattle.replacement.specs.declared.Replaced.TheVariants.{Refused}
 use Rattle.replacement.proofs.Puts.{unread-put, refused-read}
 
 -- ---- refusals 2 to 6 and 16 let the words pass
@@ -91,7 +90,7 @@ module _ {Γ : Context} {bytes : List ℕ} (lent : List ℕ) {words table : List
               };
         }
 
-    pub unsteady-put : {x : Refusal} → r ≡ Layout.Refused x → PutDone (limits_of Γ) bytes lent place new (Refused x) bytes lent
+    pub unsteady-put : {x : Refusal} → r ≡ Layout.Refused x → PutDone (limits_of Γ) bytes lent place new (Err x) bytes lent
     unsteady-put {x} e =
         unread-put (limits_of Γ) bytes lent place new c.settable c.enough
         (from-words ∙ refused-read (words_read (limits_of Γ) (words_of bytes)) x (sym e ∙ steadied.layout))
@@ -99,14 +98,14 @@ module _ {Γ : Context} {bytes : List ℕ} (lent : List ℕ) {words table : List
 -- ---- refusal 1, and 2 to 6 and 16
 module _ (Γ : Context) {bytes : List ℕ} (lent : List ℕ) (place : ℕ) (new : List ℕ) (settable : Settable Γ)
     (enough : few_numbers bytes (length lent) ≡ false) where
-  pub bad-put : {r : Replaced} → bad_length bytes ≡ true → r ≡ Refused (refusal 1 0) →
+  pub bad-put : {r : Replaced} → bad_length bytes ≡ true → r ≡ Err (refusal 1 0) →
       PutDone (limits_of Γ) bytes lent place new r bytes lent
   bad-put h e =
       subst (λ r. PutDone (limits_of Γ) bytes lent place new r bytes lent) (sym e)
       (unread-put (limits_of Γ) bytes lent place new settable enough (bad-file (limits_of Γ) bytes h))
 
   pub called-put : {table : List ℕ} {r : Layout} {x : Refusal} → bad_length bytes ≡ false → Called (words_of bytes) Γ r table →
-      r ≡ Layout.Refused x → PutDone (limits_of Γ) bytes lent place new (Refused x) bytes lent
+      r ≡ Layout.Refused x → PutDone (limits_of Γ) bytes lent place new (Err x) bytes lent
   called-put {x = x} good k e =
       unread-put (limits_of Γ) bytes lent place new settable enough (good-file (limits_of Γ) bytes good ∙ k.refused x e)
 

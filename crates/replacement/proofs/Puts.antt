@@ -15,6 +15,7 @@
 --                                            what the next step asks for
 --     changed-known                          what is known of the changed words
 use mathlib.Core.Path.{◌≡◌, refl, sym, ap, subst, ◌∙◌}
+use Rattle.std.specs.Prelude.{Ok, Err}
 use mathlib.Core.Bool.{Bool, true, false, ◌&&◌}
 use mathlib.Core.List.{List}
 use Prim.Native.Nat.{ℕ, ◌+◌, ◌*◌, ◌-◌, ◌/◌, ◌%◌, ◌≤◌}
@@ -53,7 +54,7 @@ use Rattle.splice.specs.Simple.{simple_to}
 use Rattle.splice.specs.Splice.{spliced}
 use Rattle.splice.specs.SimpleWords.{SimpleAt, read_to}
 use Rattle.changed_file.specs.declared.old.Old.{Old}
-use Rattle.replacement.specs.Put.{changed, replaceable, or_unread, read_put, answer_of, file_after, PutDone}
+use Rattle.replacement.specs.Put.{changed, replaceable, or_unread, read_put, answer_of, file_after, Replaced, PutDone}
 use Rattle.scan.specs.ForsMask.{ForsFound}
 use Rattle.splice.specs.Extent.{ExtentOf}
 use Rattle.splice.specs.declared.extent.Extent.{Extent}
@@ -65,8 +66,6 @@ use Rattle.splice.proofs.Again.{spliced-right}
 use Rattle.changed_file.specs.Changed.{LevelsFor, OldAt, ChangedKnown}
 use Rattle.changed_file.proofs.Tables.{marked-right}
 use Rattle.replacement.specs.Steps.{OldRead, CanReplace, Simple, CanChange, CanSettle, CanFinish}
-use Rattle.replacement.specs.declared.Replaced.{Replaced}
-use Rattle.replacement.specs.declared.Replaced.TheVariants.{Done, Refused}
 
 and_none : (a : Bool) {b : Bool} → b ≡ false → (a && b) ≡ false
 and_none true h = h
@@ -86,7 +85,7 @@ module _ (limits : Limits) (bytes lent : List ℕ) (place : ℕ) (new : List ℕ
   abbrev said : Reading File
   said = read_put limits bytes (length lent) place new
 
-  pub refused-put : {n p : ℕ} {r : Replaced} → said ≡ fault n p → r ≡ Refused (refusal n p) →
+  pub refused-put : {n p : ℕ} {r : Replaced} → said ≡ fault n p → r ≡ Err (refusal n p) →
       PutDone limits bytes lent place new r bytes lent
   refused-put e h = record {
     answer = h ∙ sym (ap answer_of e);
@@ -95,21 +94,21 @@ module _ (limits : Limits) (bytes lent : List ℕ) (place : ℕ) (new : List ℕ
   }
 
   -- what the file itself is refused for
-  lent-put : {n p : ℕ} {r : Replaced} → read_lent limits bytes (length lent) ≡ fault n p → r ≡ Refused (refusal n p) →
+  lent-put : {n p : ℕ} {r : Replaced} → read_lent limits bytes (length lent) ≡ fault n p → r ≡ Err (refusal n p) →
       PutDone limits bytes lent place new r bytes lent
   unfolding read_put
   lent-put h e = refused-put (rw h refl) e
 
-  pub outside-put : {r : Replaced} → within_ranges limits ≡ false → r ≡ Refused (refusal 19 0) →
+  pub outside-put : {r : Replaced} → within_ranges limits ≡ false → r ≡ Err (refusal 19 0) →
       PutDone limits bytes lent place new r bytes lent
   outside-put h e = lent-put (outside-lent limits bytes (length lent) h) e
 
-  pub few-put : {r : Replaced} → within_ranges limits ≡ true → few_numbers bytes (length lent) ≡ true → r ≡ Refused (refusal 17 0) →
+  pub few-put : {r : Replaced} → within_ranges limits ≡ true → few_numbers bytes (length lent) ≡ true → r ≡ Err (refusal 17 0) →
       PutDone limits bytes lent place new r bytes lent
   few-put w h e = lent-put (few-lent limits bytes (length lent) w h) e
 
   pub unread-put : {n p : ℕ} → within_ranges limits ≡ true → few_numbers bytes (length lent) ≡ false → bytes_read limits bytes ≡ fault n p →
-      PutDone limits bytes lent place new (Refused (refusal n p)) bytes lent
+      PutDone limits bytes lent place new (Err (refusal n p)) bytes lent
   unread-put w h e = lent-put (enough-lent limits bytes (length lent) w h ∙ e) refl
 
   module _ (o : OldRead limits bytes (length lent)) where
@@ -121,7 +120,7 @@ module _ (limits : Limits) (bytes lent : List ℕ) (place : ℕ) (new : List ℕ
     unfolding read_put
     said-by = rw (enough-lent limits bytes (length lent) o.settable o.enough ∙ o.was_read) refl
 
-    not-replaceable : {r : Replaced} → replaceable limits bytes o.contents place new ≡ false → r ≡ Refused (refusal 18 0) →
+    not-replaceable : {r : Replaced} → replaceable limits bytes o.contents place new ≡ false → r ≡ Err (refusal 18 0) →
         PutDone limits bytes lent place new r bytes lent
     not-replaceable h e = refused-put (said-by ∙ ap tested h) e
 
@@ -131,21 +130,21 @@ module _ (limits : Limits) (bytes lent : List ℕ) (place : ℕ) (new : List ℕ
     abbrev new_simple : Bool
     new_simple = simple_to (command (alone limits) (words_of new) limits.depth 0) (length new / 4)
 
-    pub part-put : {r : Replaced} → (length new % 4 ≡ 0 → ⊥) → r ≡ Refused (refusal 18 0) →
+    pub part-put : {r : Replaced} → (length new % 4 ≡ 0 → ⊥) → r ≡ Err (refusal 18 0) →
         PutDone limits bytes lent place new r bytes lent
     unfolding replaceable
     part-put h = not-replaceable (ap (λ b. b && (old_simple && new_simple)) (ne_eqb (length new % 4) 0 h))
 
-    pub old-put : {r : Replaced} → false ≡ old_simple → r ≡ Refused (refusal 18 0) → PutDone limits bytes lent place new r bytes lent
+    pub old-put : {r : Replaced} → false ≡ old_simple → r ≡ Err (refusal 18 0) → PutDone limits bytes lent place new r bytes lent
     unfolding replaceable
     old-put h = not-replaceable (and_none (eqb (length new % 4) 0) (ap (λ b. b && new_simple) (sym h)))
 
-    new-not : {r : Replaced} → new_simple ≡ false → r ≡ Refused (refusal 18 0) → PutDone limits bytes lent place new r bytes lent
+    new-not : {r : Replaced} → new_simple ≡ false → r ≡ Err (refusal 18 0) → PutDone limits bytes lent place new r bytes lent
     unfolding replaceable
     new-not h = not-replaceable (and_none (eqb (length new % 4) 0) (and_none old_simple h))
 
     -- whatever is said of the commands
-    pub changed-unread : {r : Replaced} {n p : ℕ} → bytes_read limits (changed bytes place new) ≡ fault n p → r ≡ Refused (refusal 18 0) →
+    pub changed-unread : {r : Replaced} {n p : ℕ} → bytes_read limits (changed bytes place new) ≡ fault n p → r ≡ Err (refusal 18 0) →
         PutDone limits bytes lent place new r bytes lent
     changed-unread {n = n} {p} h e = refused-put (said-by ∙ go (replaceable limits bytes o.contents place new)) e
       where
@@ -160,7 +159,7 @@ module _ (limits : Limits) (bytes lent : List ℕ) (place : ℕ) (new : List ℕ
     pub done : {f : File} {p : ℕ} {left numbers : List ℕ} → replaceable limits bytes o.contents place new ≡ true →
         bytes_read limits (changed bytes place new) ≡ read f p → left ≡ changed bytes place new →
         numbers ≡ stored limits (words_of (changed bytes place new)) f lent →
-        PutDone limits bytes lent place new Done left numbers
+        PutDone limits bytes lent place new (Ok tt) left numbers
     done {f} {p} h e a b =
         let x : said ≡ read f p = said-by ∙ ap tested h ∙ ap or_unread e in
         record {
@@ -213,7 +212,7 @@ module _ {limits : Limits} {bytes : List ℕ} (lent : List ℕ) {place : ℕ} {n
       (omega (arith, k, ap length c.loaded, words-length (changed bytes place new), words-length bytes, changed-length s))
 
   pub finish-done : {left numbers : List ℕ} → Filled w table lent numbers → left ≡ changed bytes place new →
-      PutDone limits bytes lent place new Done left numbers
+      PutDone limits bytes lent place new (Ok tt) left numbers
   finish-done {numbers = numbers} f a =
       let s = c.simple in
       let o = s.old in
@@ -244,7 +243,7 @@ module _ (Γ : Context) {bytes : List ℕ} (lent : List ℕ) {place : ℕ} {new 
   settled n = record { simple = c.simple; loaded = c.loaded; wide = omega (arith, c.wide, n) }
 
   pub change-not : {b : Bool} {r : Replaced} → b ≡ read_to w Γ.depth place (place + length new / 4) → b ≡ false →
-      r ≡ Refused (refusal 18 0) → PutDone (limits_of Γ) bytes lent place new r bytes lent
+      r ≡ Err (refusal 18 0) → PutDone (limits_of Γ) bytes lent place new r bytes lent
   change-not h e = new-not (limits_of Γ) bytes lent place new c.simple.old (new_is h ∙ e)
 
 -- ---- refusals 2 to 7 and 16 of them are known
@@ -265,7 +264,7 @@ module _ {Γ : Context} {bytes : List ℕ} (lent : List ℕ) {place : ℕ} {new 
         masked = t.masked x.file x.end x.was_read;
       }
 
-  pub change-unread : {x : Refusal} {q : Replaced} → r ≡ Layout.Refused x → q ≡ Refused (refusal 18 0) →
+  pub change-unread : {x : Refusal} {q : Replaced} → r ≡ Layout.Refused x → q ≡ Err (refusal 18 0) →
       PutDone (limits_of Γ) bytes lent place new q bytes lent
   change-unread {x} e h =
       let s = c.change.simple in
@@ -294,15 +293,15 @@ module _ {Γ : Context} {bytes : List ℕ} (lent : List ℕ) {words table : List
   old-is {to} {b} h =
       (subst (λ w. SimpleAt w table place to b) c.rooms.loaded h).is limits c.old.contents c.masked
 
-  pub replace-past : {r : Replaced} → length bytes / 4 ≤ place → r ≡ Refused (refusal 18 0) → PutDone limits bytes lent place new r bytes lent
+  pub replace-past : {r : Replaced} → length bytes / 4 ≤ place → r ≡ Err (refusal 18 0) → PutDone limits bytes lent place new r bytes lent
   replace-past h =
       old-put limits bytes lent place new c.old (old-is (simple-past place (place + length new / 4) (omega (arith, h, count))))
 
-  pub replace-part : {r : Replaced} → (length new % 4 ≡ 0 → ⊥) → r ≡ Refused (refusal 18 0) → PutDone limits bytes lent place new r bytes lent
+  pub replace-part : {r : Replaced} → (length new % 4 ≡ 0 → ⊥) → r ≡ Err (refusal 18 0) → PutDone limits bytes lent place new r bytes lent
   replace-part h = part-put limits bytes lent place new c.old h
 
   pub replace-not : {b : Bool} {r : Replaced} → SimpleAt (take (length bytes / 4) words) table place (place + length new / 4) b → b ≡ false →
-      r ≡ Refused (refusal 18 0) → PutDone limits bytes lent place new r bytes lent
+      r ≡ Err (refusal 18 0) → PutDone limits bytes lent place new r bytes lent
   replace-not h e = old-put limits bytes lent place new c.old (sym e ∙ old-is h)
 
   module _ {b : Bool} (h : SimpleAt (take (length bytes / 4) words) table place (place + length new / 4) b) (e : b ≡ true)

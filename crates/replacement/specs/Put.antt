@@ -3,9 +3,10 @@
 --     changed                the file with the new bytes in the place of as many
 --     replaceable            the command at the place and the new one are as described
 --     or_unread, read_put      refusals 19, 1, 2, 17, 3 to 7 and 16 of the file; then 18; else the changed file
---     answer_of, file_after    the answer; the file afterwards
+--     Replaced, answer_of    the answer
+--     file_after             the file afterwards
 --     PutDone                the answer, the file and the lent numbers afterwards
-use Rattle.std.specs.Prelude.{◌≡◌, Bool, true, false, ◌&&◌, List, ℕ, ◌+◌, ◌*◌, ◌/◌, ◌%◌, eqb, length}
+use Rattle.std.specs.Prelude.{◌≡◌, Bool, true, false, ◌&&◌, List, ℕ, ◌+◌, ◌*◌, ◌/◌, ◌%◌, eqb, length, Result, Ok, Err}
 use Rattle.rules.specs.Context.{Limits, alone}
 use Rattle.layout.specs.Bytes.{words_of}
 use Rattle.layout.specs.Reading.{Reading, read, fault, on_read}
@@ -14,10 +15,9 @@ use Rattle.layout.specs.File.{File, bytes_read}
 use Rattle.masks.specs.Masks.{command_at}
 use Rattle.masks.specs.WithMasks.{read_lent, stored_if}
 use Rattle.context.specs.Contexts.{refusal}
+use Rattle.context.specs.declared.Refusal.{Refusal}
 use Rattle.splice.specs.Simple.{simple_to}
 use Rattle.splice.specs.Splice.{spliced}
-use Rattle.replacement.specs.declared.Replaced.{Replaced}
-use Rattle.replacement.specs.declared.Replaced.TheVariants.{Done, Refused}
 
 -- word w is bytes 4 × w to 4 × w + 3
 abbrev pub changed : List ℕ → ℕ → List ℕ → List ℕ
@@ -44,9 +44,13 @@ read_put limits bytes n place new = on_read (read_lent limits bytes n) λ f p.
       | false ↦ fault 18 0
     ]
 
+-- the new command stands in the file; or the refusal
+abbrev pub Replaced : Type 0
+Replaced = Result (Unit {0}) Refusal
+
 abbrev pub answer_of : Reading File → Replaced
-answer_of (read f p) = Done
-answer_of (fault n p) = Refused (refusal n p)
+answer_of (read f p) = Ok tt
+answer_of (fault n p) = Err (refusal n p)
 
 abbrev pub file_after : Reading File → List ℕ → List ℕ → List ℕ
 file_after (read f p) before after = after

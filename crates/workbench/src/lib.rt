@@ -14,13 +14,13 @@ ghost use Rattle.file.specs.Found.{CanLoad};
 use changed_file::old::{Old, is_known, old_at};
 use changed_file::read_mended;
 use changed_file::table::{fill_marked, read_marked};
-use context::Context;
 use context::settings::{Settings, are_within_ranges, context_under};
+use context::{Context, Refusal};
 use file::read_table;
 use masks::fill;
 use masks::lent::few_numbers;
 use reader::{Layout, Places};
-use replacement::{Replaced, refused};
+use replacement::refused;
 use scan::for_mask::{Fors, find_fors};
 use splice::copy::copy;
 use splice::simple::{is_read_to, is_simple_to};
@@ -36,13 +36,13 @@ fn finish(
     masks: &mut [u64],
     place: usize,
     new: &[u8],
-) -> Replaced
+) -> Result<(), Refusal>
     requires { CanFinish (limits_of context) file.old (length masks.old) place new.now w.now table.now }
     ensures { PutDone (limits_of context) file.old masks.old place new.now result file.new masks.new }
 {
     fill(w, table, masks);
     copy(new, file, 4 * place);
-    Replaced::Done
+    Ok(())
 }
 
 // The new command is one, whole: so has to be the changed file.
@@ -55,7 +55,7 @@ fn settle(
     masks: &mut [u64],
     place: usize,
     new: &[u8],
-) -> Replaced
+) -> Result<(), Refusal>
     requires { CanSettle context file.old (length masks.old) place new.now w.now table.now layout }
     ensures { PutDone (limits_of context) file.old masks.old place new.now result file.new masks.new }
 {
@@ -77,7 +77,7 @@ fn change(
     masks: &mut [u64],
     place: usize,
     new: &[u8],
-) -> Replaced
+) -> Result<(), Refusal>
     requires { CanChange (limits_of context) file.old (length masks.old) place new.now w.now table.old
         × ChangedKnown context w.now places table.old place (place + length new.now / 4) old }
     ensures { PutDone (limits_of context) file.old masks.old place new.now result file.new masks.new }
@@ -106,7 +106,7 @@ fn replace(
     masks: &mut [u64],
     place: usize,
     new: &[u8],
-) -> Replaced
+) -> Result<(), Refusal>
     requires { CanReplace context file.old (length masks.old) place new.now words.old table.old places both fors }
     ensures { PutDone (limits_of context) file.old masks.old place new.now result file.new masks.new }
 {
@@ -147,7 +147,7 @@ fn put_called(
     masks: &mut [u64],
     place: usize,
     new: &[u8],
-) -> Replaced
+) -> Result<(), Refusal>
     requires { CanRead context file.old (length masks.old) place new.now words.old table.old places both }
     ensures { PutDone (limits_of context) file.old masks.old place new.now result file.new masks.new }
 {
@@ -161,7 +161,7 @@ fn put_called(
                 words, table, context, places, both, fors, file, masks, place, new,
             )
         }
-        Layout::Refused(refusal) => Replaced::Refused(refusal),
+        Layout::Refused(refusal) => Err(refusal),
     }
 }
 
@@ -174,7 +174,7 @@ fn put_in(
     masks: &mut [u64],
     place: usize,
     new: &[u8],
-) -> Replaced
+) -> Result<(), Refusal>
     requires { CanLoad file.old words.old table.old × Settable context }
     ensures { PutDone (limits_of context) file.old masks.old place new.now result file.new masks.new }
 {
@@ -199,7 +199,7 @@ fn put_in(
             place,
             new,
         ),
-        Layout::Refused(refusal) => Replaced::Refused(refusal),
+        Layout::Refused(refusal) => Err(refusal),
     }
 }
 
@@ -210,7 +210,7 @@ fn put_sized<const WORDS: usize, const TABLE: usize>(
     masks: &mut [u64],
     place: usize,
     new: &[u8],
-) -> Replaced
+) -> Result<(), Refusal>
     requires fits { bad_length file.old ≡ false → length file.old ≤ 4 * WORDS }
     requires wide { WORDS + 2 * (WORDS / 32) + 49 ≤ TABLE }
     requires small { TABLE ≤ 8753 }
@@ -230,7 +230,7 @@ fn put_by_size(
     masks: &mut [u64],
     place: usize,
     new: &[u8],
-) -> Replaced
+) -> Result<(), Refusal>
     requires { Settable context }
     ensures { PutDone (limits_of context) file.old masks.old place new.now result file.new masks.new }
 {
@@ -260,7 +260,7 @@ pub fn put(
     masks: &mut [u64],
     place: usize,
     new: &[u8],
-) -> Replaced
+) -> Result<(), Refusal>
     ensures { PutDone (limits_given settings) file.old masks.old place new.now result
         file.new masks.new }
 {
