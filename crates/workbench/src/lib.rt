@@ -203,7 +203,7 @@ fn put_in(
     }
 }
 
-// The same in room for so many words and a table of so many numbers: at most 8,192 words' table.
+// The same in room for so many words and for so many numbers of their table, at most those for 8,192 words.
 fn put_sized<const WORDS: usize, const TABLE: usize>(
     context: Context,
     file: &mut [u8],
@@ -234,23 +234,14 @@ fn put_by_size(
     requires { Settable context }
     ensures { PutDone (limits_of context) file.old masks.old place new.now result file.new masks.new }
 {
-    let n = file.len();
-    if n <= 1024 {
-        return put_sized::<256, 321>(context, file, masks, place, new);
+    match file.len() {
+        0..=1024 => put_sized::<256, 321>(context, file, masks, place, new),
+        1025..=2048 => put_sized::<512, 593>(context, file, masks, place, new),
+        2049..=4096 => put_sized::<1024, 1137>(context, file, masks, place, new),
+        4097..=8192 => put_sized::<2048, 2225>(context, file, masks, place, new),
+        8193..=16384 => put_sized::<4096, 4401>(context, file, masks, place, new),
+        _ => put_sized::<8192, 8753>(context, file, masks, place, new),
     }
-    if n <= 2048 {
-        return put_sized::<512, 593>(context, file, masks, place, new);
-    }
-    if n <= 4096 {
-        return put_sized::<1024, 1137>(context, file, masks, place, new);
-    }
-    if n <= 8192 {
-        return put_sized::<2048, 2225>(context, file, masks, place, new);
-    }
-    if n <= 16384 {
-        return put_sized::<4096, 4401>(context, file, masks, place, new);
-    }
-    put_sized::<8192, 8753>(context, file, masks, place, new)
 }
 
 // The workbench call: 19, and then the rest.
