@@ -1,15 +1,13 @@
 -- What the two compiled sides and the table say of the implication.
 -- Assumes nothing.
---     side-room                              as many bytes as a side may take
 --     left-small, right-small                the ranges of the sides are within 8,192 words
---     known-none, ranges-none                no comparison is known
 --     first-can, second-can                  the sides can be compiled
 --     left-full, right-full                  too many comparisons
 --     is-formula, answered                   the formula of both; what its table says
 --     begun, begun-start, begun-room         the first two bytes
 use Rattle.std.specs.Prelude.{Err}
 use mathlib.Core.Path.{◌≡◌, refl, sym, ap, ◌∙◌}
-use mathlib.Core.Bool.{Bool, true, false}
+use mathlib.Core.Bool.{Bool}
 use mathlib.Core.List.{List, [], ◌∷◌, ◌++◌}
 use Prim.Native.Nat.{ℕ, ◌+◌, ◌*◌, ◌^◌, ◌≤◌}
 use native.Mathlib.Omega.{arith}
@@ -23,14 +21,13 @@ use Rattle.layout.specs.Nodes.{expression_node}
 use Rattle.layout.specs.Standing.{PartStands}
 use Rattle.layout.proofs.Nodes.{node_inside}
 use Rattle.truth_table.specs.Formula.{spell, depth, Small, Spelled, IsFormula, Every}
-use Rattle.implication.specs.declared.Compiled.{Compiled}
 use Rattle.implication.specs.declared.Failure.TheVariants.{TooLarge}
 use Rattle.implication.specs.declared.Side.{Side}
 use Rattle.implication.specs.declared.Side.TheVariants.{One, Both, BothNot, False}
 use Rattle.implication.specs.Sides.{Condition, result_of, SideStands, RangeFits, SideFits, side_room}
 use Rattle.implication.specs.Sides.{CanImply, Implied}
 use Rattle.implication.specs.Scanning.{Ranges}
-use Rattle.implication.specs.Compiling.{formula, Known, SideWritten, CanCompile, Coded, Compiles}
+use Rattle.implication.specs.Compiling.{formula, Known, SideWritten, CanCompile, Coded, Compiled, Overfull}
 use Rattle.implication.proofs.Numbers.{extends-self, extends-comparisons, grown, small, depth-formula}
 use Rattle.implication.proofs.Pairs.{spell-append}
 use Rattle.implication.proofs.Meaning.{implies, table-settled, few-enough, too_many}
@@ -47,13 +44,6 @@ side_fits w d (Both a p b q) χ s =
 side_fits w d (BothNot a p b q) χ s =
     (range-fits w s.first d a p s.left, range-fits w s.second d b q s.right)
 side_fits w d False χ s = tt
-
--- the bytes a side may take
-pub side-room : (s : Side) → SideFits 8192 s → side_room s ≤ 16386
-side-room (One a p) h = omega arith
-side-room (Both a p b q) h = omega arith
-side-room (BothNot a p b q) h = omega arith
-side-room False h = omega arith
 
 side_within : (n m : ℕ) (s : Side) → n ≤ m → SideFits n s → SideFits m s
 side_within n m (One a p) l h = (h.0, omega arith)
@@ -79,11 +69,11 @@ side_depth w d (BothNot a p b q) χ m s =
 side_depth w d False χ m s = let e = ap (λ (z : Expr Boolean). depth (formula m z)) s in omega arith
 
 -- ---- no comparison is known
-pub known-none : {w starts ends : List ℕ} → Known w starts ends 0 []
-known-none = record { count = refl; each = λ i h. absurd (omega arith) }
+known-none : {w : List ℕ} {t : List (ℕ × ℕ)} → t ≡ [] → Known w t []
+known-none e = rw e (record { count = refl; each = λ i h. absurd (omega arith) })
 
-pub ranges-none : {w starts ends : List ℕ} → length starts ≡ 16 → length ends ≡ 16 → Ranges w starts ends 0
-ranges-none h k = record { few = omega arith; sizes = (h, k); each = λ i l. absurd (omega arith) }
+ranges-none : {w : List ℕ} {t : List (ℕ × ℕ)} → t ≡ [] → Ranges w t
+ranges-none e = rw e (record { few = omega arith; each = λ i l. absurd (omega arith) })
 
 -- ---- the sides
 module _ {w : List ℕ} {left right : Side} {limit : ℕ} (can : CanImply w left right limit) where
@@ -99,65 +89,67 @@ module _ {w : List ℕ} {left right : Side} {limit : ℕ} (can : CanImply w left
   pub right-small : SideFits 8192 right
   right-small = side_within (length w) 8192 right can.size right-fits
 
-  pub first-can : {starts ends prog : List ℕ} → length starts ≡ 16 → length ends ≡ 16 →
-      2 + side_room left + side_room right ≤ length prog →
-      SideFits (length w) left × CanCompile w limit 0 2 (side_room left) starts ends prog
-  first-can h k l =
-      (left-fits, record { few = can.few; within = omega arith; ranges = ranges-none h k; room = omega arith })
+  pub first-can : {t : List (ℕ × ℕ)} {prog : List ℕ} → t ≡ [] → 2 + side_room left + side_room right ≤ length prog →
+      SideFits (length w) left × CanCompile w limit 2 (side_room left) t prog
+  first-can e l = (
+    left-fits,
+    record {
+      few = can.few;
+      within = let n = ap length e in omega arith;
+      ranges = ranges-none e;
+      room = omega arith;
+    },
+  )
 
-  module _ {starts₀ ends₀ prog₁ starts₁ ends₁ prog₂ : List ℕ} {x : Compiled}
-      (space : 2 + side_room left + side_room right ≤ length prog₁)
-      (A : Compiles w (SideWritten w left) limit 0 2 (side_room left) starts₀ ends₀ prog₁ starts₁ ends₁ prog₂ x) where
-    pub left-full : x.fits ≡ false → Implied w left right limit (Err TooLarge)
-    left-full y = record {
+  module _ {t₀ : List (ℕ × ℕ)} {prog₁ : List ℕ} {t₁ : List (ℕ × ℕ)} {prog₂ : List ℕ} (none : t₀ ≡ []) where
+    pub left-full : Overfull w (SideWritten w left) limit t₀ prog₁ t₁ prog₂ → Implied w left right limit (Err TooLarge)
+    left-full A = record {
       is = λ φ ψ d e s t Γ g.
-          let f = A.full y φ [] (record { levels = d; stands = s }) known-none in
+          let f = A.full φ [] (record { levels = d; stands = s }) (known-none none) in
           let k = grown ψ (comparisons φ []) in
           sym (too_many Γ φ ψ (omega arith));
     }
 
-    pub second-can : SideFits (length w) right ×
-        CanCompile w limit x.known x.len (side_room right) starts₁ ends₁ prog₂
-    second-can = (
-      right-fits,
-      record {
-        few = can.few;
-        within = A.within;
-        ranges = A.ranges;
-        room = let s = A.short in let r = A.room in omega arith;
-      },
-    )
+    module _ {x : ℕ} (space : 2 + side_room left + side_room right ≤ length prog₁)
+        (A : Compiled w (SideWritten w left) limit 2 (side_room left) t₀ prog₁ t₁ prog₂ x) where
+      pub second-can : SideFits (length w) right × CanCompile w limit x (side_room right) t₁ prog₂
+      second-can = (
+        right-fits,
+        record {
+          few = can.few;
+          within = A.within;
+          ranges = A.ranges;
+          room = let s = A.short in let r = A.room in omega arith;
+        },
+      )
 
-    module _ {starts₂ ends₂ prog₃ : List ℕ} {z : Compiled} (y : x.fits ≡ true)
-        (B : Compiles w (SideWritten w right) limit x.known x.len (side_room right) starts₁ ends₁ prog₂
-        starts₂ ends₂ prog₃ z) where
       module _ (φ ψ : Expr Boolean) (d e : ℕ) (s : SideStands w d left φ) (t : SideStands w e right ψ) where
-        first : Coded w φ [] 2 prog₁ starts₁ ends₁ prog₂ x
-        first = A.fitting y φ [] (record { levels = d; stands = s }) known-none
+        first : Coded w φ [] 2 prog₁ t₁ prog₂ x
+        first = A.fitting φ [] (record { levels = d; stands = s }) (known-none none)
 
-      pub right-full : z.fits ≡ false → Implied w left right limit (Err TooLarge)
-      right-full v = record {
+      pub right-full : {t₂ : List (ℕ × ℕ)} {prog₃ : List ℕ} →
+          Overfull w (SideWritten w right) limit t₁ prog₂ t₂ prog₃ → Implied w left right limit (Err TooLarge)
+      right-full B = record {
         is = λ φ ψ d e s t Γ g.
-            let f = B.full v ψ (comparisons φ []) (record { levels = e; stands = t }) (first φ ψ d e s t).known in
+            let f = B.full ψ (comparisons φ []) (record { levels = e; stands = t }) (first φ ψ d e s t).known in
             sym (too_many Γ φ ψ (omega arith));
       }
 
-      pub count-few : z.known ≤ 16
-      count-few = let h = B.within in let k = can.few in omega arith
-
-      module _ (start : take 2 prog₁ ≡ 19 ∷ 20 ∷ []) (v : z.fits ≡ true) where
+      module _ {t₂ : List (ℕ × ℕ)} {prog₃ : List ℕ} {z : ℕ}
+          (B : Compiled w (SideWritten w right) limit x (side_room right) t₁ prog₂ t₂ prog₃ z)
+          (start : take 2 prog₁ ≡ 19 ∷ 20 ∷ []) where
         module _ (φ ψ : Expr Boolean) (d e : ℕ) (s : SideStands w d left φ) (t : SideStands w e right ψ) where
-          second : Coded w ψ (comparisons φ []) x.len prog₂ starts₂ ends₂ prog₃ z
-          second = B.fitting v ψ (comparisons φ []) (record { levels = e; stands = t }) (first φ ψ d e s t).known
+          second : Coded w ψ (comparisons φ []) x prog₂ t₂ prog₃ z
+          second = B.fitting ψ (comparisons φ []) (record { levels = e; stands = t }) (first φ ψ d e s t).known
 
-          count : length (distinct φ ψ) ≡ z.known
+          count : length (distinct φ ψ) ≡ length t₂
           count = second.known.count
 
-          spelled : Spelled prog₃ z.len (implies φ ψ (distinct φ ψ))
+          spelled : Spelled prog₃ z (implies φ ψ (distinct φ ψ))
           unfolding spell Small
           spelled =
               let m = distinct φ ψ in
-              let h : length m ≤ 16 = (let k = count in let n = count-few in omega arith) in
+              let h : length m ≤ 16 = (let k = count in let n = B.ranges.few in omega arith) in
               let left-later = extends-comparisons ψ (comparisons φ []) in record {
                 bytes =
                     second.coded m (extends-self m) ∙
@@ -168,7 +160,7 @@ module _ {w : List ℕ} {left right : Side} {limit : ℕ} (can : CanImply w left
                 small = (small φ [] m left-later h, small ψ (comparisons φ []) m (extends-self m) h);
               }
 
-        pub is-formula : IsFormula prog₃ z.len 260
+        pub is-formula : IsFormula prog₃ z 260
         unfolding depth
         is-formula =
             let φ = can.φ in
@@ -184,7 +176,7 @@ module _ {w : List ℕ} {left right : Side} {limit : ℕ} (can : CanImply w left
               low = omega arith;
             }
 
-        pub answered : {b : ℕ} {r : Bool} {c : Condition} → 2 ^ z.known ≤ 64 * b → Every prog₃ z.len b r →
+        pub answered : {b : ℕ} {r : Bool} {c : Condition} → 2 ^ length t₂ ≤ 64 * b → Every prog₃ z b r →
             result_of c ≡ test r → Implied w left right limit c
         answered {b} {r} {c} h E f = record {
           is = λ φ ψ d e s t Γ g.
@@ -206,6 +198,3 @@ begun-start (x ∷ (y ∷ l)) h = refl
 
 pub begun-room : (prog : List ℕ) (n : ℕ) → n ≤ length prog → n ≤ length (begun prog)
 begun-room prog n h = simp length-set h
-
-pub begun-length : (prog : List ℕ) → length (begun prog) ≡ length prog
-begun-length prog = simp length-set

@@ -7,7 +7,6 @@
 --     Walks        the walk that compiles a boolean
 --     Pairs        two booleans one after the other, and the boolean that a side is
 --     Meaning      the table decides the definition's condition
---     Powers       powers of two
 --     Answers      what the compiled sides and the table say of the implication
 pub mod WordBytes
 pub mod Spans
@@ -17,5 +16,4 @@ pub mod Pieces
 pub mod Walks
 pub mod Pairs
 pub mod Meaning
-pub mod Powers
 pub mod Answers

@@ -3,11 +3,14 @@
 --     Adds, adds_none, adds_one                       bytes put after the first ones
 --     spell-append                                    the bytes of a formula before others
 --     Joint, joint_and, joint_and_not                 a boolean made of two, by its bytes and its comparisons
---     can-first, can-second, pair_full, pair-done     the two calls
---     compiles_as, compiles_false                     what stands, said in another way; false
---     side_can, side_done                             the same of a side that is known by its case
+--     PairWritten                                     two booleans stand there
+--     after_first, pair_full, pair_result             the two calls
+--     overfull_as, compiles_false                     what stands, said in another way; false
+--     both_sides, both_not_sides, false_side          what a side is made of
+--     side_can                                        what a side requires, known by its case
 use mathlib.Core.Path.{◌≡◌, refl, sym, ap, subst, ◌∙◌}
-use mathlib.Core.Bool.{true, false, true≢false}
+use Rattle.std.specs.Prelude.{Result, Ok, Err}
+use mathlib.Core.Bool.{false}
 use mathlib.Core.List.{List, [], ◌∷◌, ◌++◌, append_assoc, append-nil}
 use Prim.Native.Nat.{ℕ, ◌+◌, ◌-◌, ◌<◌, ◌≤◌}
 use native.Mathlib.Numerals.{add-one}
@@ -17,11 +20,12 @@ use lib.Seq.{take-suc-set}
 use Rattle.language.specs.Syntax.{Boolean, Expr, truth, and, neg}
 use Rattle.rules.specs.Implies.{comparisons}
 use Rattle.truth_table.specs.Formula.{Formula, leaf, fixed, conj, disj, negated, spell}
-use Rattle.implication.specs.declared.Compiled.{Compiled}
+use Rattle.implication.specs.declared.Failure.{Failure}
 use Rattle.implication.specs.declared.Side.{Side}
-use Rattle.implication.specs.Sides.{SideFits, side_room}
-use Rattle.implication.specs.Compiling.{Extends, formula, Known, FormulaWritten, PairWritten, SideWritten}
-use Rattle.implication.specs.Compiling.{CanCompile, Coded, Compiles}
+use Rattle.implication.specs.declared.Side.TheVariants.{Both, BothNot, False}
+use Rattle.implication.specs.Sides.{PairStands, SideFits, side_room}
+use Rattle.implication.specs.Compiling.{Extends, formula, Known, FormulaWritten, SideWritten}
+use Rattle.implication.specs.Compiling.{CanCompile, Coded, Compiled, Overfull, Compiles}
 use Rattle.implication.proofs.Numbers.{Listed, extends-trans, extends-comparisons, grown}
 
 -- ---- bytes put after the first ones
@@ -79,68 +83,70 @@ joint_and_not = record {
   gathers = λ φ ψ l. refl;
 }
 
--- ---- the two calls
-pub can-first : {w : List ℕ} {limit known len most first len₁ : ℕ} {starts ends prog prog₁ u : List ℕ} →
-    CanCompile w limit known len most starts ends prog → Adds prog len u prog₁ len₁ → length u + first ≤ most →
-    CanCompile w limit known len₁ first starts ends prog₁
-can-first C U h = record {
-  few = C.few;
-  within = C.within;
-  ranges = C.ranges;
-  room = let r = C.room in let l = U.long in let e = U.room in omega arith;
-}
+-- two booleans stand there, at some depth, and χ is made of them
+pub record PairWritten (w : List ℕ) (a p b q : ℕ) (make : Make) (χ : Expr Boolean) : Type 0 where
+  pub levels : ℕ
+  pub stands : PairStands w levels a p b q make χ
 
-module _ {w : List ℕ} {P : Expr Boolean → Type 0} {limit known len most len₁ first : ℕ}
-    {starts₀ ends₀ prog₀ u prog₁ starts₁ ends₁ prog₂ : List ℕ} {x : Compiled}
-    (C : CanCompile w limit known len most starts₀ ends₀ prog₀) (U : Adds prog₀ len u prog₁ len₁)
-    (A : Compiles w P limit known len₁ first starts₀ ends₀ prog₁ starts₁ ends₁ prog₂ x) where
-  pub after_first : (n : ℕ) → length u + first + n ≤ most → x.len + n ≤ length prog₂
+-- ---- what stands, said in another way
+module _ {w : List ℕ} {P Q : Expr Boolean → Type 0} {limit : ℕ} {t₀ : List (ℕ × ℕ)} {prog₀ : List ℕ}
+    {t : List (ℕ × ℕ)} {prog : List ℕ} (f : (χ : Expr Boolean) → Q χ → P χ) where
+  compiled_as : {len most r : ℕ} → Compiled w P limit len most t₀ prog₀ t prog r →
+      Compiled w Q limit len most t₀ prog₀ t prog r
+  compiled_as C = record {
+    ranges = C.ranges;
+    within = C.within;
+    least = C.least;
+    short = C.short;
+    room = C.room;
+    fitting = λ χ l s K. C.fitting χ l (f χ s) K;
+  }
+
+  pub overfull_as : Overfull w P limit t₀ prog₀ t prog → Overfull w Q limit t₀ prog₀ t prog
+  overfull_as C = record {
+    ranges = C.ranges;
+    within = C.within;
+    room = C.room;
+    full = λ χ l s K. C.full χ l (f χ s) K;
+  }
+
+-- ---- the two calls
+module _ {w : List ℕ} {P : Expr Boolean → Type 0} {limit len most len₁ first : ℕ}
+    {t₀ : List (ℕ × ℕ)} {prog₀ u prog₁ : List ℕ} {t₁ : List (ℕ × ℕ)} {prog₂ : List ℕ} {x : ℕ}
+    (C : CanCompile w limit len most t₀ prog₀) (U : Adds prog₀ len u prog₁ len₁)
+    (A : Compiled w P limit len₁ first t₀ prog₁ t₁ prog₂ x) where
+  pub after_first : (n : ℕ) → length u + first + n ≤ most → x + n ≤ length prog₂
   after_first n h =
       let r = C.room in let l = U.long in let e = U.room in let s = A.short in let t = A.room in omega arith
 
-  pub same_first : length prog₂ ≡ length prog₀
-  same_first = A.room ∙ U.room
-
-  pub can-second : {v prog₃ : List ℕ} {len₃ second : ℕ} → Adds prog₂ x.len v prog₃ len₃ →
-      length u + first + (length v + second) ≤ most → CanCompile w limit x.known len₃ second starts₁ ends₁ prog₃
-  can-second {v} {second = second} G h = record {
-    few = C.few;
-    within = A.within;
-    ranges = A.ranges;
-    room = let r = after_first (length v + second) h in let l = G.long in let e = G.room in omega arith;
-  }
-
-module _ {w : List ℕ} {make : Make} {limit known len most len₁ a p b q : ℕ}
-    {starts₀ ends₀ prog₀ u v prog₁ starts₁ ends₁ prog₂ : List ℕ} {x : Compiled}
-    (J : Joint make u v) (U : Adds prog₀ len u prog₁ len₁)
-    (A : Compiles w (FormulaWritten w a p) limit known len₁ (p - a) starts₀ ends₀ prog₁ starts₁ ends₁ prog₂ x)
-    (most-is : length u + (p - a) + (length v + (q - b)) ≤ most) where
-  pub pair_full : x.fits ≡ false →
-      Compiles w (PairWritten w a p b q make) limit known len most starts₀ ends₀ prog₀ starts₁ ends₁ prog₂ x
-  pair_full y = record {
+module _ {w : List ℕ} {make : Make} {limit len len₁ a p b q : ℕ}
+    {t₀ : List (ℕ × ℕ)} {prog₀ u v prog₁ : List ℕ} (J : Joint make u v) (U : Adds prog₀ len u prog₁ len₁) where
+  pub pair_full : {t₁ : List (ℕ × ℕ)} {prog₂ : List ℕ} →
+      Overfull w (FormulaWritten w a p) limit t₀ prog₁ t₁ prog₂ →
+      Overfull w (PairWritten w a p b q make) limit t₀ prog₀ t₁ prog₂
+  pair_full A = record {
     ranges = A.ranges;
     within = A.within;
-    least = let l = U.long in let s = A.least in omega arith;
-    short = let l = U.long in let s = A.short in omega arith;
     room = A.room ∙ U.room;
-    fitting = λ z. absurd (true≢false (sym z ∙ y));
-    full = λ _ χ l s K.
+    full = λ χ l s K.
         let φ = s.stands.first in
         let ψ = s.stands.second in
-        let f = A.full y φ l (record { levels = s.levels; stands = s.stands.left }) K in
+        let f = A.full φ l (record { levels = s.levels; stands = s.stands.left }) K in
         let g = grown ψ (comparisons φ l) in
         let e = ap (λ z. length (comparisons z l)) s.stands.is ∙ ap length (J.gathers φ ψ l) in
         omega arith;
   }
 
-  module _ {len₃ : ℕ} {prog₃ starts₂ ends₂ prog₄ : List ℕ} {r : Compiled}
-      (y : x.fits ≡ true) (G : Adds prog₂ x.len v prog₃ len₃)
-      (B : Compiles w (FormulaWritten w b q) limit x.known len₃ (q - b) starts₁ ends₁ prog₃ starts₂ ends₂ prog₄ r) where
-    done : (φ ψ : Expr Boolean) (l : Listed) → r.fits ≡ true → FormulaWritten w a p φ → FormulaWritten w b q ψ →
-        Known w starts₀ ends₀ known l → Coded w (make φ ψ) l len prog₀ starts₂ ends₂ prog₄ r
-    done φ ψ l z s t K =
-        let f = A.fitting y φ l s K in
-        let g = B.fitting z ψ (comparisons φ l) t f.known in
+  module _ {t₁ : List (ℕ × ℕ)} {prog₂ : List ℕ} {x : ℕ}
+      (A : Compiled w (FormulaWritten w a p) limit len₁ (p - a) t₀ prog₁ t₁ prog₂ x)
+      {len₃ : ℕ} {prog₃ : List ℕ} (G : Adds prog₂ x v prog₃ len₃) where
+    done : {t₂ : List (ℕ × ℕ)} {prog₄ : List ℕ} {r : ℕ} →
+        Compiled w (FormulaWritten w b q) limit len₃ (q - b) t₁ prog₃ t₂ prog₄ r →
+        (φ ψ : Expr Boolean) (l : Listed) → FormulaWritten w a p φ → FormulaWritten w b q ψ →
+        Known w t₀ l → Coded w (make φ ψ) l len prog₀ t₂ prog₄ r
+    done B φ ψ l s t K =
+        let f = A.fitting φ l s K in
+        let g = B.fitting ψ (comparisons φ l) t f.known in
         let e = J.gathers φ ψ l in record {
           known = rw e g.known;
           coded = λ m X.
@@ -155,9 +161,10 @@ module _ {w : List ℕ} {make : Make} {limit known len most len₁ a p b q : ℕ
             c ++ g ≡ k ++ (u ++ (f ++ (v ++ g)))
         laid k f g h i j = rw (h, i, j) (simp append_assoc)
 
-    pub pair-done :
-        Compiles w (PairWritten w a p b q make) limit known len most starts₀ ends₀ prog₀ starts₂ ends₂ prog₄ r
-    pair-done = record {
+    pair-done : {most : ℕ} {t₂ : List (ℕ × ℕ)} {prog₄ : List ℕ} {r : ℕ} →
+        length u + (p - a) + (length v + (q - b)) ≤ most → Compiled w (FormulaWritten w b q) limit len₃ (q - b) t₁ prog₃ t₂ prog₄ r →
+        Compiled w (PairWritten w a p b q make) limit len most t₀ prog₀ t₂ prog₄ r
+    pair-done {t₂ = t₂} {prog₄ = prog₄} {r = r} most-is B = record {
       ranges = B.ranges;
       within = B.within;
       least =
@@ -165,67 +172,71 @@ module _ {w : List ℕ} {make : Make} {limit known len most len₁ a p b q : ℕ
       short =
           let l = U.long in let s = A.short in let k = G.long in let t = B.short in omega arith;
       room = B.room ∙ G.room ∙ A.room ∙ U.room;
-      fitting = λ z χ l s K.
-          subst (λ (k : Expr Boolean). Coded w k l len prog₀ starts₂ ends₂ prog₄ r) (sym s.stands.is)
-          (done s.stands.first s.stands.second l z
+      fitting = λ χ l s K.
+          subst (λ (k : Expr Boolean). Coded w k l len prog₀ t₂ prog₄ r) (sym s.stands.is)
+          (done B s.stands.first s.stands.second l
           (record { levels = s.levels; stands = s.stands.left })
           (record { levels = s.levels; stands = s.stands.right }) K);
-      full = λ z χ l s K.
+    }
+
+    pair_over : {t₂ : List (ℕ × ℕ)} {prog₄ : List ℕ} →
+        Overfull w (FormulaWritten w b q) limit t₁ prog₃ t₂ prog₄ →
+        Overfull w (PairWritten w a p b q make) limit t₀ prog₀ t₂ prog₄
+    pair_over B = record {
+      ranges = B.ranges;
+      within = B.within;
+      room = B.room ∙ G.room ∙ A.room ∙ U.room;
+      full = λ χ l s K.
           let φ = s.stands.first in
           let ψ = s.stands.second in
-          let f = A.fitting y φ l (record { levels = s.levels; stands = s.stands.left }) K in
-          let g = B.full z ψ (comparisons φ l) (record { levels = s.levels; stands = s.stands.right }) f.known in
+          let f = A.fitting φ l (record { levels = s.levels; stands = s.stands.left }) K in
+          let g = B.full ψ (comparisons φ l) (record { levels = s.levels; stands = s.stands.right }) f.known in
           let e = ap (λ k. length (comparisons k l)) s.stands.is ∙ ap length (J.gathers φ ψ l) in
           omega arith;
     }
 
--- ---- what stands, said in another way
-pub compiles_as : {w : List ℕ} {P Q : Expr Boolean → Type 0} {limit known len most more : ℕ}
-    {starts₀ ends₀ prog₀ starts ends prog : List ℕ} {r : Compiled} → ((χ : Expr Boolean) → Q χ → P χ) → most ≤ more →
-    Compiles w P limit known len most starts₀ ends₀ prog₀ starts ends prog r →
-    Compiles w Q limit known len more starts₀ ends₀ prog₀ starts ends prog r
-compiles_as f h C = record {
-  ranges = C.ranges;
-  within = C.within;
-  least = C.least;
-  short = let s = C.short in omega arith;
-  room = C.room;
-  fitting = λ y χ l s K. C.fitting y χ l (f χ s) K;
-  full = λ y χ l s K. C.full y χ l (f χ s) K;
-}
+    pub pair_result : {Q : Expr Boolean → Type 0} → ((χ : Expr Boolean) → Q χ → PairWritten w a p b q make χ) →
+        (most : ℕ) → length u + (p - a) + (length v + (q - b)) ≤ most →
+        (t₂ : List (ℕ × ℕ)) (prog₄ : List ℕ) (r : Result ℕ Failure) →
+        Compiles w (FormulaWritten w b q) limit len₃ (q - b) t₁ prog₃ t₂ prog₄ r →
+        Compiles w Q limit len most t₀ prog₀ t₂ prog₄ r
+    pair_result f most h t₂ prog₄ (Ok r) B = compiled_as f (pair-done h B)
+    pair_result f most h t₂ prog₄ (Err e) (z, B) = (z, overfull_as f (pair_over B))
+
+-- ---- the boolean that a side is
+-- two booleans that stand there are a side
+pub both_sides : {w : List ℕ} {a p b q : ℕ} (χ : Expr Boolean) → SideWritten w (Both a p b q) χ →
+    PairWritten w a p b q (λ φ ψ. and φ ψ) χ
+both_sides χ s = record { levels = s.levels; stands = s.stands }
+
+pub both_not_sides : {w : List ℕ} {a p b q : ℕ} (χ : Expr Boolean) → SideWritten w (BothNot a p b q) χ →
+    PairWritten w a p b q (λ φ ψ. and φ (neg ψ)) χ
+both_not_sides χ s = record { levels = s.levels; stands = s.stands }
+
+pub false_side : {w : List ℕ} (χ : Expr Boolean) → SideWritten w False χ → χ ≡ truth false
+false_side χ s = s.stands
 
 -- the constant false is one byte, and has no comparisons
-pub compiles_false : {w : List ℕ} {Q : Expr Boolean → Type 0} {limit known len most : ℕ} {starts ends prog : List ℕ} →
-    ((χ : Expr Boolean) → Q χ → χ ≡ truth false) → CanCompile w limit known len most starts ends prog → 1 ≤ most →
-    Compiles w Q limit known len most starts ends prog starts ends (set prog len 16)
-    (record { fits = true; known = known; len = len + 1 })
+pub compiles_false : {w : List ℕ} {Q : Expr Boolean → Type 0} {limit len most : ℕ} {t : List (ℕ × ℕ)} {prog : List ℕ} →
+    ((χ : Expr Boolean) → Q χ → χ ≡ truth false) → CanCompile w limit len most t prog → 1 ≤ most →
+    Compiled w Q limit len most t prog t (set prog len 16) (len + 1)
 unfolding comparisons formula spell
-compiles_false {w} {known = known} {len = len} {starts = starts} {ends = ends} {prog = prog} f C h = record {
+compiles_false {w} {len = len} {t = t} {prog = prog} f C h = record {
   ranges = C.ranges;
   within = C.within;
   least = omega arith;
   short = omega arith;
   room = length-set prog len 16;
-  fitting = λ _ χ l s K.
+  fitting = λ χ l s K.
       rw (f χ s) (record {
         known = K;
         coded = λ m X. (adds_one prog len 16 (let r = C.room in omega arith)).bytes;
       });
-  full = λ y. absurd (true≢false y);
 }
 
--- ---- the boolean that a side is
-module _ {w : List ℕ} {limit known len : ℕ} {s t : Side} (e : s ≡ t) where
-  pub side_can : {starts ends prog : List ℕ} →
-      SideFits (length w) s × CanCompile w limit known len (side_room s) starts ends prog →
-      SideFits (length w) t × CanCompile w limit known len (side_room t) starts ends prog
-  side_can {starts} {ends} {prog} h =
-      subst (λ (z : Side). SideFits (length w) z × CanCompile w limit known len (side_room z) starts ends prog) e h
-
-  pub side_done : {starts₀ ends₀ prog₀ starts ends prog : List ℕ} {r : Compiled} →
-      Compiles w (SideWritten w t) limit known len (side_room t) starts₀ ends₀ prog₀ starts ends prog r →
-      Compiles w (SideWritten w s) limit known len (side_room s) starts₀ ends₀ prog₀ starts ends prog r
-  side_done {starts₀} {ends₀} {prog₀} {starts} {ends} {prog} {r} h =
-      subst
-      (λ (z : Side). Compiles w (SideWritten w z) limit known len (side_room z) starts₀ ends₀ prog₀ starts ends prog r)
-      (sym e) h
+-- what a side requires, known by its case
+pub side_can : {w : List ℕ} {limit len : ℕ} {s s' : Side} {t : List (ℕ × ℕ)} {prog : List ℕ} → s ≡ s' →
+    SideFits (length w) s × CanCompile w limit len (side_room s) t prog →
+    CanCompile w limit len (side_room s') t prog
+side_can {w} {limit} {len} {s} {s'} {t} {prog} e h =
+    subst (λ (z : Side). CanCompile w limit len (side_room z) t prog) e h.1

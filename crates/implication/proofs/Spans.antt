@@ -1,20 +1,24 @@
--- Ranges of words: compared word by word, searched for, and skipped.
+-- Ranges of words: skipped, compared by their slices, and searched for.
 -- Assumes nothing.
---     below                                          the order of two numbers
---     same_none, same_more                           the words so far are the same
---     compares_all, compares_not, compares_length    two ranges have the same words, or differ
---     Bare, bare-none, bare-more, bare-join          words of no boolean
---     RangesMissed, missed-none, missed_more         a range is none of the first ones
-use mathlib.Core.Path.{◌≡◌, refl, sym, ap, subst, ◌∙◌}
-use mathlib.Core.Bool.{Bool, true, false, false≢true, true≢false}
+--     below                                    the order of two numbers
+--     Bare, bare-none, bare-one, bare-join     words of no boolean
+--     slices-alike, alike-slices               two ranges have the same words where their slices are equal
+--     same_at, other_at, missed_more           a range is the same as that at a number, or is none of the first ones
+use mathlib.Core.Path.{◌≡◌, refl, sym, ap, ◌∙◌}
+use mathlib.Core.Bool.{Bool, true, false}
 use mathlib.Core.List.{List}
 use mathlib.Core.Logic.{◌⊎◌, inl, inr, ⊎_elim}
 use Prim.Native.Nat.{ℕ, ◌+◌, ◌-◌, ◌<◌, ◌≤◌}
 use native.Mathlib.Omega.{arith}
+use borrow.Author.Count.{below_more}
 use borrow.Author.Tests.{ltb-true, ltb-false}
 use lib.Dec.{ltb}
-use lib.ListN.{get_or}
-use Rattle.implication.specs.Scanning.{byte_at, SameFor, SameRange, Compares, Finds}
+use lib.ListN.{length, get_or, drop}
+use lib.Pointwise.{pointwise}
+use Rattle.std.specs.Prelude.{nat_eq, slice_range}
+use Rattle.std.specs.Cmp.Lexicographic.{same_text, other_text}
+use Rattle.std.proofs.lemmas.List.{length-take-le, length-drop, get_or-take, get_or-drop, ext_get_or}
+use Rattle.implication.specs.Scanning.{byte_at, SameRange, span_at, Ranges, Missed}
 
 pub below : (j k : ℕ) → (j < k) ⊎ (k ≤ j)
 below j k = go (ltb j k) refl
@@ -22,37 +26,6 @@ below j k = go (ltb j k) refl
     go : (b : Bool) → ltb j k ≡ b → (j < k) ⊎ (k ≤ j)
     go true e = inl (ltb-true j k e)
     go false e = inr (ltb-false j k e)
-
--- ---- two ranges
-module _ {w : List ℕ} {a p : ℕ} where
-  pub same_none : SameFor w a p 0
-  same_none = record { same = λ x l. absurd (omega arith) }
-
-  pub same_more : {i : ℕ} → SameFor w a p i → get_or w (a + i) 0 ≡ get_or w (p + i) 0 → SameFor w a p (i + 1)
-  same_more {i} s e = record {
-    same = λ x l.
-        ⊎_elim
-        (λ (h : x < i). s.same x h)
-        (λ (h : i ≤ x).
-        ap (λ (z : ℕ). get_or w (a + z) 0) (at x l h) ∙ e ∙ ap (λ (z : ℕ). get_or w (p + z) 0) (sym (at x l h)))
-        (below x i);
-  }
-    where
-      at : (x : ℕ) → x < i + 1 → i ≤ x → x ≡ i
-      at x l h = omega arith
-
-  module _ {b q : ℕ} where
-    pub compares_all : {i : ℕ} → SameFor w a p i → b - a ≡ q - p → b - a ≤ i → Compares w a b p q true
-    compares_all {i} s e l = record {
-      sound = λ _. record { long = e; same = record { same = λ x h. s.same x (omega arith) } };
-      complete = λ h. absurd (true≢false h);
-    }
-
-    pub compares_not : {i : ℕ} → i < b - a → (get_or w (a + i) 0 ≡ get_or w (p + i) 0 → ⊥) → Compares w a b p q false
-    compares_not {i} l f = record { sound = λ h. absurd (false≢true h); complete = λ _ s. f (s.same.same i l) }
-
-    pub compares_length : (b - a ≡ q - p → ⊥) → Compares w a b p q false
-    compares_length f = record { sound = λ h. absurd (false≢true h); complete = λ _ s. f s.long }
 
 -- ---- words of no boolean
 pub record Bare (w : List ℕ) (a b : ℕ) : Type 0 where
@@ -73,38 +46,51 @@ module _ {w : List ℕ} where
       at : (x : ℕ) → a ≤ x → x < a + 1 → x ≡ a
       at x l h = omega arith
 
-  pub bare-more : {a b : ℕ} → Bare w a b → byte_at w b ≡ 21 → Bare w a (b + 1)
-  bare-more {a} {b} f e = bare-join b f (bare-one b e)
+-- ---- two ranges
+slice-length : (w : List ℕ) (a b : ℕ) → a ≤ b → b ≤ length w → length (slice_range w a b) ≡ b - a
+slice-length w a b h k = length-take-le (b - a) (drop a w) (omega (arith, length-drop a w))
 
--- ---- the first i ranges have other words
-pub record RangesMissed (w : List ℕ) (k q : ℕ) (starts ends : List ℕ) (i : ℕ) : Type 0 where
-  pub missed : (j : ℕ) → j < i → SameRange w (get_or starts j 0) (get_or ends j 0) k q → ⊥
+slice-at : (w : List ℕ) (a b x : ℕ) → x < b - a → get_or (slice_range w a b) x 0 ≡ get_or w (a + x) 0
+slice-at w a b x i = get_or-take (b - a) (drop a w) x 0 i ∙ get_or-drop a w x 0
 
-module _ {w : List ℕ} {k q : ℕ} {starts ends : List ℕ} where
-  pub missed-none : RangesMissed w k q starts ends 0
-  missed-none = record { missed = λ j l. absurd (omega arith) }
-
-  module _ {i : ℕ} (m : RangesMissed w k q starts ends i) where
-    pub missed-end : {n : ℕ} → n ≤ i → Finds w k q starts ends n n
-    missed-end h = record {
-      most = omega arith;
-      found = λ l. absurd (omega arith);
-      none = λ j l. m.missed j (omega arith);
-    }
-
-    module _ {r : Bool} (c : Compares w (get_or starts i 0) (get_or ends i 0) k q r) where
-      pub missed_here : {n : ℕ} → i < n → r ≡ true → Finds w k q starts ends n i
-      missed_here l e = record { most = omega arith; found = λ _. c.sound e; none = m.missed }
-
-      pub missed_more : r ≡ false → RangesMissed w k q starts ends (i + 1)
-      missed_more e = record {
-        missed = λ j l.
-            ⊎_elim
-            (λ (h : j < i). m.missed j h)
-            (λ (h : i ≤ j) s.
-            c.complete e (subst (λ (z : ℕ). SameRange w (get_or starts z 0) (get_or ends z 0) k q) (at j l h) s))
-            (below j i);
+-- ranges within the words have the same words where the slices are equal
+module _ {w : List ℕ} {a b p q : ℕ} (h : a ≤ b) (k : b ≤ length w) (l : p ≤ q) (m : q ≤ length w) where
+  slices-alike : slice_range w a b ≡ slice_range w p q → SameRange w a b p q
+  slices-alike e =
+      let f : b - a ≡ q - p = sym (slice-length w a b h k) ∙ ap length e ∙ slice-length w p q l m in record {
+        long = f;
+        same = record {
+          same = λ x i.
+              sym (slice-at w a b x i) ∙ ap (λ (z : List ℕ). get_or z x 0) e ∙ slice-at w p q x (omega arith);
+        };
       }
-        where
-          at : (j : ℕ) → j < i + 1 → i ≤ j → j ≡ i
-          at j l h = omega arith
+
+  alike-slices : SameRange w a b p q → slice_range w a b ≡ slice_range w p q
+  alike-slices s =
+      ext_get_or 0 (slice_range w a b) (slice_range w p q)
+      (slice-length w a b h k ∙ s.long ∙ sym (slice-length w p q l m))
+      (λ x i.
+      let j : x < b - a = omega (arith, slice-length w a b h k) in
+      slice-at w a b x j ∙ s.same.same x j ∙ sym (slice-at w p q x (omega (arith, s.long))))
+
+-- ---- a range among others
+abbrev slice_of : List ℕ → ℕ × ℕ → List ℕ
+slice_of w x = slice_range w x.0 x.1
+
+module _ {w : List ℕ} {k q : ℕ} {t : List (ℕ × ℕ)} where
+  module _ (R : Ranges w t) (h : k ≤ q) (l : q ≤ length w) {i : ℕ} (j : i < length t) {s : List (ℕ × ℕ)} (v : s ≡ t) where
+    pub same_at : true ≡ pointwise nat_eq (slice_of w (span_at s i)) (slice_range w k q) →
+        SameRange w (span_at t i).0 (span_at t i).1 k q
+    same_at e =
+        let f = R.each i j in
+        slices-alike f.0 f.1 h l (ap (λ (z : List (ℕ × ℕ)). slice_of w (span_at z i)) (sym v) ∙ same_text _ _ e)
+
+    pub other_at : false ≡ pointwise nat_eq (slice_of w (span_at s i)) (slice_range w k q) →
+        SameRange w (span_at t i).0 (span_at t i).1 k q → ⊥
+    other_at e x =
+        let f = R.each i j in
+        other_text _ _ e (ap (λ (z : List (ℕ × ℕ)). slice_of w (span_at z i)) v ∙ alike-slices f.0 f.1 h l x)
+
+  pub missed_more : {i : ℕ} → Missed w k q t i → (SameRange w (span_at t i).0 (span_at t i).1 k q → ⊥) →
+      Missed w k q t (i + 1)
+  missed_more {i} m e = record { missed = below_more _ _ m.missed e }

@@ -5,10 +5,11 @@
 --     number, entry, Extends         the number of a listed comparison; the one with a number; numbers stay
 --     formula                        the formula of a boolean
 --     Compared, Known                a comparison stands in a range of words; all that are listed do
---     FormulaWritten, PairWritten    a boolean stands there, at some depth; one that is made of two
---     SideWritten                    the boolean that a side is
---     CanCompile, Coded, Compiles    the contract of compiling what stands somewhere
-use Rattle.std.specs.Prelude.{◌≡◌, true, false, cond, List, [], ◌∷◌, ◌++◌, ℕ, ◌+◌, ◌<◌, ◌≤◌, eqb, length, get_or, take}
+--     FormulaWritten, SideWritten    a boolean stands there, at some depth; the boolean that a side is
+--     CanCompile, Coded              what compiling requires; the bytes of what stands somewhere
+--     Compiled, Overfull, Compiles   the contract of compiling it
+use Rattle.std.specs.Prelude.{Result, MatchResult}
+use Rattle.std.specs.Prelude.{◌≡◌, true, cond, List, [], ◌∷◌, ◌++◌, ℕ, ◌+◌, ◌<◌, ◌≤◌, eqb, length, take}
 use Rattle.language.specs.Syntax.{Boolean, Expr, compare, truth, and, or, neg}
 use Rattle.rules.specs.Words.{Word, words}
 use Rattle.rules.specs.Implies.{among_words, comparisons}
@@ -16,10 +17,11 @@ use Rattle.layout.specs.EvidenceWords.{expression_part}
 use Rattle.layout.specs.Nodes.{AllInRange}
 use Rattle.layout.specs.Standing.{StandsTo, PartStands}
 use Rattle.truth_table.specs.Formula.{Formula, leaf, fixed, conj, disj, negated, spell}
-use Rattle.implication.specs.declared.Compiled.{Compiled}
+use Rattle.implication.specs.declared.Failure.{Failure}
+use Rattle.implication.specs.declared.Failure.TheVariants.{TooLarge}
 use Rattle.implication.specs.declared.Side.{Side}
-use Rattle.implication.specs.Sides.{PairStands, SideStands}
-use Rattle.implication.specs.Scanning.{Ranges}
+use Rattle.implication.specs.Sides.{SideStands}
+use Rattle.implication.specs.Scanning.{span_at, Ranges}
 
 -- the last listed has number 0
 unfoldable pub number : List (List Word) → List Word → ℕ
@@ -46,50 +48,55 @@ pub record Compared (w : List ℕ) (k : ℕ) (c : List Word) (m : ℕ) : Type 0 
   pub stand : StandsTo w k c m
   pub fits : AllInRange c
 
--- the n comparisons of l stand at the ranges of their numbers
-pub record Known (w starts ends : List ℕ) (n : ℕ) (l : List (List Word)) : Type 0 where
-  pub count : length l ≡ n
-  pub each : (i : ℕ) → i < n → Compared w (get_or starts i 0) (entry l i) (get_or ends i 0)
+-- the comparisons of l stand at the ranges of their numbers
+pub record Known (w : List ℕ) (t : List (ℕ × ℕ)) (l : List (List Word)) : Type 0 where
+  pub count : length l ≡ length t
+  pub each : (i : ℕ) → i < length t → Compared w (span_at t i).0 (entry l i) (span_at t i).1
 
 pub record FormulaWritten (w : List ℕ) (a p : ℕ) (φ : Expr Boolean) : Type 0 where
   pub levels : ℕ
   pub stands : PartStands w (expression_part φ) levels a p
-
-pub record PairWritten
-    (w : List ℕ) (a p b q : ℕ) (make : Expr Boolean → Expr Boolean → Expr Boolean) (χ : Expr Boolean) : Type 0 where
-  pub levels : ℕ
-  pub stands : PairStands w levels a p b q make χ
 
 pub record SideWritten (w : List ℕ) (s : Side) (χ : Expr Boolean) : Type 0 where
   pub levels : ℕ
   pub stands : SideStands w levels s χ
 
 -- there is room for so many more bytes, and the known comparisons are within the limit
-pub record CanCompile
-    (w : List ℕ) (limit known len most : ℕ) (starts ends prog : List ℕ) : Type 0 where
+pub record CanCompile (w : List ℕ) (limit len most : ℕ) (t : List (ℕ × ℕ)) (prog : List ℕ) : Type 0 where
   pub few : limit ≤ 16
-  pub within : known ≤ limit
-  pub ranges : Ranges w starts ends known
+  pub within : length t ≤ limit
+  pub ranges : Ranges w t
   pub room : len + most ≤ length prog
 
 pub record Coded
-    (w : List ℕ) (φ : Expr Boolean) (l : List (List Word)) (len : ℕ) (prog₀ starts ends prog : List ℕ) (r : Compiled) :
-    Type 0 where
-  pub known : Known w starts ends r.known (comparisons φ l)
+    (w : List ℕ) (φ : Expr Boolean) (l : List (List Word)) (len : ℕ) (prog₀ : List ℕ) (t : List (ℕ × ℕ))
+    (prog : List ℕ) (r : ℕ) : Type 0 where
+  pub known : Known w t (comparisons φ l)
   pub coded : (m : List (List Word)) → Extends (comparisons φ l) m →
-      take r.len prog ≡ take len prog₀ ++ spell (formula m φ) []
+      take r prog ≡ take len prog₀ ++ spell (formula m φ) []
 
--- what stands is compiled: its formula after the first bytes, its new comparisons after the known ones, unless those
--- are more than the limit
-pub record Compiles
-    (w : List ℕ) (Stands : Expr Boolean → Type 0) (limit known len most : ℕ)
-    (starts₀ ends₀ prog₀ starts ends prog : List ℕ) (r : Compiled) : Type 0 where
-  pub ranges : Ranges w starts ends r.known
-  pub within : r.known ≤ limit
-  pub least : len ≤ r.len
-  pub short : r.len ≤ len + most
+-- the formula of what stands is after the first bytes, its new comparisons after the known ones
+pub record Compiled
+    (w : List ℕ) (Stands : Expr Boolean → Type 0) (limit len most : ℕ)
+    (t₀ : List (ℕ × ℕ)) (prog₀ : List ℕ) (t : List (ℕ × ℕ)) (prog : List ℕ) (r : ℕ) : Type 0 where
+  pub ranges : Ranges w t
+  pub within : length t ≤ limit
+  pub least : len ≤ r
+  pub short : r ≤ len + most
   pub room : length prog ≡ length prog₀
-  pub fitting : r.fits ≡ true → (φ : Expr Boolean) (l : List (List Word)) → Stands φ →
-      Known w starts₀ ends₀ known l → Coded w φ l len prog₀ starts ends prog r
-  pub full : r.fits ≡ false → (φ : Expr Boolean) (l : List (List Word)) → Stands φ →
-      Known w starts₀ ends₀ known l → limit < length (comparisons φ l)
+  pub fitting : (φ : Expr Boolean) (l : List (List Word)) → Stands φ → Known w t₀ l → Coded w φ l len prog₀ t prog r
+
+-- the comparisons of what stands are more than the limit
+pub record Overfull
+    (w : List ℕ) (Stands : Expr Boolean → Type 0) (limit : ℕ)
+    (t₀ : List (ℕ × ℕ)) (prog₀ : List ℕ) (t : List (ℕ × ℕ)) (prog : List ℕ) : Type 0 where
+  pub ranges : Ranges w t
+  pub within : length t ≤ limit
+  pub room : length prog ≡ length prog₀
+  pub full : (φ : Expr Boolean) (l : List (List Word)) → Stands φ → Known w t₀ l → limit < length (comparisons φ l)
+
+abbrev pub Compiles : List ℕ → (Expr Boolean → Type 0) → ℕ → ℕ → ℕ → List (ℕ × ℕ) → List ℕ → List (ℕ × ℕ) → List ℕ →
+    Result ℕ Failure → Type 0
+Compiles w Stands limit len most t₀ prog₀ t prog r =
+    MatchResult r (λ n. Compiled w Stands limit len most t₀ prog₀ t prog n)
+    (λ e. (e ≡ TooLarge) × Overfull w Stands limit t₀ prog₀ t prog)

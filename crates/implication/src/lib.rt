@@ -2,13 +2,16 @@
 // one true makes the other true.
 #![tactic(auto)]
 
+mod comparisons;
 mod compile;
 mod scan;
 
 ghost use Rattle.std.specs.Prelude.{◌≡◌, ◌+◌, ◌*◌, ◌^◌, ◌≤◌, length};
 ghost use Rattle.implication.specs.Sides.{SideFits, side_room, CanImply, Implied};
 
+use comparisons::Comparisons;
 use compile::compile_side;
+use truth_table::{NOT, OR};
 
 // Why a condition does not pass (document 01, "Judging order", 8 and 9).
 #[derive(Clone, Copy, Debug, PartialEq, Eq)]
@@ -28,26 +31,12 @@ pub enum Side {
     False,
 }
 
-// A boolean compiled: whether its comparisons were few enough, how many are known, and the bytes so far.
-#[derive(Clone, Copy)]
-pub struct Compiled {
-    pub fits: bool,
-    pub known: usize,
-    pub len: usize,
-}
-
 // Blocks of 64 assignments, enough for n comparisons.
 fn blocks(n: usize) -> usize
     requires { n ≤ 16 }
     ensures { (2 ^ n ≤ 64 * result) × (result ≤ 1024) }
 {
-    let mut b: usize = 1;
-    let mut i: usize = 6;
-    while i < n {
-        b = b * 2;
-        i += 1;
-    }
-    b
+    (1usize << n).div_ceil(64)
 }
 
 // As many bytes as the formula of a side may take.
@@ -74,29 +63,16 @@ fn decide_sides(
     requires { CanImply w.now left right limit × (2 + side_room left + side_room right ≤ length prog.old) }
     ensures { Implied w.now left right limit result }
 {
-    let mut starts = [0usize; 16];
-    let mut ends = [0usize; 16];
-    prog[0] = 19;
-    prog[1] = 20;
-    let x = compile_side(w, left, limit, 0, 2, &mut starts, &mut ends, prog);
-    let first = x.fits;
-    if !first {
-        return Err(Failure::TooLarge);
+    let mut known = Comparisons::new();
+    prog[0] = OR;
+    prog[1] = NOT;
+    let middle = compile_side(w, left, limit, &mut known, prog, 2)?;
+    let len = compile_side(w, right, limit, &mut known, prog, middle)?;
+    if truth_table::every(prog, len, blocks(known.count())) {
+        Ok(())
+    } else {
+        Err(Failure::Fails)
     }
-    let known = x.known;
-    let len = x.len;
-    let y = compile_side(w, right, limit, known, len, &mut starts, &mut ends, prog);
-    let second = y.fits;
-    if !second {
-        return Err(Failure::TooLarge);
-    }
-    let n = y.known;
-    let total = y.len;
-    let b = blocks(n);
-    if truth_table::every(prog, total, b) {
-        return Ok(());
-    }
-    Err(Failure::Fails)
 }
 
 // Whether the one side implies the other, over at most limit distinct comparisons (rules 14, 18, 21 and 28).

@@ -4,6 +4,17 @@
 ghost use Rattle.std.specs.Prelude.{◌≡◌, ◌%◌, ◌≤◌};
 ghost use Rattle.truth_table.specs.Formula.{IsFormula, CanWork, Block, Full, GivesFour, Every, spread_of};
 
+// The bytes of a formula above those of its leaves.
+pub const FALSE: u8 = 16;
+
+pub const TRUE: u8 = 17;
+
+pub const AND: u8 = 18;
+
+pub const OR: u8 = 19;
+
+pub const NOT: u8 = 20;
+
 // 64 times the low bit of x.
 fn spread(x: usize) -> u64
     ensures { result ≡ spread_of (x % 2) }
