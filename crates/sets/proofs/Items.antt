@@ -28,7 +28,7 @@ use Rattle.sets.specs.Standing.{MemberAt, ViewAt, ItemAt, CanCompare, CanSee}
 use Rattle.sets.specs.declared.item.View.{View}
 use Rattle.sets.specs.declared.item.View.TheVariants.{AsWritten, Under, Unless, Replaced}
 use Rattle.sets.specs.declared.item.FormedMember.{FormedMember}
-use Rattle.sets.proofs.Members.{any-known}
+use Rattle.sets.proofs.Places.{any-known}
 
 -- by view
 module _ (ends : List ℕ) (a : ℕ) (view : View) (middle : ℕ) (m : middle ≡ end_at ends a) where
@@ -89,7 +89,7 @@ module _ {file ends : List ℕ} {at a middle other : ℕ} (x : MemberAt file end
 
 -- what an item names stands there
 module _ {file ends : List ℕ} (o : EndsOf file ends) where
-  seen-view : {a : ℕ} (view : View) → MemberAt file ends a → ViewAt file ends view → ItemAt file ends (seen_item ends view a)
+  pub seen-view : {a : ℕ} (view : View) → MemberAt file ends a → ViewAt file ends view → ItemAt file ends (seen_item ends view a)
   unfolding seen_item ViewAt AntecedentAt ConsequentAt
   seen-view AsWritten m v = record { antecedent-at = m.antecedent; consequent-at = any-known o m.consequent }
   seen-view (Under b) m v = record {

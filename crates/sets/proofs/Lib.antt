@@ -1,5 +1,6 @@
 -- Laws about sets compared by the halves of their members.
---     Members    the places of a member
+--     Places     the places of a member
+--     Steps      members passed one by one by their places
 --     Items      cursors after members as the rules make them
 --     Equal      sameness of halves as a test
 --     Loops      members passed one by one
@@ -8,7 +9,8 @@
 --     Tests      the tests of sets are those of halves
 --     Trees      the halves that are compared are those of the trees that stand there
 --     Rules      the conditions of the rules on sets
-pub mod Members
+pub mod Places
+pub mod Steps
 pub mod Items
 pub mod Equal
 pub mod Loops

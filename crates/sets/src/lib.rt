@@ -2,6 +2,7 @@
 #![tactic(auto)]
 
 pub mod item; // a member as the rules make it, compared with a written one
+pub mod members; // the places of members, one after the other
 pub mod member; // members looked for among written ones
 pub mod pile; // members looked for in the sets that the rules make
 pub mod align; // members in the same order

@@ -4,7 +4,8 @@ ghost use Rattle.sets.specs.Lists.{seen_all, written, stands_in, within_all, lis
 ghost use Rattle.sets.specs.Standing.{CanFind, CanLook, CanHold, CanEither, CanRest, CanLeave};
 ghost use Rattle.sets.specs.declared.item.View.TheVariants.{AsWritten};
 
-use crate::item::{FormedMember, View, past_member, same_item, same_seen, same_words, seen_item};
+use crate::item::{FormedMember, View, same_item, same_seen, same_words, seen_item};
+use crate::members::Members;
 
 // Whether the item is one of the k written members at `at`.
 pub fn has_item(w: &[u32], ends: &[u32], k: usize, at: usize, item: FormedMember) -> bool
@@ -12,16 +13,7 @@ pub fn has_item(w: &[u32], ends: &[u32], k: usize, at: usize, item: FormedMember
     ensures { result ≡ stands_in (item_halves w.now ends.now item)
         (written w.now ends.now k «at») }
 {
-    let mut n = k;
-    let mut i = at;
-    while 0 < n {
-        if same_item(w, ends, i, item) {
-            return true;
-        }
-        i = past_member(ends, i);
-        n -= 1;
-    }
-    false
+    Members::new(ends, k, at).any(|i| same_item(w, ends, i, item))
 }
 
 // Whether the written member at x is one of the k members at `at` seen as the view says.
@@ -30,16 +22,7 @@ pub fn in_seen(w: &[u32], ends: &[u32], x: usize, k: usize, at: usize, view: Vie
     ensures { result ≡ stands_in (written_halves w.now ends.now x)
         (seen_all w.now ends.now view k «at») }
 {
-    let mut n = k;
-    let mut i = at;
-    while 0 < n {
-        if same_seen(w, ends, x, i, view) {
-            return true;
-        }
-        i = past_member(ends, i);
-        n -= 1;
-    }
-    false
+    Members::new(ends, k, at).any(|i| same_seen(w, ends, x, i, view))
 }
 
 // Whether each of the j members at `from`, seen as the view says, is one of the k written members at `at`.
@@ -56,17 +39,7 @@ pub fn seen_in(
     ensures { result ≡ within_all (seen_all w.now ends.now view j from)
         (written w.now ends.now k «at») }
 {
-    let mut n = j;
-    let mut i = from;
-    while 0 < n {
-        let item = seen_item(ends, i, view);
-        if !has_item(w, ends, k, at, item) {
-            return false;
-        }
-        i = past_member(ends, i);
-        n -= 1;
-    }
-    true
+    Members::new(ends, j, from).all(|i| has_item(w, ends, k, at, seen_item(ends, i, view)))
 }
 
 // Whether the written member at x is, by words, one of the l members at `leave` (rule 17's "without").
@@ -75,16 +48,7 @@ fn is_listed(w: &[u32], ends: &[u32], x: usize, l: usize, leave: usize) -> bool
     ensures { result ≡ listed_in (written_halves w.now ends.now x)
         (written w.now ends.now l leave) }
 {
-    let mut n = l;
-    let mut i = leave;
-    while 0 < n {
-        if same_words(w, ends, x, i) {
-            return true;
-        }
-        i = past_member(ends, i);
-        n -= 1;
-    }
-    false
+    Members::new(ends, l, leave).any(|i| same_words(w, ends, x, i))
 }
 
 // Whether the written member at x stands among the k members at `at`, or is listed among the l members at `leave`.
@@ -103,11 +67,7 @@ fn has_either(
         || listed_in (written_halves w.now ends.now x)
         (written w.now ends.now l leave)) }
 {
-    let item = seen_item(ends, x, View::AsWritten);
-    if has_item(w, ends, k, at, item) {
-        return true;
-    }
-    is_listed(w, ends, x, l, leave)
+    has_item(w, ends, k, at, seen_item(ends, x, View::AsWritten)) || is_listed(w, ends, x, l, leave)
 }
 
 // Whether each of the j members at `from`, without those that are listed among the l members at `leave`, is one of the k written
@@ -127,16 +87,7 @@ pub fn rest_in(
         (without_all (written w.now ends.now j from) (written w.now ends.now l leave))
         (written w.now ends.now k «at») }
 {
-    let mut n = j;
-    let mut i = from;
-    while 0 < n {
-        if !has_either(w, ends, i, l, leave, k, at) {
-            return false;
-        }
-        i = past_member(ends, i);
-        n -= 1;
-    }
-    true
+    Members::new(ends, j, from).all(|i| has_either(w, ends, i, l, leave, k, at))
 }
 
 // Whether the written member at x is the one at a, and that one is not listed among the l members at `leave`.
@@ -147,10 +98,7 @@ fn is_left(w: &[u32], ends: &[u32], x: usize, a: usize, l: usize, leave: usize) 
         && not (listed_in (written_halves w.now ends.now a)
         (written w.now ends.now l leave))) }
 {
-    if !same_seen(w, ends, x, a, View::AsWritten) {
-        return false;
-    }
-    !is_listed(w, ends, a, l, leave)
+    same_seen(w, ends, x, a, View::AsWritten) && !is_listed(w, ends, a, l, leave)
 }
 
 // Whether the written member at x stands among the k members at `at` without those that are listed among the l members at `leave`.
@@ -168,14 +116,5 @@ pub fn in_rest(
     ensures { result ≡ stands_in (written_halves w.now ends.now x)
         (without_all (written w.now ends.now k «at») (written w.now ends.now l leave)) }
 {
-    let mut n = k;
-    let mut i = at;
-    while 0 < n {
-        if is_left(w, ends, x, i, l, leave) {
-            return true;
-        }
-        i = past_member(ends, i);
-        n -= 1;
-    }
-    false
+    Members::new(ends, k, at).any(|i| is_left(w, ends, x, i, l, leave))
 }

@@ -4,8 +4,9 @@ ghost use Rattle.sets.specs.Lists.{written, stands_in, within_all};
 ghost use Rattle.sets.specs.Piles.{count_at, pile_numbers, piles_numbers};
 ghost use Rattle.sets.specs.Piles.{CanSearch, CanSearchAll, CanKeepPile, CanKeepAll};
 
-use crate::item::{View, pair_item, past_member, same_item};
+use crate::item::{View, pair_item, same_item};
 use crate::member::{has_item, in_rest, in_seen, rest_in, seen_in};
+use crate::members::Members;
 use words::kinds::KIND;
 
 // A set that a rule makes: none; one member by the places of its antecedent and its consequent; the written set at a place, seen
@@ -119,14 +120,5 @@ pub fn set_in(w: &[u32], ends: &[u32], k: usize, at: usize, piles: Piles) -> boo
     ensures { result ≡ within_all (written w.now ends.now k «at»)
         (piles_numbers w.now ends.now piles) }
 {
-    let mut n = k;
-    let mut i = at;
-    while 0 < n {
-        if !in_piles(w, ends, i, piles) {
-            return false;
-        }
-        i = past_member(ends, i);
-        n -= 1;
-    }
-    true
+    Members::new(ends, k, at).all(|i| in_piles(w, ends, i, piles))
 }

@@ -2,7 +2,7 @@
 -- Assumes nothing.
 use mathlib.Core.Path.{refl}
 use native.Mathlib.Omega.{arith}
-use Rattle.sets.proofs.Members.{member-pass}
+use Rattle.sets.proofs.Places.{member-pass}
 use Rattle.sets.proofs.Items.{pair_at}
 use Rattle.sets.proofs.Loops.{same-as}
 use Rattle.sets.proofs.Aligned.{aligns_not, first_member, one-aligned}

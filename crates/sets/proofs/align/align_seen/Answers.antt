@@ -2,7 +2,7 @@
 -- Assumes nothing.
 use mathlib.Core.Path.{refl}
 use native.Mathlib.Omega.{arith}
-use Rattle.sets.proofs.Members.{member-pass}
+use Rattle.sets.proofs.Places.{member-pass}
 use Rattle.sets.proofs.Aligned.{aligning_start, aligning_on, aligning_end, aligns_not, first_member, part-first}
 use Rattle.sets.proofs.align.align_seen.Goals as goal
 

@@ -1,6 +1,6 @@
 -- `sets::item::same_item` meets its contract, half by half.
 -- Assumes nothing.
-use Rattle.sets.proofs.Members.{antecedent-any, consequent-any, any-known}
+use Rattle.sets.proofs.Places.{antecedent-any, consequent-any, any-known}
 use Rattle.sets.proofs.Items.{item-not, item-so}
 use Rattle.sets.proofs.item.same_item.Goals as goal
 

@@ -3,7 +3,7 @@
 use mathlib.Core.Path.{refl}
 use Rattle.compare.proofs.Forms.{of-verbatim, consequent-written}
 use Rattle.compare.proofs.Formed.{of-written, two-written, by_written}
-use Rattle.sets.proofs.Members.{antecedent-any, consequent-any, any-known}
+use Rattle.sets.proofs.Places.{antecedent-any, consequent-any, any-known}
 use Rattle.sets.proofs.Items.{item-not, item-so}
 use Rattle.sets.proofs.item.same_pair.Goals as goal
 

@@ -1,6 +1,6 @@
 -- `sets::item::same_seen` meets its contract, by view.
 -- Assumes nothing.
-use Rattle.sets.proofs.Members.{member-pass}
+use Rattle.sets.proofs.Places.{member-pass}
 use Rattle.sets.proofs.Items.{item-written, item-under, item-unless, item-replaced, see}
 use Rattle.sets.proofs.Loops.{same-as}
 use Rattle.sets.proofs.item.same_seen.Goals as goal

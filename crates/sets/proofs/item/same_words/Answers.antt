@@ -1,6 +1,6 @@
 -- `sets::item::same_words` meets its contract, half by half.
 -- Assumes nothing.
-use Rattle.sets.proofs.Members.{antecedent-any, consequent-any, any-known}
+use Rattle.sets.proofs.Places.{antecedent-any, consequent-any, any-known}
 use Rattle.sets.proofs.Items.{words-not, words-so}
 use Rattle.sets.proofs.item.same_words.Goals as goal
 

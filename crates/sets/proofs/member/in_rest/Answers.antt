@@ -1,38 +1,29 @@
--- `sets::member::in_rest` meets its contract. The invariant: the member is one of all that are not listed exactly if it is one of those
--- that are left and not listed.
+-- `sets::member::in_rest` meets its contract.
 -- Assumes nothing.
-use Rattle.sets.proofs.Members.{member-pass}
-use Rattle.sets.proofs.Loops.{left-start, left-first, left-stop, left-on, left_end, left-found}
-use Rattle.sets.proofs.Loops.{left-skip, end-left}
+use Rattle.std.proofs.Common.{rules, tests, ◌∙◌}
+use Rattle.std.proofs.lemmas.Iterator.Search.{any_from_yields_List}
+use Rattle.std.proofs.Common.{not, ◌&&◌}
+use Rattle.sets.specs.Items.{written_halves, same_halves}
+use Rattle.sets.specs.Lists.{listed_in, written}
+use Rattle.sets.specs.Standing.{CanLeave}
+use Rattle.sets.proofs.Steps.{start-passes, starts, each-member, left-each}
 use Rattle.sets.proofs.member.in_rest.Goals as goal
 
-pub loop-n-init : goal.loop-n-init
-loop-n-init c = left-start c.requires.members
+pub any-requires-clause-can : goal.any-requires-clause-can
+any-requires-clause-can c = start-passes c.new.ensures c.requires.members c.requires.ends_of
 
-pub is_left-requires : goal.is_left-requires
-is_left-requires c =
+pub any-requires-clause-callable : goal.any-requires-clause-callable
+any-requires-clause-callable c =
     let p = c.requires in
-    record {
-      ends_of = p.ends_of;
-      member = p.member;
-      other = left-first c.loop-n.invariant c.loop-n-test.true;
-      listed = p.listed;
-    }
-
-pub returns-then-is_left : goal.returns-then-is_left
-returns-then-is_left c =
-    left-stop c.loop-n.invariant c.loop-n-test.true
-    (left-found _ _ _ c.is_left.result c.is_left.ensures c.if-is_left.true)
-
-pub past_member-i-requires : goal.past_member-i-requires
-past_member-i-requires c =
-    let p = c.requires in
-    member-pass p.ends_of (left-first c.loop-n.invariant c.loop-n-test.true)
-
-pub loop-n-preserved : goal.loop-n-preserved
-loop-n-preserved c =
-    left-on c.loop-n.invariant c.loop-n-test.true c.past_member-i.ensures
-    (left-skip _ _ _ c.is_left.result c.is_left.ensures c.if-is_left.false)
+    each-member c.new.ensures p.members (λ x q h. search rules)
+    (λ x m.
+    let can : CanLeave c.args.w.now c.args.ends.now c.args.x x c.args.l c.args.leave = record { ends_of = p.ends_of; member = p.member; other = m; listed = p.listed } in
+    search rules)
 
 pub returns : goal.returns
-returns c = left_end c.loop-n.invariant c.loop-n-test.false (end-left _ _)
+returns c =
+    let file = c.args.w.now in
+    let ends = c.args.ends.now in
+    any_from_yields_List (λ i. same_halves (written_halves file ends c.args.x) (written_halves file ends i) && not (listed_in (written_halves file ends i) (written file ends c.args.l c.args.leave))) c.any.new.self _ c.any.result c.any.ensures.ran
+    (starts c.new.ensures) (λ x b q k. search (rules, tests))
+    ∙ left-each _ _ _ _ _ _ _

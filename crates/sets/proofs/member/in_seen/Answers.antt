@@ -1,37 +1,27 @@
--- `sets::member::in_seen` meets its contract. The invariant: the member is one of all exactly if it is one of those that are left.
+-- `sets::member::in_seen` meets its contract.
 -- Assumes nothing.
-use Rattle.sets.proofs.Members.{member-pass}
-use Rattle.sets.proofs.Loops.{left-start, left-first, left-stop, left-on, left_end, stands-found}
-use Rattle.sets.proofs.Loops.{stands-skip, end-stands}
+use Rattle.std.proofs.Common.{rules, tests, ◌∙◌}
+use Rattle.std.proofs.lemmas.Iterator.Search.{any_from_yields_List}
+use Rattle.sets.specs.Items.{written_halves, seen_as, same_halves}
+use Rattle.sets.specs.Standing.{CanSee}
+use Rattle.sets.proofs.Steps.{start-passes, starts, each-member, stands-each}
 use Rattle.sets.proofs.member.in_seen.Goals as goal
 
-pub loop-n-init : goal.loop-n-init
-loop-n-init c = left-start c.requires.members
+pub any-requires-clause-can : goal.any-requires-clause-can
+any-requires-clause-can c = start-passes c.new.ensures c.requires.members c.requires.ends_of
 
-pub same_seen-requires : goal.same_seen-requires
-same_seen-requires c =
+pub any-requires-clause-callable : goal.any-requires-clause-callable
+any-requires-clause-callable c =
     let p = c.requires in
-    record {
-      ends_of = p.ends_of;
-      member = p.member;
-      other = left-first c.loop-n.invariant c.loop-n-test.true;
-      view_at = p.view_at;
-    }
-
-pub returns-then-same_seen : goal.returns-then-same_seen
-returns-then-same_seen c =
-    left-stop c.loop-n.invariant c.loop-n-test.true
-    (stands-found _ _ c.same_seen.result c.same_seen.ensures c.if-same_seen.true)
-
-pub past_member-i-requires : goal.past_member-i-requires
-past_member-i-requires c =
-    let p = c.requires in
-    member-pass p.ends_of (left-first c.loop-n.invariant c.loop-n-test.true)
-
-pub loop-n-preserved : goal.loop-n-preserved
-loop-n-preserved c =
-    left-on c.loop-n.invariant c.loop-n-test.true c.past_member-i.ensures
-    (stands-skip _ _ c.same_seen.result c.same_seen.ensures c.if-same_seen.false)
+    each-member c.new.ensures p.members (λ x q h. search rules)
+    (λ x m.
+    let can : CanSee c.args.w.now c.args.ends.now c.args.x x c.args.view = record { ends_of = p.ends_of; member = p.member; other = m; view_at = p.view_at } in
+    search rules)
 
 pub returns : goal.returns
-returns c = left_end c.loop-n.invariant c.loop-n-test.false (end-stands _)
+returns c =
+    let file = c.args.w.now in
+    let ends = c.args.ends.now in
+    any_from_yields_List (λ i. same_halves (written_halves file ends c.args.x) (seen_as file ends c.args.view i)) c.any.new.self _ c.any.result c.any.ensures.ran
+    (starts c.new.ensures) (λ x b q k. search (rules, tests))
+    ∙ stands-each _ _ _ _ _ _

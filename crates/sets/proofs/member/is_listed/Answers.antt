@@ -1,37 +1,28 @@
--- `sets::member::is_listed` meets its contract. The invariant: the member is listed among all exactly if it is among those that are left.
+-- `sets::member::is_listed` meets its contract.
 -- Assumes nothing.
-use Rattle.sets.proofs.Members.{member-pass}
-use Rattle.sets.proofs.Loops.{left-start, left-first, left-stop, left-on, left_end, listed_found}
-use Rattle.sets.proofs.Loops.{listed-skip, end-listed}
+use Rattle.std.proofs.Common.{rules, tests, ◌∙◌}
+use Rattle.std.proofs.lemmas.Iterator.Search.{any_from_yields_List}
+use Rattle.sets.specs.Items.{written_halves, same_written_halves}
+use Rattle.sets.specs.Standing.{CanSee}
+use Rattle.sets.specs.declared.item.View.TheVariants.{AsWritten}
+use Rattle.sets.proofs.Steps.{start-passes, starts, each-member, listed-each}
 use Rattle.sets.proofs.member.is_listed.Goals as goal
 
-pub loop-n-init : goal.loop-n-init
-loop-n-init c = left-start c.requires.members
+pub any-requires-clause-can : goal.any-requires-clause-can
+any-requires-clause-can c = start-passes c.new.ensures c.requires.members c.requires.ends_of
 
-pub same_words-requires : goal.same_words-requires
-same_words-requires c =
+pub any-requires-clause-callable : goal.any-requires-clause-callable
+any-requires-clause-callable c =
     let p = c.requires in
-    record {
-      ends_of = p.ends_of;
-      member = p.member;
-      other = left-first c.loop-n.invariant c.loop-n-test.true;
-      view_at = p.view_at;
-    }
-
-pub returns-then-same_words : goal.returns-then-same_words
-returns-then-same_words c =
-    left-stop c.loop-n.invariant c.loop-n-test.true
-    (listed_found _ _ c.same_words.result c.same_words.ensures c.if-same_words.true)
-
-pub past_member-i-requires : goal.past_member-i-requires
-past_member-i-requires c =
-    let p = c.requires in
-    member-pass p.ends_of (left-first c.loop-n.invariant c.loop-n-test.true)
-
-pub loop-n-preserved : goal.loop-n-preserved
-loop-n-preserved c =
-    left-on c.loop-n.invariant c.loop-n-test.true c.past_member-i.ensures
-    (listed-skip _ _ c.same_words.result c.same_words.ensures c.if-same_words.false)
+    each-member c.new.ensures p.members (λ x q h. search rules)
+    (λ x m.
+    let can : CanSee c.args.w.now c.args.ends.now c.args.x x AsWritten = record { ends_of = p.ends_of; member = p.member; other = m; view_at = p.view_at } in
+    search rules)
 
 pub returns : goal.returns
-returns c = left_end c.loop-n.invariant c.loop-n-test.false (end-listed _)
+returns c =
+    let file = c.args.w.now in
+    let ends = c.args.ends.now in
+    any_from_yields_List (λ i. same_written_halves (written_halves file ends c.args.x) (written_halves file ends i)) c.any.new.self _ c.any.result c.any.ensures.ran
+    (starts c.new.ensures) (λ x b q k. search (rules, tests))
+    ∙ listed-each _ _ _ _ _ _

@@ -1,42 +1,29 @@
--- `sets::member::rest_in` meets its contract. The invariant: each of all is there exactly if each of those that are left is.
+-- `sets::member::rest_in` meets its contract.
 -- Assumes nothing.
-use Rattle.sets.proofs.Members.{member-pass}
-use Rattle.sets.proofs.Loops.{left-start, left-first, left-stop, left-on, left_end, rest-stop, rest-skip, end_rest}
+use Rattle.std.proofs.Common.{rules, tests, ◌∙◌}
+use Rattle.std.proofs.lemmas.Iterator.Search.{all_from_yields_List}
+use Rattle.std.proofs.Common.{◌||◌}
+use Rattle.sets.specs.Items.{written_halves}
+use Rattle.sets.specs.Lists.{stands_in, listed_in, written}
+use Rattle.sets.specs.Standing.{CanEither}
+use Rattle.sets.proofs.Steps.{start-passes, starts, each-member, rest-each}
 use Rattle.sets.proofs.member.rest_in.Goals as goal
 
-pub loop-n-init : goal.loop-n-init
-loop-n-init c = let p = c.requires in left-start p.part
+pub all-requires-clause-can : goal.all-requires-clause-can
+all-requires-clause-can c = start-passes c.new.ensures c.requires.part c.requires.ends_of
 
-pub has_either-requires : goal.has_either-requires
-has_either-requires c =
-    let l = c.loop-n in
+pub all-requires-clause-callable : goal.all-requires-clause-callable
+all-requires-clause-callable c =
     let p = c.requires in
-    record {
-      ends_of = p.ends_of;
-      member = left-first l.invariant c.loop-n-test.true;
-      listed = p.listed;
-      members = p.members;
-    }
-
-pub returns-then-not-has_either : goal.returns-then-not-has_either
-returns-then-not-has_either c =
-    let l = c.loop-n in
-    left-stop l.invariant c.loop-n-test.true
-    (rest-stop _ _ _ c.has_either.result c.has_either.ensures
-    c.if-not-has_either.true)
-
-pub past_member-i-requires : goal.past_member-i-requires
-past_member-i-requires c =
-    let l = c.loop-n in
-    let p = c.requires in
-    member-pass p.ends_of (left-first l.invariant c.loop-n-test.true)
-
-pub loop-n-preserved : goal.loop-n-preserved
-loop-n-preserved c =
-    let l = c.loop-n in
-    left-on l.invariant c.loop-n-test.true c.past_member-i.ensures
-    (rest-skip _ _ _ c.has_either.result
-    c.has_either.ensures c.if-not-has_either.false)
+    each-member c.new.ensures p.part (λ x q h. search rules)
+    (λ x m.
+    let can : CanEither c.args.w.now c.args.ends.now x c.args.l c.args.leave c.args.k c.args.at = record { ends_of = p.ends_of; member = m; listed = p.listed; members = p.members } in
+    search rules)
 
 pub returns : goal.returns
-returns c = let l = c.loop-n in left_end l.invariant c.loop-n-test.false (end_rest _ _)
+returns c =
+    let file = c.args.w.now in
+    let ends = c.args.ends.now in
+    all_from_yields_List (λ i. stands_in (written_halves file ends i) (written file ends c.args.k c.args.at) || listed_in (written_halves file ends i) (written file ends c.args.l c.args.leave)) c.all.new.self _ c.all.result c.all.ensures.ran
+    (starts c.new.ensures) (λ x b q k. search (rules, tests))
+    ∙ rest-each _ _ _ _ _ _ _

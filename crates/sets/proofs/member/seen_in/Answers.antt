@@ -1,45 +1,33 @@
--- `sets::member::seen_in` meets its contract. The invariant: each of all is there exactly if each of those that are left is.
+-- `sets::member::seen_in` meets its contract.
 -- Assumes nothing.
-use Rattle.sets.proofs.Members.{member-pass}
-use Rattle.sets.proofs.Items.{seen_at}
-use Rattle.sets.proofs.Loops.{left-start, left-first, left-stop, left-on, left_end, within-stop}
-use Rattle.sets.proofs.Loops.{within-skip, has-as, end-within}
+use Rattle.std.proofs.Common.{rules, tests, ◌∙◌}
+use Rattle.std.proofs.lemmas.Iterator.Search.{all_from_yields_List}
+use Rattle.std.proofs.Common.{◌<◌, length}
+use Rattle.sets.specs.Items.{seen_as, seen_item}
+use Rattle.sets.specs.Lists.{stands_in, written}
+use Rattle.sets.specs.Standing.{CanFind}
+use Rattle.sets.proofs.Places.{member-pass}
+use Rattle.sets.proofs.Items.{seen-view}
+use Rattle.sets.proofs.Steps.{start-passes, starts, each-member, within-each}
 use Rattle.sets.proofs.member.seen_in.Goals as goal
 
-pub loop-n-init : goal.loop-n-init
-loop-n-init c = left-start c.requires.part
+pub all-requires-clause-can : goal.all-requires-clause-can
+all-requires-clause-can c = start-passes c.new.ensures c.requires.part c.requires.ends_of
 
-pub seen_item-item-requires : goal.seen_item-item-requires
-seen_item-item-requires c =
+pub all-requires-clause-callable : goal.all-requires-clause-callable
+all-requires-clause-callable c =
     let p = c.requires in
-    (member-pass p.ends_of (left-first c.loop-n.invariant c.loop-n-test.true)).first
-
-pub has_item-requires : goal.has_item-requires
-has_item-requires c =
-    let p = c.requires in
-    record {
-      ends_of = p.ends_of;
-      members = p.members;
-      item-at =
-          seen_at p.ends_of _ c.seen_item-item.ensures (left-first c.loop-n.invariant c.loop-n-test.true) p.view_at;
-    }
-
-pub returns-then-not-has_item : goal.returns-then-not-has_item
-returns-then-not-has_item c =
-    left-stop c.loop-n.invariant c.loop-n-test.true
-    (within-stop _ _ c.has_item.result (has-as _ _ c.seen_item-item.ensures _ c.has_item.ensures)
-    c.if-not-has_item.true)
-
-pub past_member-i-requires : goal.past_member-i-requires
-past_member-i-requires c =
-    let p = c.requires in
-    member-pass p.ends_of (left-first c.loop-n.invariant c.loop-n-test.true)
-
-pub loop-n-preserved : goal.loop-n-preserved
-loop-n-preserved c =
-    left-on c.loop-n.invariant c.loop-n-test.true c.past_member-i.ensures
-    (within-skip _ _ c.has_item.result (has-as _ _ c.seen_item-item.ensures _ c.has_item.ensures)
-    c.if-not-has_item.false)
+    each-member c.new.ensures p.part (λ x q h. search rules)
+    (λ x m.
+    let can_see : x < length c.args.ends.now = (member-pass p.ends_of m).first in
+    let can : CanFind c.args.w.now c.args.ends.now c.args.k c.args.at (seen_item c.args.ends.now c.args.view x) =
+    record { ends_of = p.ends_of; members = p.members; item-at = seen-view p.ends_of c.args.view m p.view_at } in
+    search rules)
 
 pub returns : goal.returns
-returns c = left_end c.loop-n.invariant c.loop-n-test.false (end-within _)
+returns c =
+    let file = c.args.w.now in
+    let ends = c.args.ends.now in
+    all_from_yields_List (λ i. stands_in (seen_as file ends c.args.view i) (written file ends c.args.k c.args.at)) c.all.new.self _ c.all.result c.all.ensures.ran
+    (starts c.new.ensures) (λ x b q k. search (rules, tests))
+    ∙ within-each _ _ _ _ _ _

@@ -1,38 +1,28 @@
--- `sets::pile::set_in` meets its contract. The invariant: each of all stands in the piles exactly if each of those that are left does.
+-- `sets::pile::set_in` meets its contract.
 -- Assumes nothing.
-use Rattle.sets.proofs.Members.{member-pass}
-use Rattle.sets.proofs.Loops.{left-start, left-first, left-stop, left-on, left_end, within-stop}
-use Rattle.sets.proofs.Loops.{within-skip, end-within}
+use Rattle.std.proofs.Common.{rules, tests, ◌∙◌}
+use Rattle.std.proofs.lemmas.Iterator.Search.{all_from_yields_List}
+use Rattle.sets.specs.Items.{written_halves}
+use Rattle.sets.specs.Lists.{stands_in}
+use Rattle.sets.specs.Piles.{piles_numbers, CanSearchAll}
+use Rattle.sets.proofs.Steps.{start-passes, starts, each-member, within-each}
 use Rattle.sets.proofs.pile.set_in.Goals as goal
 
-pub loop-n-init : goal.loop-n-init
-loop-n-init c = let p = c.requires in left-start p.members
+pub all-requires-clause-can : goal.all-requires-clause-can
+all-requires-clause-can c = start-passes c.new.ensures c.requires.members c.requires.ends_of
 
-pub in_piles-requires : goal.in_piles-requires
-in_piles-requires c =
-    let l = c.loop-n in
+pub all-requires-clause-callable : goal.all-requires-clause-callable
+all-requires-clause-callable c =
     let p = c.requires in
-    record { ends_of = p.ends_of; member = left-first l.invariant c.loop-n-test.true; piles_at = p.piles_at }
-
-pub returns-then-not-in_piles : goal.returns-then-not-in_piles
-returns-then-not-in_piles c =
-    let l = c.loop-n in
-    left-stop l.invariant c.loop-n-test.true
-    (within-stop _ _ c.in_piles.result c.in_piles.ensures
-    c.if-not-in_piles.true)
-
-pub past_member-i-requires : goal.past_member-i-requires
-past_member-i-requires c =
-    let l = c.loop-n in
-    let p = c.requires in
-    member-pass p.ends_of (left-first l.invariant c.loop-n-test.true)
-
-pub loop-n-preserved : goal.loop-n-preserved
-loop-n-preserved c =
-    let l = c.loop-n in
-    left-on l.invariant c.loop-n-test.true c.past_member-i.ensures
-    (within-skip _ _ c.in_piles.result
-    c.in_piles.ensures c.if-not-in_piles.false)
+    each-member c.new.ensures p.members (λ x q h. search rules)
+    (λ x m.
+    let can : CanSearchAll c.args.w.now c.args.ends.now x c.args.piles = record { ends_of = p.ends_of; member = m; piles_at = p.piles_at } in
+    search rules)
 
 pub returns : goal.returns
-returns c = let l = c.loop-n in left_end l.invariant c.loop-n-test.false (end-within _)
+returns c =
+    let file = c.args.w.now in
+    let ends = c.args.ends.now in
+    all_from_yields_List (λ i. stands_in (written_halves file ends i) (piles_numbers file ends c.args.piles)) c.all.new.self _ c.all.result c.all.ensures.ran
+    (starts c.new.ensures) (λ x b q k. search (rules, tests))
+    ∙ within-each _ _ _ _ _ _
