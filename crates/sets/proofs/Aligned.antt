@@ -1,54 +1,40 @@
 -- Members in the same order.
 -- Assumes nothing.
---     aligns_not                                       where the test fails nothing is said
 --     FrontMatches                                     a list is one that matches another, and then the rest
---     Aligning, aligning_start, aligning_on, aligning_end
---                                                      the members of a seen set, one by one
---     one-aligned, of-pile_empty .. of-pile_set        one member; by pile
---     aligned_not, aligned_is                          three piles, one after the other
+--     rest_starts, rest-first, rest-on                 the members that an iterator has left
+--     Aligning, aligning_start .. aligning_end         lists passed together
+--     seen_start .. pile-on                            seen members and written ones; piles and written members
+--     parted_is, part_one, of-pile_one, of-pile_set    the first members; one member; by pile
+--     aligned_is                                       all of both lists
 --     same_all-matches, same-found, same_not, same-last two lists with the same elements
 use mathlib.Core.Path.{◌≡◌, refl, sym, ap, ap₂, subst, ◌∙◌}
-use mathlib.Core.Bool.{Bool, true, false, ◌||◌, false≢true}
-use mathlib.Core.List.{List, [], ◌∷◌, ◌++◌, append_assoc, append-nil}
-use Prim.Native.Nat.{ℕ, ◌+◌, ◌-◌, ◌<◌, ◌≤◌}
-use native.Mathlib.Omega.{arith}
-use lib.Dec.{eqb}
-use borrow.Author.Tests.{eqb-true}
-use Rattle.laws.proofs.Bools.{clash, and_both}
-use Rattle.sets.specs.Items.{past_member, Halves, pair_item, item_halves, seen_as, written_halves, same_halves}
+use mathlib.Core.Bool.{Bool, true, false, ◌||◌}
+use mathlib.Core.List.{List, [], ◌∷◌, ◌++◌, map, append_assoc, append-nil}
+use Prim.Native.Nat.{ℕ, ◌+◌, ◌<◌, ◌≤◌}
+use lib.ListN.{length, get_or, drop}
+use Rattle.std.proofs.lemmas.List.{at_drop_more, at_drop_all}
+use Rattle.std.specs.declared.option.Option.{Option}
+use Rattle.ends.specs.Ends.{EndsOf}
+use Rattle.laws.proofs.Bools.{and_both}
+use Rattle.sets.specs.Items.{Halves, pair_item, item_halves, seen_as, written_halves, same_halves}
 use Rattle.sets.specs.Lists.{seen_all, written, stands_in, within_all, same_all}
 use Rattle.sets.specs.Standing.{MemberAt, MembersAt}
 use Rattle.sets.specs.Piles.{count_at, written_set, pile_numbers, piles_numbers}
-use Rattle.sets.specs.Aligned.{Matches, Parted, Aligns, Aligned}
+use Rattle.sets.specs.Members.{places_left, CanPassAll, StartsAt}
+use Rattle.sets.specs.Aligned.{Matches, written_at, EachAt, RestAt, Parted, Aligns, Aligned}
 use Rattle.sets.specs.declared.item.View.{View}
 use Rattle.sets.specs.declared.item.View.TheVariants.{AsWritten}
-use Rattle.sets.specs.declared.item.FormedMember.{FormedMember}
 use Rattle.sets.specs.declared.pile.Pile.{Pile}
-use Rattle.sets.specs.declared.pile.Pile.TheVariants.{Empty, One, Set}
-use Rattle.sets.specs.declared.pile.Piles.{Piles}
-use Rattle.sets.specs.declared.align.Rest.{Rest}
+use Rattle.sets.specs.declared.pile.Pile.TheVariants.{One, Set}
+use Rattle.sets.specs.declared.members.Members.{Members}
 use Rattle.sets.proofs.Equal.{same_halves-sym}
-use Rattle.sets.proofs.Loops.{members-first, members-rest, seen_all-none, seen_all-first}
-
-positive : {n : ℕ} → (n ≡ 0 → ⊥) → 0 < n
-positive f = omega arith
-
-module _ {file ends : List ℕ} where
-  pub aligns_not : {n at : ℕ} {l : List Halves} {r : Rest} → r.same ≡ false → Aligns file ends n at l r
-  aligns_not h = record { does = λ k. clash k h }
+use Rattle.sets.proofs.Steps.{start-passes, start-places, each-place, seen-places}
 
 -- a list is one that matches another, and then the rest
 pub record FrontMatches (all l z : List Halves) : Type 0 where
   pub front : List Halves
   pub split : all ≡ front ++ z
   pub matches : Matches front l
-
--- the n members at i and the j members at a are left, and what is said of them is said of all
-pub record Aligning (file ends : List ℕ) (view : View) (n₀ i₀ k from n i j a : ℕ) : Type 0 where
-  pub members : MembersAt file ends n i
-  pub part : MembersAt file ends j a
-  pub keeps : (z front : List Halves) → written file ends n i ≡ front ++ z → Matches front (seen_all file ends view j a) →
-      FrontMatches (written file ends n₀ i₀) (seen_all file ends view k from) z
 
 -- lists that match, from the first on
 matches-more : (x y : Halves) (k l : List Halves) → same_halves x y ≡ true → Matches k l → Matches (x ∷ k) (y ∷ l)
@@ -66,113 +52,131 @@ matches-append [] (y ∷ b) k l m n = absurd m
 matches-append (x ∷ a) [] k l m n = absurd m
 matches-append (x ∷ a) (y ∷ b) k l m n = (m.0, matches-append a b k l m.1 n)
 
+-- members that are left
+module _ (file : List ℕ) where
+  pub each-starts : {ends : List ℕ} {k at : ℕ} {rest : Members} → StartsAt ends k at rest → MembersAt file ends k at → EachAt file ends (places_left rest)
+  each-starts {ends} h m = subst (EachAt file ends) (sym (start-places h)) (each-place file _ _ _ m)
+
 module _ {file ends : List ℕ} where
-  pub first_member : {n i : ℕ} → MembersAt file ends n i → (n ≡ 0 → ⊥) → MemberAt file ends i
-  first_member {n} {i} m f = members-first file ends n i m (positive f)
+  pub rest_starts : {k at : ℕ} {rest : Members} → StartsAt ends k at rest → EndsOf file ends → MembersAt file ends k at → RestAt file ends rest
+  rest_starts h o m =
+      record { can_pass = start-passes h m o; members = each-starts file h m }
 
-  module _ {view : View} {n₀ i₀ k from : ℕ} where
-    pub aligning_start : MembersAt file ends n₀ i₀ → MembersAt file ends k from →
-        Aligning file ends view n₀ i₀ k from n₀ i₀ k from
-    aligning_start m p = record { members = m; part = p; keeps = λ z front h g. record { front = front; split = h; matches = g } }
+  pub rest-first : {rest : Members} {i : ℕ} {l : List ℕ} → RestAt file ends rest → places_left rest ≡ i ∷ l → MemberAt file ends i
+  rest-first r e = (subst (EachAt file ends) e r.members).0
 
-    module _ {n i j a : ℕ} (l : Aligning file ends view n₀ i₀ k from n i j a) where
-      pub part-first : 0 < j → MemberAt file ends a
-      part-first h = members-first file ends j a l.part h
+  pub rest-on : {rest next : Members} {i : ℕ} → RestAt file ends rest → places_left rest ≡ i ∷ places_left next →
+      CanPassAll next.ends.now next.left next.at → RestAt file ends next
+  rest-on r e c = record { can_pass = c; members = (subst (EachAt file ends) e r.members).1 }
 
-      pub aligning_on : {b : Bool} {i' a' : ℕ} → 0 < j → (n ≡ 0 → ⊥) →
-          b ≡ same_halves (written_halves file ends i) (seen_as file ends view a) → b ≡ true →
-          i' ≡ past_member ends i → a' ≡ past_member ends a →
-          Aligning file ends view n₀ i₀ k from (n - 1) i' (j - 1) a'
-      aligning_on {i' = i'} {a'} h f s t e g = record {
-        members = members-rest file ends n i i' l.members (positive f) e;
-        part = members-rest file ends j a a' l.part h g;
-        keeps = λ z front q r.
-            l.keeps z (written_halves file ends i ∷ front)
-            (seen_all-first file ends AsWritten n i i' (positive f) e ∙ ap (λ y. written_halves file ends i ∷ y) q)
-            (subst (Matches (written_halves file ends i ∷ front)) (sym (seen_all-first file ends view j a a' h g))
-            (matches-more _ _ _ _ (sym s ∙ t) r));
-      }
+-- of a list `start` the rest are left, and what is said of those and of the list that is left is said of the whole lists
+pub record Aligning (file ends : List ℕ) (start all : List Halves) (rest : Members) (l : List Halves) : Type 0 where
+  pub rest_at : RestAt file ends rest
+  pub keeps : (z front : List Halves) → written_at file ends (places_left rest) ≡ front ++ z → Matches front l →
+      FrontMatches start all z
 
-      pub aligning_end : {r : Rest} → j ≤ 0 → r.n ≡ n → r.at ≡ i → Aligns file ends n₀ i₀ (seen_all file ends view k from) r
-      aligning_end {r} h e g = record {
-        does = λ q.
-            subst (λ m. Parted file ends n₀ i₀ (seen_all file ends view k from) m r.at) (sym e)
-            (subst (λ y. Parted file ends n₀ i₀ (seen_all file ends view k from) n y) (sym g)
-            (let r =
-            l.keeps (written file ends n i) [] refl
-            (subst (Matches []) (sym (seen_all-none file ends view j a h)) matches-none) in
-            record { members = l.members; front = r.front; split = r.split; matches = r.matches }));
-      }
+module _ {file ends : List ℕ} where
+  pub aligning_start : {rest : Members} {l : List Halves} → RestAt file ends rest →
+      Aligning file ends (written_at file ends (places_left rest)) l rest l
+  aligning_start r = record { rest_at = r; keeps = λ z front h g. record { front = front; split = h; matches = g } }
 
-  pub one-aligned : {n i next : ℕ} (item : FormedMember) {b : Bool} {r : Rest} → MembersAt file ends n i → (n ≡ 0 → ⊥) →
-      b ≡ same_halves (written_halves file ends i) (item_halves file ends item) → b ≡ true →
-      next ≡ past_member ends i → r.n ≡ n - 1 → r.at ≡ next → Aligns file ends n i (item_halves file ends item ∷ []) r
-  one-aligned {n} {i} {next} item {r = r} m f s t e g h = record {
-    does = λ q.
-        let e' : r.at ≡ past_member ends i = h ∙ e in
-        record {
-          members = subst (λ k. MembersAt file ends k r.at) (sym g) (members-rest file ends n i r.at m (positive f) e');
-          front = written_halves file ends i ∷ [];
-          split =
-              seen_all-first file ends AsWritten n i r.at (positive f) e'
-              ∙ ap (λ k. written_halves file ends i ∷ written file ends k r.at) (sym g);
-          matches = matches-more _ _ _ _ (sym s ∙ t) matches-none;
-        };
-  }
+  pub aligning_starts : {k at : ℕ} {rest : Members} {l : List Halves} → StartsAt ends k at rest → EndsOf file ends →
+      MembersAt file ends k at → Aligning file ends (written file ends k at) l rest l
+  aligning_starts {k} {at} {rest} {l} h o m =
+      subst (λ s. Aligning file ends s l rest l)
+      (ap (written_at file ends) (start-places h) ∙ sym (seen-places file ends AsWritten k at))
+      (aligning_start (rest_starts h o m))
+
+  module _ {start all : List Halves} {rest : Members} where
+    pub aligning_on : {next : Members} {i : ℕ} {y : Halves} {l : List Halves} → Aligning file ends start all rest (y ∷ l) →
+        places_left rest ≡ i ∷ places_left next → CanPassAll next.ends.now next.left next.at →
+        same_halves (written_halves file ends i) y ≡ true → Aligning file ends start all next l
+    aligning_on {i = i} a e c h = record {
+      rest_at = rest-on a.rest_at e c;
+      keeps = λ z front q r.
+          a.keeps z (written_halves file ends i ∷ front)
+          (ap (written_at file ends) e ∙ ap (λ y. written_halves file ends i ∷ y) q)
+          (matches-more _ _ _ _ h r);
+    }
+
+    pub aligning_part : {next : Members} {p l : List Halves} → Aligning file ends start all rest (p ++ l) →
+        Parted file ends (places_left rest) p next → Aligning file ends start all next l
+    aligning_part {next} a p = record {
+      rest_at = p.rest_at;
+      keeps = λ z front q r.
+          a.keeps z (p.front ++ front)
+          (p.split ∙ ap (λ l. p.front ++ l) q ∙ sym (append_assoc p.front front z))
+          (matches-append _ _ _ _ p.matches r);
+    }
+
+    pub aligning_end : Aligning file ends start all rest [] → FrontMatches start all (written_at file ends (places_left rest))
+    aligning_end a = a.keeps (written_at file ends (places_left rest)) [] refl matches-none
+
+  -- two iterators passed together
+  pub seen_start : {k from : ℕ} {rest it : Members} (view : View) → StartsAt ends k from it → MembersAt file ends k from →
+      RestAt file ends rest →
+      Aligning file ends (written_at file ends (places_left rest)) (seen_all file ends view k from) rest
+      (map (seen_as file ends view) (places_left it))
+  seen_start {k} {from} {rest} {it} view h m r =
+      subst (λ l. Aligning file ends (written_at file ends (places_left rest)) l rest (map (seen_as file ends view) (places_left it)))
+      (ap (map (seen_as file ends view)) (start-places h) ∙ sym (seen-places file ends view k from))
+      (aligning_start r)
+
+  module _ {start all : List Halves} {rest : Members} (view : View) (it : Members)
+      (a : Aligning file ends start all rest (map (seen_as file ends view) (places_left it))) where
+    pub seen-on : (next' : Members) {next : Members} {i j : ℕ} {b : Bool} → places_left it ≡ j ∷ places_left next' →
+        places_left rest ≡ i ∷ places_left next → CanPassAll next.ends.now next.left next.at →
+        b ≡ same_halves (written_halves file ends i) (seen_as file ends view j) → b ≡ true →
+        Aligning file ends start all next (map (seen_as file ends view) (places_left next'))
+    seen-on next' f e c s h = aligning_on (subst (λ l. Aligning file ends start all rest (map (seen_as file ends view) l)) f a) e c (sym s ∙ h)
+
+    pub seen_end : places_left it ≡ [] → FrontMatches start all (written_at file ends (places_left rest))
+    seen_end e = aligning_end (subst (λ l. Aligning file ends start all rest (map (seen_as file ends view) l)) e a)
+
+  -- piles passed one by one
+  pub pile-on : {start all : List Halves} {rest next : Members} (piles : List Pile) (i : ℕ) (d : Pile) → i < length piles →
+      Aligning file ends start all rest (piles_numbers file ends (drop i piles)) →
+      Parted file ends (places_left rest) (pile_numbers file ends (get_or piles i d)) next →
+      Aligning file ends start all next (piles_numbers file ends (drop (i + 1) piles))
+  unfolding piles_numbers
+  pile-on {start} {all} {rest} piles i d h a p =
+      aligning_part (subst (Aligning file ends start all rest) (at_drop_more (piles_numbers file ends) piles i d h) a) p
+
+  pub parted_is : {places : List ℕ} {rest : Members} {l : List Halves} → RestAt file ends rest →
+      FrontMatches (written_at file ends places) l (written_at file ends (places_left rest)) → Parted file ends places l rest
+  parted_is r m = record { rest_at = r; front = m.front; split = m.split; matches = m.matches }
+
+  pub part_one : {rest next : Members} {i : ℕ} {y : Halves} → RestAt file ends rest → places_left rest ≡ i ∷ places_left next →
+      CanPassAll next.ends.now next.left next.at → same_halves (written_halves file ends i) y ≡ true →
+      Parted file ends (places_left rest) (y ∷ []) next
+  part_one r e c h = let a = aligning_on (aligning_start r) e c h in parted_is a.rest_at (aligning_end a)
 
   -- by pile
-  module _ {n i : ℕ} {r : Rest} (pile : Pile) where
-    pub of-pile_empty : pile ≡ Empty → MembersAt file ends n i → r.n ≡ n → r.at ≡ i →
-        Aligns file ends n i (pile_numbers file ends pile) r
-    unfolding pile_numbers
-    of-pile_empty e m g h =
-        rw e
-        (record {
-          does = λ q.
-              record {
-                members = subst (λ k. MembersAt file ends k r.at) (sym g) (subst (MembersAt file ends n) (sym h) m);
-                front = [];
-                split = ap₂ (written file ends) (sym g) (sym h);
-                matches = matches-none;
-              };
-        })
-
-    pub of-pile_one : (f b : ℕ) → pile ≡ One f b → Aligns file ends n i (item_halves file ends (pair_item f b) ∷ []) r →
-        Aligns file ends n i (pile_numbers file ends pile) r
+  module _ {rest : Members} {r : Option Members} (pile : Pile) where
+    pub of-pile_one : (f b : ℕ) → pile ≡ One f b → Aligns file ends rest (item_halves file ends (pair_item f b) ∷ []) r →
+        Aligns file ends rest (pile_numbers file ends pile) r
     unfolding pile_numbers
     of-pile_one f b e x = rw e x
 
     pub of-pile_set : (q k : ℕ) (view : View) → pile ≡ Set q view → k ≡ count_at file q →
-        Aligns file ends n i (seen_all file ends view k (q + 1)) r → Aligns file ends n i (pile_numbers file ends pile) r
+        Aligns file ends rest (seen_all file ends view k (q + 1)) r → Aligns file ends rest (pile_numbers file ends pile) r
     unfolding pile_numbers
     of-pile_set q k view e c x =
-        rw e (subst (λ m. Aligns file ends n i (seen_all file ends view m (q + 1)) r) c x)
+        rw e (subst (λ m. Aligns file ends rest (seen_all file ends view m (q + 1)) r) c x)
 
-  -- three piles, one after the other
-  pub aligned_not : {k at : ℕ} {piles : Piles} → Aligned file ends k at piles false
-  aligned_not = record { does = λ h. absurd (false≢true h) }
-
-  module _ {k at : ℕ} {piles : Piles} {x y z : Rest}
-      (a : Aligns file ends k at (pile_numbers file ends piles.first) x) (h : x.same ≡ true)
-      (b : Aligns file ends x.n x.at (pile_numbers file ends piles.second) y) (g : y.same ≡ true)
-      (c : Aligns file ends y.n y.at (pile_numbers file ends piles.third) z) (f : z.same ≡ true) where
-    pub aligned_is : Aligned file ends k at piles (eqb z.n 0)
-    unfolding piles_numbers
-    aligned_is = record {
-      does = λ q.
-          let e = eqb-true z.n 0 q in
-          let first = a.does h in
-          let second = b.does g in
-          let third = c.does f in
-          let last =
-          third.split
-          ∙ ap (λ l. third.front ++ l) (seen_all-none file ends AsWritten z.n z.at (omega arith))
-          ∙ append-nil third.front in
-          subst (λ l. Matches l (piles_numbers file ends piles))
-          (sym
-          (first.split ∙ ap (λ l. first.front ++ l) (second.split ∙ ap (λ l. second.front ++ l) last)))
-          (matches-append _ _ _ _ first.matches (matches-append _ _ _ _ second.matches third.matches));
-    }
+  -- nothing is left on either side
+  pub aligned_is : (k at : ℕ) (piles : List Pile) (i : ℕ) {rest : Members} → length piles ≤ i →
+      Aligning file ends (written file ends k at) (piles_numbers file ends piles) rest (piles_numbers file ends (drop i piles)) →
+      places_left rest ≡ [] → Matches (written file ends k at) (piles_numbers file ends piles)
+  unfolding piles_numbers
+  aligned_is k at piles i {rest} h a e =
+      let m =
+      aligning_end
+      (subst (Aligning file ends (written file ends k at) (piles_numbers file ends piles) rest)
+      (at_drop_all (piles_numbers file ends) piles i h) a) in
+      subst (λ l. Matches l (piles_numbers file ends piles))
+      (sym (m.split ∙ ap (λ l. m.front ++ written_at file ends l) e ∙ append-nil m.front))
+      m.matches
 
 -- each of two lists that match stands in the other
 or-true : (b : Bool) → (b || true) ≡ true
@@ -203,7 +207,7 @@ pub same_all-matches : (k l : List Halves) → Matches k l → true ≡ same_all
 same_all-matches k l m = sym (and_both (within-tail k l [] m) (within-tail l k [] (matches-sym k l m)))
 
 -- a written set by the code's count of its members
-module _ (file ends : List ℕ) (p : ℕ) (piles : Piles) {k at : ℕ} (e : k ≡ count_at file p) (f : at ≡ p + 1) where
+module _ (file ends : List ℕ) (p : ℕ) (piles : List Pile) {k at : ℕ} (e : k ≡ count_at file p) (f : at ≡ p + 1) where
   abbrev all : List Halves
   all = piles_numbers file ends piles
 

@@ -6,6 +6,7 @@
 --     seen_at, written-item, pair_at, certain_at                what an item names stands there
 --     as_they_stand                                         members as they stand
 --     see                                                   a member that is seen can be compared
+--     same-as, has-as                                       an item that is the same
 use mathlib.Core.Path.{◌≡◌, sym, ap, ap₂, subst, ◌∙◌}
 use mathlib.Core.Bool.{Bool, true, false, ◌&&◌, and-true, and-false}
 use mathlib.Core.List.{List}
@@ -23,7 +24,8 @@ use Rattle.compare.specs.Forms.{antecedent_tree, consequent_numbers, AntecedentA
 use Rattle.matching.specs.declared.cursor.Put.{Put}
 use Rattle.compare.specs.declared.antecedent.Antecedent.TheVariants.{And, AndNot, Replaced as Changed}
 use Rattle.compare.specs.declared.consequent.Consequent.TheVariants.{Written, Replaced as Exchanged}
-use Rattle.sets.specs.Items.{seen_item, pair_item, certain_item, item_halves, written_halves, same_halves, same_written_halves}
+use Rattle.sets.specs.Lists.{stands_in}
+use Rattle.sets.specs.Items.{Halves, seen_item, pair_item, certain_item, item_halves, written_halves, same_halves, same_written_halves}
 use Rattle.sets.specs.Standing.{MemberAt, ViewAt, ItemAt, CanCompare, CanSee}
 use Rattle.sets.specs.declared.item.View.{View}
 use Rattle.sets.specs.declared.item.View.TheVariants.{AsWritten, Under, Unless, Replaced}
@@ -133,3 +135,11 @@ see {view = view} p e = record {
   member = p.member;
   item-at = seen_at p.ends_of view e p.other p.view_at;
 }
+
+-- what the functions that compare items say, of an item that is the same
+module _ (file ends : List ℕ) {item other : FormedMember} (s : item ≡ other) {b : Bool} where
+  pub same-as : (x : Halves) → b ≡ same_halves x (item_halves file ends item) → b ≡ same_halves x (item_halves file ends other)
+  same-as x e = rw (← s) e
+
+  pub has-as : (p : List Halves) → b ≡ stands_in (item_halves file ends item) p → b ≡ stands_in (item_halves file ends other) p
+  has-as p e = rw (← s) e

@@ -3,7 +3,6 @@
 --     Steps      members passed one by one by their places
 --     Items      cursors after members as the rules make them
 --     Equal      sameness of halves as a test
---     Loops      members passed one by one
 --     Piles      lists joined and left out, and piles by what they are
 --     Aligned    members in the same order
 --     Tests      the tests of sets are those of halves
@@ -13,7 +12,6 @@ pub mod Places
 pub mod Steps
 pub mod Items
 pub mod Equal
-pub mod Loops
 pub mod Piles
 pub mod Aligned
 pub mod Tests

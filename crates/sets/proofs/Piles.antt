@@ -2,23 +2,33 @@
 -- Assumes nothing.
 --     stands-append, within-append                    of lists joined
 --     pile_one, pile_set, pile_without                what a pile names stands there
---     of-empty, of_one, of-set, of-without            a test of a pile's halves
---     any-first, any-second, any-third                an element of three piles
---     all_first, all-second, all-third                each element of three piles
+--     of_one, of-set, of-without                      a test of a pile's halves
+--     pile-there                                      what one of some piles names stands there
+--     each-pile                                       what holds of each pile may be asked at each
+--     stands-piles, within-piles                      an element of piles, each element of them
 use mathlib.Core.Path.{◌≡◌, refl, sym, ap, subst, ◌∙◌}
 use mathlib.Core.Bool.{Bool, true, false, ◌&&◌, ◌||◌}
 use mathlib.Core.List.{List, [], ◌∷◌, ◌++◌}
-use Prim.Native.Nat.{ℕ, ◌+◌}
+use Prim.Native.Nat.{ℕ, zero, suc, ◌+◌, ◌<◌}
+use lib.ListN.{length, get_or}
+use native.Mathlib.Omega.{arith}
+use denote.Ref.{Bor}
+use Rattle.std.specs.Iterator.{CallableAtEachTurn}
+use Rattle.std.specs.List.{list_any, list_all}
+use Rattle.std.specs.declared.slice.Iter.{Iter}
+use Rattle.std.specs.Slice.Iter.{iter_rest}
+use Rattle.std.proofs.iter.Yields.{fronts}
+use Rattle.std.proofs.lemmas.Iterator.{YieldsList-from_slice}
+use Rattle.std.proofs.lemmas.Iterator.Adapters.{serves_from_places}
 use Rattle.language.specs.Syntax.{Boolean}
 use Rattle.matching.specs.Places.{ExpressionAt, AnyAt}
 use Rattle.sets.specs.Items.{Halves, pair_item, item_halves, same_halves}
 use Rattle.sets.specs.Lists.{seen_all, written, stands_in, within_all, without_all}
 use Rattle.sets.specs.Standing.{MembersAt, ViewAt}
-use Rattle.sets.specs.Piles.{count_at, pile_numbers, piles_numbers, AnySetAt, PileAt}
+use Rattle.sets.specs.Piles.{count_at, pile_numbers, piles_numbers, AnySetAt, PileAt, PilesAt}
 use Rattle.sets.specs.declared.item.View.{View}
 use Rattle.sets.specs.declared.pile.Pile.{Pile}
-use Rattle.sets.specs.declared.pile.Pile.TheVariants.{Empty, One, Set, Without}
-use Rattle.sets.specs.declared.pile.Piles.{Piles}
+use Rattle.sets.specs.declared.pile.Pile.TheVariants.{One, Set, Without}
 
 or_assoc : (a b c : Bool) → ((a || b) || c) ≡ (a || (b || c))
 or_assoc true b c = refl
@@ -74,10 +84,6 @@ held_by p l = within_all l p
 
 -- a test of a pile's halves, by pile
 module _ (file ends : List ℕ) (test : List Halves → Bool) (pile : Pile) where
-  pub of-empty : {r : Bool} → pile ≡ Empty → r ≡ test [] → r ≡ test (pile_numbers file ends pile)
-  unfolding pile_numbers
-  of-empty e h = rw e h
-
   pub of_one : {r : Bool} (f b : ℕ) → pile ≡ One f b → r ≡ test (item_halves file ends (pair_item f b) ∷ []) →
       r ≡ test (pile_numbers file ends pile)
   unfolding pile_numbers
@@ -101,62 +107,40 @@ pub stands_one : (x y : Halves) {r : Bool} → r ≡ same_halves x y → r ≡ s
 unfolding stands_in
 stands_one x y e = e ∙ or-none (same_halves x y)
 
-pub stands-none : (x : Halves) → false ≡ stands_in x []
-unfolding stands_in
-stands-none x = refl
-
 pub within-one : (y : Halves) (p : List Halves) {r : Bool} → r ≡ stands_in y p → r ≡ within_all (y ∷ []) p
 unfolding within_all
 within-one y p e = e ∙ and_none (stands_in y p)
 
-pub within_none : (p : List Halves) → true ≡ within_all [] p
-unfolding within_all
-within_none p = refl
+-- piles together
+module _ (file ends : List ℕ) where
+  pub pile-there : (piles : List Pile) → PilesAt file ends piles → (i : ℕ) (d : Pile) → i < length piles →
+      PileAt file ends (get_or piles i d)
+  unfolding PilesAt
+  pile-there [] p i d h = absurd (omega arith)
+  pile-there (pile ∷ piles) p zero d h = p.0
+  pile-there (pile ∷ piles) p (suc i) d h = pile-there piles p.1 i d (omega arith)
 
--- three piles together
-module _ (file ends : List ℕ) (piles : Piles) where
-  module _ (x : Halves) where
-    stands-three : stands_in x (piles_numbers file ends piles) ≡
-        (stands_in x (pile_numbers file ends piles.first)
-        || (stands_in x (pile_numbers file ends piles.second) || stands_in x (pile_numbers file ends piles.third)))
-    unfolding piles_numbers
-    stands-three =
-        stands-append x (pile_numbers file ends piles.first)
-        (pile_numbers file ends piles.second ++ pile_numbers file ends piles.third)
-        ∙ ap (λ b. stands_in x (pile_numbers file ends piles.first) || b)
-        (stands-append x (pile_numbers file ends piles.second) (pile_numbers file ends piles.third))
+  -- what holds of each pile may be asked at each
+  pub each-pile : {piles : List Pile} {s : Iter Pile} → PilesAt file ends piles → iter_rest s ≡ piles →
+      {F : Type 0} {R : F → Bor Pile → F → Type 0} {Q : F → Bor Pile → Type 0} {f : F} →
+      ((x : Bor Pile) (q : F) → R f x q → q ≡ f) → ((x : Bor Pile) → PileAt file ends x.now → Q f x) →
+      CallableAtEachTurn fronts R Q s f
+  each-pile {piles} p e r q =
+      serves_from_places (YieldsList-from_slice piles e) r (λ x i l h. q x (subst (PileAt file ends) (sym h) (pile-there piles p i x.now l)))
 
-    module _ {a : Bool} (e : a ≡ stands_in x (pile_numbers file ends piles.first)) where
-      pub any-first : a ≡ true → true ≡ stands_in x (piles_numbers file ends piles)
-      any-first h = rw (stands-three, ← e, h)
+module _ (file ends : List ℕ) where
+  pub stands-piles : (x : Halves) (piles : List Pile) →
+      list_any (λ pile. stands_in x (pile_numbers file ends pile)) piles ≡ stands_in x (piles_numbers file ends piles)
+  unfolding piles_numbers stands_in
+  stands-piles x [] = refl
+  stands-piles x (pile ∷ piles) =
+      ap (λ b. stands_in x (pile_numbers file ends pile) || b) (stands-piles x piles)
+      ∙ sym (stands-append x (pile_numbers file ends pile) (piles_numbers file ends piles))
 
-      module _ {b : Bool} (f : b ≡ stands_in x (pile_numbers file ends piles.second)) where
-        pub any-second : a ≡ false → b ≡ true → true ≡ stands_in x (piles_numbers file ends piles)
-        any-second h g = rw (stands-three, ← e, ← f, h, g)
-
-        pub any-third : {r : Bool} → a ≡ false → b ≡ false → r ≡ stands_in x (pile_numbers file ends piles.third) →
-            r ≡ stands_in x (piles_numbers file ends piles)
-        any-third h g k = rw (stands-three, ← e, ← f, h, g) k
-
-  module _ (p : List Halves) where
-    within-three : within_all (piles_numbers file ends piles) p ≡
-        (within_all (pile_numbers file ends piles.first) p
-        && (within_all (pile_numbers file ends piles.second) p && within_all (pile_numbers file ends piles.third) p))
-    unfolding piles_numbers
-    within-three =
-        within-append (pile_numbers file ends piles.first)
-        (pile_numbers file ends piles.second ++ pile_numbers file ends piles.third) p
-        ∙ ap (λ b. within_all (pile_numbers file ends piles.first) p && b)
-        (within-append (pile_numbers file ends piles.second) (pile_numbers file ends piles.third) p)
-
-    module _ {a : Bool} (e : a ≡ within_all (pile_numbers file ends piles.first) p) where
-      pub all_first : a ≡ false → false ≡ within_all (piles_numbers file ends piles) p
-      all_first h = rw (within-three, ← e, h)
-
-      module _ {b : Bool} (f : b ≡ within_all (pile_numbers file ends piles.second) p) where
-        pub all-second : a ≡ true → b ≡ false → false ≡ within_all (piles_numbers file ends piles) p
-        all-second h g = rw (within-three, ← e, ← f, h, g)
-
-        pub all-third : {r : Bool} → a ≡ true → b ≡ true → r ≡ within_all (pile_numbers file ends piles.third) p →
-            r ≡ within_all (piles_numbers file ends piles) p
-        all-third h g k = rw (within-three, ← e, ← f, h, g) k
+  pub within-piles : (p : List Halves) (piles : List Pile) →
+      list_all (λ pile. within_all (pile_numbers file ends pile) p) piles ≡ within_all (piles_numbers file ends piles) p
+  unfolding piles_numbers within_all
+  within-piles p [] = refl
+  within-piles p (pile ∷ piles) =
+      ap (λ b. within_all (pile_numbers file ends pile) p && b) (within-piles p piles)
+      ∙ sym (within-append (pile_numbers file ends pile) (piles_numbers file ends piles) p)

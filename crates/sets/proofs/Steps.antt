@@ -2,11 +2,12 @@
 -- Assumes nothing.
 --     members-pass                  members that stand in a file can be passed
 --     start-passes, start-places    an iterator that starts there
+--     each-place, seen-places       the members at their places, the halves of those
 --     each-member                   what holds of each member may be asked at each place
 --     stands-each .. rest-each      a test of a list of members, by a test of each
 use mathlib.Core.Path.{◌≡◌, refl, sym, ap, subst, ◌∙◌}
 use mathlib.Core.Bool.{Bool, true, false, not, ◌&&◌, ◌||◌, cond}
-use mathlib.Core.List.{List, [], ◌∷◌}
+use mathlib.Core.List.{List, [], ◌∷◌, map}
 use Prim.Native.Nat.{ℕ, zero, suc, ◌<◌}
 use lib.ListN.{length, get_or}
 use native.Mathlib.Omega.{arith}
@@ -20,6 +21,7 @@ use Rattle.sets.specs.Items.{past_member, Halves, seen_as, same_halves, same_wri
 use Rattle.sets.specs.Lists.{seen_all, stands_in, within_all, listed_in, without_all}
 use Rattle.sets.specs.Standing.{MemberAt, MembersAt}
 use Rattle.sets.specs.Members.{member_places, places_left, CanPassAll, StartsAt}
+use Rattle.sets.specs.Aligned.{EachAt}
 use Rattle.sets.specs.declared.item.View.{View}
 use Rattle.sets.specs.declared.members.Members.{Members}
 use Rattle.sets.proofs.Places.{member-pass}
@@ -39,8 +41,18 @@ module _ (file ends : List ℕ) where
   member-there (suc k) at m zero x h e = subst (MemberAt file ends) (sym e) m.0
   member-there (suc k) at m (suc i) x h e = member-there k (past_member ends at) m.1 i x (omega arith) e
 
+  pub each-place : (k at : ℕ) → MembersAt file ends k at → EachAt file ends (member_places ends k at)
+  unfolding MembersAt
+  each-place zero at m = tt
+  each-place (suc k) at m = (m.0, each-place k (past_member ends at) m.1)
+
+  pub seen-places : (view : View) (k at : ℕ) → seen_all file ends view k at ≡ map (seen_as file ends view) (member_places ends k at)
+  unfolding seen_all
+  seen-places view zero at = refl
+  seen-places view (suc k) at = ap (λ l. seen_as file ends view at ∷ l) (seen-places view k (past_member ends at))
+
 module _ {ends : List ℕ} {k at : ℕ} {s : Members} (h : StartsAt ends k at s) where
-  start-places : places_left s ≡ member_places ends k at
+  pub start-places : places_left s ≡ member_places ends k at
   start-places = rw (h.ends_are, h.count_is, h.place_is) refl
 
   pub starts : YieldsList (YieldsFirst places_left) (λ x. x) s (member_places ends k at)

@@ -4,7 +4,8 @@
 --     Shows, item-shows, written-shows .. seen_all_lem
 --                                            members as a view shows them
 --     PileIs, pile_is                        a pile is a set that a rule makes
---     same-trees                             a written set is the same as three piles
+--     piles_place                            piles that are sets stand there
+--     same-trees                             a written set is the same as piles
 use mathlib.Core.Path.{◌≡◌, refl, sym, ap, ap₂, subst, ◌∙◌}
 use mathlib.Core.List.{List, [], ◌∷◌, ◌++◌, map}
 use Prim.Native.Nat.{ℕ, ◌+◌}
@@ -28,15 +29,14 @@ use Rattle.compare.proofs.Halves.{AntecedentIs, is-written, is-and, is-and_not, 
 use Rattle.sets.specs.Items.{past_member, Halves, seen_item, pair_item, item_halves, seen_as}
 use Rattle.sets.specs.Lists.{seen_all, same_all, without_all}
 use Rattle.sets.specs.Standing.{MemberAt, MembersAt, ViewAt}
-use Rattle.sets.specs.Piles.{count_at, written_set, pile_numbers, piles_numbers, AnySetAt, PileAt}
-use Rattle.sets.specs.Trees.{MemberWritten, MembersWritten, PileStands}
-use Rattle.sets.specs.Trees.{stands-empty, stands_one, stands-written, stands-under, stands-unless, stands-replaced}
+use Rattle.sets.specs.Piles.{count_at, written_set, pile_numbers, piles_numbers, AnySetAt, PileAt, PilesAt}
+use Rattle.sets.specs.Trees.{MemberWritten, MembersWritten, PileStands, PilesStand, together}
+use Rattle.sets.specs.Trees.{stands_one, stands-written, stands-under, stands-unless, stands-replaced}
 use Rattle.sets.specs.Trees.{stands-without}
 use Rattle.sets.specs.declared.item.View.{View}
 use Rattle.sets.specs.declared.item.View.TheVariants.{AsWritten, Under, Unless, Replaced}
 use Rattle.sets.specs.declared.item.FormedMember.{FormedMember}
 use Rattle.sets.specs.declared.pile.Pile.{Pile}
-use Rattle.sets.specs.declared.pile.Piles.{Piles}
 use Rattle.sets.proofs.Equal as equal
 use Rattle.sets.proofs.Tests.{halves_of, members_numbers, FitsMember, FitsAll, fits-all_append, members-append}
 use Rattle.sets.proofs.Tests.{same-numbers, without-numbers, without-fits}
@@ -176,7 +176,6 @@ module _ {file ends : List ℕ} (ends_of : EndsOf file ends) where
 
   pub pile_is : {pile : Pile} {x : Members} → PileStands file ends pile x → PileIs file ends pile x
   unfolding pile_numbers PileAt ViewAt members_numbers
-  pile_is stands-empty = record { pile_place = tt; shown = record { numbers-are = refl; fit_all = tt } }
   pile_is (stands_one a c) =
       let h = item-shows {item = pair_item _ _} (is-written a) (is-verbatim c) in
       record {
@@ -208,20 +207,31 @@ module _ {file ends : List ℕ} (ends_of : EndsOf file ends) where
             };
       }
 
-  -- a written set and three piles
-  pub same-trees : {Γ : Context} {p : ℕ} {piles : Piles} (s x y z : Members) → NodeAt file ends (set_node Γ s) p →
-      PileStands file ends piles.first x → PileStands file ends piles.second y → PileStands file ends piles.third z →
-      same_all (written_set file ends p) (piles_numbers file ends piles) ≡ same s (x ++ (y ++ z))
-  unfolding piles_numbers
-  same-trees {p = p} {piles} s x y z g h i j =
+  piles_are : (piles : List Pile) (xs : List Members) → PilesStand file ends piles xs →
+      AllShown file ends (piles_numbers file ends piles) (together xs)
+  unfolding piles_numbers members_numbers
+  piles_are [] [] h = record { numbers-are = refl; fit_all = tt }
+  piles_are [] (x ∷ xs) h = absurd h
+  piles_are (pile ∷ piles) [] h = absurd h
+  piles_are (pile ∷ piles) (x ∷ xs) h =
+      let a = (pile_is h.0).shown in
+      let b = piles_are piles xs h.1 in
+      record {
+        numbers-are = ap₂ ◌++◌ a.numbers-are b.numbers-are ∙ sym (members-append x (together xs));
+        fit_all = fits-all_append x (together xs) a.fit_all b.fit_all;
+      }
+
+  pub piles_place : (piles : List Pile) (xs : List Members) → PilesStand file ends piles xs → PilesAt file ends piles
+  unfolding PilesAt
+  piles_place [] xs h = tt
+  piles_place (pile ∷ piles) [] h = absurd h
+  piles_place (pile ∷ piles) (x ∷ xs) h = ((pile_is h.0).pile_place, piles_place piles xs h.1)
+
+  -- a written set and piles
+  pub same-trees : {Γ : Context} {p : ℕ} (piles : List Pile) (s : Members) (xs : List Members) → NodeAt file ends (set_node Γ s) p →
+      PilesStand file ends piles xs →
+      same_all (written_set file ends p) (piles_numbers file ends piles) ≡ same s (together xs)
+  same-trees piles s xs g h =
       let w = written_is g in
-      let a = (pile_is h).shown in
-      let b = (pile_is i).shown in
-      let c = (pile_is j).shown in
-      let all : piles_numbers file ends piles ≡ members_numbers (x ++ (y ++ z)) =
-      ap₂ ◌++◌ a.numbers-are (ap₂ ◌++◌ b.numbers-are c.numbers-are ∙ sym (members-append y z))
-      ∙ sym (members-append x (y ++ z)) in
-      ap₂ same_all w.numbers-are all
-      ∙ sym
-      (same-numbers s (x ++ (y ++ z)) w.fit_all
-      (fits-all_append x (y ++ z) a.fit_all (fits-all_append y z b.fit_all c.fit_all)))
+      let a = piles_are piles xs h in
+      ap₂ same_all w.numbers-are a.numbers-are ∙ sym (same-numbers s (together xs) w.fit_all a.fit_all)

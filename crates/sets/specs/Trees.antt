@@ -2,8 +2,10 @@
 -- Working: `can-same` and `set_does` of proofs/Rules tie it to the halves that are compared. Assumes nothing.
 --     MemberWritten, MembersWritten    a member at its place; members one after the other
 --     PileStands                       a pile is a set that a rule makes of written ones
---     HasSet, HasPile                  some such tree is there
---     CanSameSet, SameSet              a written set is the same as three piles together
+--     together                         sets, one after the other
+--     PilesStand                       each of some piles is a set
+--     HasSet, HasPiles                 some such tree is there, some such trees
+--     CanSameSet, SameSet              a written set is the same as piles together
 use Rattle.std.specs.Prelude.{◌≡◌, Bool, List, [], ◌∷◌, ◌++◌, ℕ}
 use Rattle.language.specs.Syntax.{Sort, Boolean, Expr, neg, Assignment}
 use Rattle.rules.specs.Assertion.{Member, Members, one}
@@ -18,8 +20,12 @@ use Rattle.matching.specs.declared.cursor.Put.{Put}
 use Rattle.sets.specs.Items.{past_member}
 use Rattle.sets.specs.declared.item.View.TheVariants.{AsWritten, Under, Unless, Replaced}
 use Rattle.sets.specs.declared.pile.Pile.{Pile}
-use Rattle.sets.specs.declared.pile.Pile.TheVariants.{Empty, One, Set, Without}
-use Rattle.sets.specs.declared.pile.Piles.{Piles}
+use Rattle.sets.specs.declared.pile.Pile.TheVariants.{One, Set, Without}
+
+-- sets, one after the other
+abbrev pub together : List Members → Members
+together [] = []
+together (x ∷ xs) = x ++ together xs
 
 module _ (file ends : List ℕ) where
   pub record MemberWritten (m : Member) (at : ℕ) : Type 0 where
@@ -31,7 +37,6 @@ module _ (file ends : List ℕ) where
   MembersWritten (m ∷ l) at = MemberWritten m at × MembersWritten l (past_member ends at)
 
   pub data PileStands : Pile → Members → Type 0 where
-    stands-empty : PileStands Empty []
     stands_one : {f b : ℕ} {φ : Expr Boolean} {k : Sort} {e : Expr k} → WrittenAt file ends φ f → WrittenAt file ends e b →
         PileStands (One f b) (one φ e)
     stands-written : {Γ : Context} {at : ℕ} {q : Members} → SetAt file ends Γ q at → PileStands (Set at AsWritten) q
@@ -49,18 +54,22 @@ module _ (file ends : List ℕ) where
     pub tree : Members
     pub there : SetAt file ends Γ tree at
 
-  pub record HasPile (pile : Pile) : Type 0 where
-    pub tree : Members
-    pub stands : PileStands pile tree
+  -- each of some piles is a set
+  abbrev pub PilesStand : List Pile → List Members → Type 0
+  PilesStand [] [] = Unit {0}
+  PilesStand [] (x ∷ xs) = ⊥
+  PilesStand (pile ∷ piles) [] = ⊥
+  PilesStand (pile ∷ piles) (x ∷ xs) = PileStands pile x × PilesStand piles xs
 
-  pub record CanSameSet (p : ℕ) (piles : Piles) : Type 0 where
+  pub record HasPiles (piles : List Pile) : Type 0 where
+    pub trees : List Members
+    pub stand : PilesStand piles trees
+
+  pub record CanSameSet (p : ℕ) (piles : List Pile) : Type 0 where
     pub ends_of : EndsOf file ends
     pub set : HasSet p
-    pub first-pile : HasPile piles.first
-    pub second-pile : HasPile piles.second
-    pub third-pile : HasPile piles.third
+    pub piles_stand : HasPiles piles
 
-  -- the written set is the same as the three piles together
-  pub record SameSet (p : ℕ) (piles : Piles) (r : Bool) : Type 0 where
-    pub does : {Γ : Context} (s x y z : Members) → SetAt file ends Γ s p → PileStands piles.first x →
-        PileStands piles.second y → PileStands piles.third z → r ≡ same s (x ++ (y ++ z))
+  -- the written set is the same as the piles together
+  pub record SameSet (p : ℕ) (piles : List Pile) (r : Bool) : Type 0 where
+    pub does : {Γ : Context} (s : Members) (xs : List Members) → SetAt file ends Γ s p → PilesStand piles xs → r ≡ same s (together xs)

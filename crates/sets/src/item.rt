@@ -115,36 +115,14 @@ pub fn same_words(w: &[u32], ends: &[u32], at: usize, a: usize) -> bool
     same_parts(w, ends, at, a)
 }
 
-// Whether the written member at `at` is the one at a, seen as the view says. Each view has its own call, so that the
-// compiler sees which halves are compared.
+// Whether the written member at `at` is the one at a, seen as the view says: as it stands, the usual view, at once.
 pub fn same_seen(w: &[u32], ends: &[u32], at: usize, a: usize, view: View) -> bool
     requires { CanSee w.now ends.now «at» a view }
     ensures { result ≡ same_halves (written_halves w.now ends.now «at»)
         (seen_as w.now ends.now view a) }
 {
-    let middle = end_at(ends, a);
     match view {
-        View::AsWritten => same_pair(w, ends, at, a, middle),
-        View::Under(b) => {
-            let item = FormedMember {
-                antecedent: Antecedent::And(a, b),
-                consequent: Consequent::Written(middle),
-            };
-            same_item(w, ends, at, item)
-        }
-        View::Unless(b) => {
-            let item = FormedMember {
-                antecedent: Antecedent::AndNot(a, b),
-                consequent: Consequent::Written(middle),
-            };
-            same_item(w, ends, at, item)
-        }
-        View::Replaced(put) => {
-            let item = FormedMember {
-                antecedent: Antecedent::Replaced(a, put),
-                consequent: Consequent::Replaced(middle, put),
-            };
-            same_item(w, ends, at, item)
-        }
+        View::AsWritten => same_pair(w, ends, at, a, end_at(ends, a)),
+        _ => same_item(w, ends, at, seen_item(ends, a, view)),
     }
 }

@@ -1,3 +1,4 @@
+ghost use Rattle.std.specs.Prelude.{◌≡◌, true, []};
 ghost use Rattle.sets.specs.Members.{CanPassAll, places_left, StartsAt};
 
 use crate::item::past_member;
@@ -16,6 +17,13 @@ impl<'a> Members<'a> {
         ensures { StartsAt ends.now k «at» result }
     {
         Members { ends, left: k, at }
+    }
+
+    // Whether none is left.
+    pub(crate) fn is_empty(&self) -> bool
+        ensures { result ≡ true → places_left self.now ≡ [] }
+    {
+        self.left == 0
     }
 }
 

@@ -4,27 +4,18 @@ ghost use Rattle.sets.specs.Lists.{written, stands_in, within_all};
 ghost use Rattle.sets.specs.Piles.{count_at, pile_numbers, piles_numbers};
 ghost use Rattle.sets.specs.Piles.{CanSearch, CanSearchAll, CanKeepPile, CanKeepAll};
 
-use crate::item::{View, pair_item, same_item};
+use crate::item::{View, pair_item, same_pair};
 use crate::member::{has_item, in_rest, in_seen, rest_in, seen_in};
 use crate::members::Members;
 use words::kinds::KIND;
 
-// A set that a rule makes: none; one member by the places of its antecedent and its consequent; the written set at a place, seen
+// A set that a rule makes: one member by the places of its antecedent and its consequent; the written set at a place, seen
 // as a view says; the written set at a place without the members of another.
 #[derive(Clone, Copy)]
 pub enum Pile {
-    Empty,
     One(usize, usize),
     Set(usize, View),
     Without(usize, usize),
-}
-
-// Three of them together.
-#[derive(Clone, Copy)]
-pub struct Piles {
-    pub first: Pile,
-    pub second: Pile,
-    pub third: Pile,
 }
 
 // The number of members of the written set at q.
@@ -43,8 +34,7 @@ fn in_pile(w: &[u32], ends: &[u32], x: usize, pile: Pile) -> bool
         (pile_numbers w.now ends.now pile) }
 {
     match pile {
-        Pile::Empty => false,
-        Pile::One(f, b) => same_item(w, ends, x, pair_item(f, b)),
+        Pile::One(f, b) => same_pair(w, ends, x, f, b),
         Pile::Set(q, view) => {
             let k = count(w, q);
             in_seen(w, ends, x, k, q + 1, view)
@@ -64,7 +54,6 @@ fn pile_in(w: &[u32], ends: &[u32], pile: Pile, k: usize, at: usize) -> bool
         (written w.now ends.now k «at») }
 {
     match pile {
-        Pile::Empty => true,
         Pile::One(f, b) => has_item(w, ends, k, at, pair_item(f, b)),
         Pile::Set(q, view) => {
             let j = count(w, q);
@@ -79,46 +68,28 @@ fn pile_in(w: &[u32], ends: &[u32], pile: Pile, k: usize, at: usize) -> bool
 }
 
 // Whether the written member at x stands in one of the piles.
-fn in_piles(w: &[u32], ends: &[u32], x: usize, piles: Piles) -> bool
-    requires { CanSearchAll w.now ends.now x piles }
+fn in_piles(w: &[u32], ends: &[u32], x: usize, piles: &[Pile]) -> bool
+    requires { CanSearchAll w.now ends.now x piles.now }
     ensures { result ≡ stands_in (written_halves w.now ends.now x)
-        (piles_numbers w.now ends.now piles) }
+        (piles_numbers w.now ends.now piles.now) }
 {
-    let first = piles.first;
-    if in_pile(w, ends, x, first) {
-        return true;
-    }
-    let second = piles.second;
-    if in_pile(w, ends, x, second) {
-        return true;
-    }
-    let third = piles.third;
-    in_pile(w, ends, x, third)
+    piles.iter().any(|pile| in_pile(w, ends, x, *pile))
 }
 
 // Whether each member of the piles is one of the k written members at `at`.
-pub fn piles_in(w: &[u32], ends: &[u32], piles: Piles, k: usize, at: usize) -> bool
-    requires { CanKeepAll w.now ends.now piles k «at» }
-    ensures { result ≡ within_all (piles_numbers w.now ends.now piles)
+pub fn piles_in(w: &[u32], ends: &[u32], piles: &[Pile], k: usize, at: usize) -> bool
+    requires { CanKeepAll w.now ends.now piles.now k «at» }
+    ensures { result ≡ within_all (piles_numbers w.now ends.now piles.now)
         (written w.now ends.now k «at») }
 {
-    let first = piles.first;
-    if !pile_in(w, ends, first, k, at) {
-        return false;
-    }
-    let second = piles.second;
-    if !pile_in(w, ends, second, k, at) {
-        return false;
-    }
-    let third = piles.third;
-    pile_in(w, ends, third, k, at)
+    piles.iter().all(|pile| pile_in(w, ends, *pile, k, at))
 }
 
 // Whether each of the k written members at `at` stands in one of the piles.
-pub fn set_in(w: &[u32], ends: &[u32], k: usize, at: usize, piles: Piles) -> bool
-    requires { CanKeepAll w.now ends.now piles k «at» }
+pub fn set_in(w: &[u32], ends: &[u32], k: usize, at: usize, piles: &[Pile]) -> bool
+    requires { CanKeepAll w.now ends.now piles.now k «at» }
     ensures { result ≡ within_all (written w.now ends.now k «at»)
-        (piles_numbers w.now ends.now piles) }
+        (piles_numbers w.now ends.now piles.now) }
 {
     Members::new(ends, k, at).all(|i| in_piles(w, ends, i, piles))
 }

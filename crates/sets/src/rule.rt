@@ -3,7 +3,7 @@ ghost use Rattle.sets.specs.Rules.{CanBranches, SameBranches, CanThree, SameUnio
 
 use crate::item::{FormedMember, View};
 use crate::member::has_item;
-use crate::pile::{Pile, Piles, count};
+use crate::pile::{Pile, count};
 use crate::set::same_set;
 use compare::antecedent::Antecedent;
 use compare::consequent::Consequent;
@@ -14,16 +14,7 @@ pub fn same_written(w: &[u32], ends: &[u32], p: usize, q: usize) -> bool
     requires { CanTwo w.now ends.now p q }
     ensures { SameWritten w.now ends.now p q result }
 {
-    same_set(
-        w,
-        ends,
-        p,
-        Piles {
-            first: Pile::Set(q, View::AsWritten),
-            second: Pile::Empty,
-            third: Pile::Empty,
-        },
-    )
+    same_set(w, ends, p, &[Pile::Set(q, View::AsWritten)])
 }
 
 // Rules 3 and 4: P same as Q with the right side for the identifier.
@@ -31,16 +22,7 @@ pub fn same_replaced(w: &[u32], ends: &[u32], p: usize, q: usize, put: Put) -> b
     requires { CanReplaced w.now ends.now p q put }
     ensures { SameReplaced w.now ends.now p q put result }
 {
-    same_set(
-        w,
-        ends,
-        p,
-        Piles {
-            first: Pile::Set(q, View::Replaced(put)),
-            second: Pile::Empty,
-            third: Pile::Empty,
-        },
-    )
+    same_set(w, ends, p, &[Pile::Set(q, View::Replaced(put))])
 }
 
 // Rules 5 and 12: P same as Q under B.
@@ -48,16 +30,7 @@ pub fn same_under(w: &[u32], ends: &[u32], p: usize, q: usize, b: usize) -> bool
     requires { CanUnder w.now ends.now p q b }
     ensures { SameUnder w.now ends.now p q b result }
 {
-    same_set(
-        w,
-        ends,
-        p,
-        Piles {
-            first: Pile::Set(q, View::Under(b)),
-            second: Pile::Empty,
-            third: Pile::Empty,
-        },
-    )
+    same_set(w, ends, p, &[Pile::Set(q, View::Under(b))])
 }
 
 // Rule 6: P same as S under B, T under ¬B and φ0 ⇒ B together; φ0 stands at f.
@@ -73,16 +46,12 @@ pub fn same_branches(
     requires { CanBranches w.now ends.now p s t b f }
     ensures { SameBranches w.now ends.now p s t b f result }
 {
-    same_set(
-        w,
-        ends,
-        p,
-        Piles {
-            first: Pile::Set(s, View::Under(b)),
-            second: Pile::Set(t, View::Unless(b)),
-            third: Pile::One(f, b),
-        },
-    )
+    let piles = [
+        Pile::Set(s, View::Under(b)),
+        Pile::Set(t, View::Unless(b)),
+        Pile::One(f, b),
+    ];
+    same_set(w, ends, p, &piles)
 }
 
 // Rules 9 and 16: P same as S ∪ T.
@@ -90,16 +59,8 @@ pub fn same_union(w: &[u32], ends: &[u32], p: usize, s: usize, t: usize) -> bool
     requires { CanThree w.now ends.now p s t }
     ensures { SameUnion w.now ends.now p s t result }
 {
-    same_set(
-        w,
-        ends,
-        p,
-        Piles {
-            first: Pile::Set(s, View::AsWritten),
-            second: Pile::Set(t, View::AsWritten),
-            third: Pile::Empty,
-        },
-    )
+    let piles = [Pile::Set(s, View::AsWritten), Pile::Set(t, View::AsWritten)];
+    same_set(w, ends, p, &piles)
 }
 
 // Rule 13: true ⇒ B stands in P.

@@ -4,13 +4,13 @@ ghost use Rattle.sets.specs.Piles.{written_set, piles_numbers, CanSamePiles};
 ghost use Rattle.sets.specs.Trees.{CanSameSet, SameSet};
 
 use crate::align::aligned;
-use crate::pile::{Piles, count, piles_in, set_in};
+use crate::pile::{Pile, count, piles_in, set_in};
 
 // Whether the members of the written set at p are those of the piles. Members in the same order are found at once.
-fn same_members(w: &[u32], ends: &[u32], p: usize, piles: Piles) -> bool
-    requires { CanSamePiles w.now ends.now p piles }
+fn same_members(w: &[u32], ends: &[u32], p: usize, piles: &[Pile]) -> bool
+    requires { CanSamePiles w.now ends.now p piles.now }
     ensures { result ≡ same_all (written_set w.now ends.now p)
-        (piles_numbers w.now ends.now piles) }
+        (piles_numbers w.now ends.now piles.now) }
 {
     let k = count(w, p);
     let at = p + 1;
@@ -24,9 +24,9 @@ fn same_members(w: &[u32], ends: &[u32], p: usize, piles: Piles) -> bool
 }
 
 // Whether the written set at p is the same as the piles together.
-pub fn same_set(w: &[u32], ends: &[u32], p: usize, piles: Piles) -> bool
-    requires { CanSameSet w.now ends.now p piles }
-    ensures { SameSet w.now ends.now p piles result }
+pub fn same_set(w: &[u32], ends: &[u32], p: usize, piles: &[Pile]) -> bool
+    requires { CanSameSet w.now ends.now p piles.now }
+    ensures { SameSet w.now ends.now p piles.now result }
 {
     same_members(w, ends, p, piles)
 }

@@ -1,48 +1,30 @@
 -- `sets::align::align_seen` meets its contract. The invariant: what is said of the members that are left on both sides is said of all.
 -- Assumes nothing.
-use mathlib.Core.Path.{refl}
-use native.Mathlib.Omega.{arith}
-use Rattle.sets.proofs.Places.{member-pass}
-use Rattle.sets.proofs.Aligned.{aligning_start, aligning_on, aligning_end, aligns_not, first_member, part-first}
+use Rattle.std.proofs.Common.{sym, subst}
+use Rattle.sets.specs.Members.{StartsAt}
+use Rattle.sets.specs.Aligned.{EachAt}
+use Rattle.sets.proofs.Steps.{start-passes}
+use Rattle.sets.proofs.Aligned.{each-starts, seen_start, seen-on, seen_end, parted_is}
 use Rattle.sets.proofs.align.align_seen.Goals as goal
 
-pub loop-j-init : goal.loop-j-init
-loop-j-init c = let p = c.requires in aligning_start p.members p.part
-
-pub returns-then-left-eq0 : goal.returns-then-left-eq0
-returns-then-left-eq0 c = aligns_not refl
-
-pub same_seen-requires : goal.same_seen-requires
-same_seen-requires c =
+pub loop-a-init : goal.loop-a-init
+loop-a-init c =
     let p = c.requires in
-    record {
-      ends_of = p.ends_of;
-      member = first_member c.loop-j.invariant.members c.if-left-eq0.false;
-      other = part-first c.loop-j.invariant c.loop-j-test.true;
-      view_at = p.view_at;
-    }
+    let s = subst (StartsAt _ _ _) (sym c.into_iter-a-iterator.ensures.into_iter_gives) c.new-a-items.ensures in
+    (start-passes s p.part p.ends_of, tt, each-starts _ s p.part, seen_start _ s p.part p.rest_at)
 
-pub returns-then-not-same_seen : goal.returns-then-not-same_seen
-returns-then-not-same_seen c = aligns_not refl
-
-pub past_member-i-requires : goal.past_member-i-requires
-past_member-i-requires c =
-    let p = c.requires in
-    member-pass p.ends_of (first_member c.loop-j.invariant.members c.if-left-eq0.false)
-
-pub past_member-a-requires : goal.past_member-a-requires
-past_member-a-requires c =
-    let p = c.requires in
-    member-pass p.ends_of (part-first c.loop-j.invariant c.loop-j-test.true)
-
-pub overflow_sub-left : goal.overflow_sub-left
-overflow_sub-left c = let h = c.if-left-eq0.false in omega arith
-
-pub loop-j-preserved : goal.loop-j-preserved
-loop-j-preserved c =
-    aligning_on c.loop-j.invariant c.loop-j-test.true c.if-left-eq0.false
-    c.same_seen.ensures
-    c.if-not-same_seen.false c.past_member-i.ensures c.past_member-a.ensures
+pub loop-a-preserved : goal.loop-a-preserved
+loop-a-preserved c =
+    let v = c.loop-a.invariant in
+    let some = c.in-Some.ensures in
+    let next = c.in_ok-i.ensures in (
+      some.goes.keeps,
+      tt,
+      (subst (EachAt _ _) some.steps v.2).1,
+      seen-on _ c.loop-a.a-iterator v.3 c.next.new.self some.steps next.steps next.goes.keeps c.same_seen.ensures c.if-not-same_seen.false,
+    )
 
 pub returns : goal.returns
-returns c = aligning_end c.loop-j.invariant c.loop-j-test.false refl refl
+returns c =
+    let v = c.loop-a.invariant in
+    record { does = parted_is v.3.rest_at (seen_end _ c.loop-a.a-iterator v.3 c.in-None.ensures.steps.0) }

@@ -1,42 +1,25 @@
--- `sets::align::aligned` meets its contract, one pile after the other.
+-- `sets::align::aligned` meets its contract. The invariant: what is said of the members and the piles that are left is said of all.
 -- Assumes nothing.
-use Rattle.sets.proofs.Aligned.{aligned_not, aligned_is}
+use Rattle.std.proofs.Common.{arith}
+use Rattle.sets.proofs.Piles.{pile-there}
+use Rattle.sets.proofs.Aligned.{aligning_starts, pile-on, aligned_is}
 use Rattle.sets.proofs.align.aligned.Goals as goal
 
-pub align_pile-x-requires : goal.align_pile-x-requires
-align_pile-x-requires c =
-    let p = c.requires in
-    record { ends_of = p.ends_of; members = p.members; pile_at = p.piles_at.first-at }
+pub loop-pile-init : goal.loop-pile-init
+loop-pile-init c = let p = c.requires in aligning_starts c.new-rest.ensures p.ends_of p.members
 
-pub returns-then-not-same : goal.returns-then-not-same
-returns-then-not-same c = aligned_not
-
-pub align_pile-y-requires : goal.align_pile-y-requires
-align_pile-y-requires c =
+pub align_pile-requires : goal.align_pile-requires
+align_pile-requires c =
     let p = c.requires in
     record {
       ends_of = p.ends_of;
-      members = (c.align_pile-x.ensures.does c.if-not-same.false).members;
-      pile_at = p.piles_at.second_at;
+      rest_at = c.loop-pile.invariant.rest_at;
+      pile_at = pile-there _ _ _ p.piles_at _ _ c.loop-pile-test.true;
     }
 
-pub returns-then-not-same-2 : goal.returns-then-not-same-2
-returns-then-not-same-2 c = aligned_not
-
-pub align_pile-z-requires : goal.align_pile-z-requires
-align_pile-z-requires c =
-    let p = c.requires in
-    record {
-      ends_of = p.ends_of;
-      members = (c.align_pile-y.ensures.does c.if-not-same-2.false).members;
-      pile_at = p.piles_at.third_at;
-    }
-
-pub returns-then-not-same-3 : goal.returns-then-not-same-3
-returns-then-not-same-3 c = aligned_not
+pub loop-pile-preserved : goal.loop-pile-preserved
+loop-pile-preserved c = pile-on _ _ _ c.loop-pile-test.true c.loop-pile.invariant c.in-Some.ensures.does
 
 pub returns : goal.returns
 returns c =
-    aligned_is c.align_pile-x.ensures
-    c.if-not-same.false c.align_pile-y.ensures
-    c.if-not-same-2.false c.align_pile-z.ensures c.if-not-same-3.false
+    record { does = λ h. aligned_is _ _ _ _ (omega (arith, c.loop-pile-test.false)) c.loop-pile.invariant (c.is_empty.ensures h) }

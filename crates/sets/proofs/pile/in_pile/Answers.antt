@@ -1,18 +1,18 @@
 -- `sets::pile::in_pile` meets its contract, by pile.
 -- Assumes nothing.
+use mathlib.Core.Path.{refl}
 use native.Mathlib.Omega.{arith}
 use Rattle.sets.specs.Lists.{stands_in}
 use Rattle.sets.proofs.Items.{pair_at}
-use Rattle.sets.proofs.Loops.{same-as}
 use Rattle.sets.proofs.Piles.{pile_one, pile_set, pile_without, set-members}
-use Rattle.sets.proofs.Piles.{of-empty, of_one, of-set, of-without, stands_one, stands-none}
+use Rattle.sets.proofs.Piles.{of_one, of-set, of-without, stands_one}
 use Rattle.sets.proofs.pile.in_pile.Goals as goal
 
-pub same_item-requires : goal.same_item-requires
-same_item-requires c =
+pub same_pair-requires : goal.same_pair-requires
+same_pair-requires c =
     let p = c.requires in
     let d = pile_one _ p.pile_at c.in-One.is in
-    record { ends_of = p.ends_of; member = p.member; item-at = pair_at p.ends_of c.pair_item.ensures d.0 d.1 }
+    record { ends_of = p.ends_of; member = p.member; item-at = pair_at p.ends_of refl d.0 d.1 }
 
 pub count-k-requires : goal.count-k-requires
 count-k-requires c =
@@ -75,13 +75,8 @@ in_rest-requires c =
       listed = set-members d.1 c.count-l.ensures;
     }
 
-pub returns-in-Empty : goal.returns-in-Empty
-returns-in-Empty c = of-empty _ _ (stands_in _) _ c.in-Empty.is (stands-none _)
-
 pub returns-in-One : goal.returns-in-One
-returns-in-One c =
-    of_one _ _ (stands_in _) _ _ _ c.in-One.is
-    (stands_one _ _ (same-as _ _ c.pair_item.ensures _ c.same_item.ensures))
+returns-in-One c = of_one _ _ (stands_in _) _ _ _ c.in-One.is (stands_one _ _ c.same_pair.ensures)
 
 pub returns-in-Set : goal.returns-in-Set
 returns-in-Set c = of-set _ _ (stands_in _) _ _ _ _ c.in-Set.is c.count-k.ensures c.in_seen.ensures

@@ -1,32 +1,26 @@
--- `sets::pile::in_piles` meets its contract, one pile after the other.
+-- `sets::pile::in_piles` meets its contract.
 -- Assumes nothing.
-use Rattle.sets.proofs.Piles.{any-first, any-second, any-third}
+use Rattle.std.proofs.Common.{rules, tests, ◌∙◌}
+use Rattle.std.proofs.lemmas.Iterator.{YieldsList-from_slice}
+use Rattle.std.proofs.lemmas.Iterator.Search.{any_from_yields_List}
+use Rattle.sets.specs.Items.{written_halves}
+use Rattle.sets.specs.Lists.{stands_in}
+use Rattle.sets.specs.Piles.{pile_numbers, CanSearch}
+use Rattle.sets.proofs.Piles.{each-pile, stands-piles}
 use Rattle.sets.proofs.pile.in_piles.Goals as goal
 
-pub in_pile-requires : goal.in_pile-requires
-in_pile-requires c =
+pub any-requires-clause-callable : goal.any-requires-clause-callable
+any-requires-clause-callable c =
     let p = c.requires in
-    record { ends_of = p.ends_of; member = p.member; pile_at = p.piles_at.first-at }
-
-pub returns-then-in_pile : goal.returns-then-in_pile
-returns-then-in_pile c = any-first _ _ _ _ c.in_pile.ensures c.if-in_pile.true
-
-pub in_pile-requires-2 : goal.in_pile-requires-2
-in_pile-requires-2 c =
-    let p = c.requires in
-    record { ends_of = p.ends_of; member = p.member; pile_at = p.piles_at.second_at }
-
-pub returns-then-in_pile-2 : goal.returns-then-in_pile-2
-returns-then-in_pile-2 c =
-    any-second _ _ _ _ c.in_pile.ensures c.in_pile-2.ensures
-    c.if-in_pile.false c.if-in_pile-2.true
-
-pub in_pile-requires-3 : goal.in_pile-requires-3
-in_pile-requires-3 c =
-    let p = c.requires in
-    record { ends_of = p.ends_of; member = p.member; pile_at = p.piles_at.third_at }
+    each-pile _ _ p.piles_at (cc) (λ x q h. search rules)
+    (λ x m.
+    let can : CanSearch c.args.w.now c.args.ends.now c.args.x x.now = record { ends_of = p.ends_of; member = p.member; pile_at = m } in
+    search rules)
 
 pub returns : goal.returns
 returns c =
-    any-third _ _ _ _ c.in_pile.ensures c.in_pile-2.ensures
-    c.if-in_pile.false c.if-in_pile-2.false c.in_pile-3.ensures
+    let file = c.args.w.now in
+    let ends = c.args.ends.now in
+    any_from_yields_List (λ pile. stands_in (written_halves file ends c.args.x) (pile_numbers file ends pile)) c.any.new.self _ c.any.result c.any.ensures.ran
+    (YieldsList-from_slice c.args.piles.now cc) (λ x b q k. search (rules, tests))
+    ∙ stands-piles _ _ _ _

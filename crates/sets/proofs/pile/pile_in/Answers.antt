@@ -2,9 +2,9 @@
 -- Assumes nothing.
 use native.Mathlib.Omega.{arith}
 use Rattle.sets.proofs.Items.{pair_at}
-use Rattle.sets.proofs.Loops.{has-as}
+use Rattle.sets.proofs.Items.{has-as}
 use Rattle.sets.proofs.Piles.{pile_one, pile_set, pile_without, set-members}
-use Rattle.sets.proofs.Piles.{of-empty, of_one, of-set, of-without, within-one, within_none, held_by}
+use Rattle.sets.proofs.Piles.{of_one, of-set, of-without, within-one, held_by}
 use Rattle.sets.proofs.pile.pile_in.Goals as goal
 
 pub has_item-requires : goal.has_item-requires
@@ -73,9 +73,6 @@ rest_in-requires c =
       listed = set-members d.1 c.count-l.ensures;
       members = p.members;
     }
-
-pub returns-in-Empty : goal.returns-in-Empty
-returns-in-Empty c = of-empty _ _ (held_by _) _ c.in-Empty.is (within_none _)
 
 pub returns-in-One : goal.returns-in-One
 returns-in-One c =

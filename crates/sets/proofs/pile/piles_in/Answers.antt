@@ -1,33 +1,25 @@
--- `sets::pile::piles_in` meets its contract, one pile after the other.
+-- `sets::pile::piles_in` meets its contract.
 -- Assumes nothing.
-use Rattle.sets.proofs.Piles.{all_first, all-second, all-third}
+use Rattle.std.proofs.Common.{rules, tests, ◌∙◌}
+use Rattle.std.proofs.lemmas.Iterator.{YieldsList-from_slice}
+use Rattle.std.proofs.lemmas.Iterator.Search.{all_from_yields_List}
+use Rattle.sets.specs.Lists.{within_all, written}
+use Rattle.sets.specs.Piles.{pile_numbers, CanKeepPile}
+use Rattle.sets.proofs.Piles.{each-pile, within-piles}
 use Rattle.sets.proofs.pile.piles_in.Goals as goal
 
-pub pile_in-requires : goal.pile_in-requires
-pile_in-requires c =
+pub all-requires-clause-callable : goal.all-requires-clause-callable
+all-requires-clause-callable c =
     let p = c.requires in
-    record { ends_of = p.ends_of; members = p.members; pile_at = p.piles_at.first-at }
-
-pub returns-then-not-pile_in : goal.returns-then-not-pile_in
-returns-then-not-pile_in c = all_first _ _ _ _ c.pile_in.ensures c.if-not-pile_in.true
-
-pub pile_in-requires-2 : goal.pile_in-requires-2
-pile_in-requires-2 c =
-    let p = c.requires in
-    record { ends_of = p.ends_of; members = p.members; pile_at = p.piles_at.second_at }
-
-pub returns-then-not-pile_in-2 : goal.returns-then-not-pile_in-2
-returns-then-not-pile_in-2 c =
-    all-second _ _ _ _ c.pile_in.ensures c.pile_in-2.ensures
-    c.if-not-pile_in.false c.if-not-pile_in-2.true
-
-pub pile_in-requires-3 : goal.pile_in-requires-3
-pile_in-requires-3 c =
-    let p = c.requires in
-    record { ends_of = p.ends_of; members = p.members; pile_at = p.piles_at.third_at }
+    each-pile _ _ p.piles_at (cc) (λ x q h. search rules)
+    (λ x m.
+    let can : CanKeepPile c.args.w.now c.args.ends.now x.now c.args.k c.args.at = record { ends_of = p.ends_of; members = p.members; pile_at = m } in
+    search rules)
 
 pub returns : goal.returns
 returns c =
-    all-third _ _ _ _ c.pile_in.ensures c.pile_in-2.ensures
-    c.if-not-pile_in.false c.if-not-pile_in-2.false
-    c.pile_in-3.ensures
+    let file = c.args.w.now in
+    let ends = c.args.ends.now in
+    all_from_yields_List (λ pile. within_all (pile_numbers file ends pile) (written file ends c.args.k c.args.at)) c.all.new.self _ c.all.result c.all.ensures.ran
+    (YieldsList-from_slice c.args.piles.now cc) (λ x b q k. search (rules, tests))
+    ∙ within-piles _ _ _ _

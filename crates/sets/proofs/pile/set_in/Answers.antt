@@ -16,13 +16,13 @@ all-requires-clause-callable c =
     let p = c.requires in
     each-member c.new.ensures p.members (λ x q h. search rules)
     (λ x m.
-    let can : CanSearchAll c.args.w.now c.args.ends.now x c.args.piles = record { ends_of = p.ends_of; member = m; piles_at = p.piles_at } in
+    let can : CanSearchAll c.args.w.now c.args.ends.now x c.args.piles.now = record { ends_of = p.ends_of; member = m; piles_at = p.piles_at } in
     search rules)
 
 pub returns : goal.returns
 returns c =
     let file = c.args.w.now in
     let ends = c.args.ends.now in
-    all_from_yields_List (λ i. stands_in (written_halves file ends i) (piles_numbers file ends c.args.piles)) c.all.new.self _ c.all.result c.all.ensures.ran
+    all_from_yields_List (λ i. stands_in (written_halves file ends i) (piles_numbers file ends c.args.piles.now)) c.all.new.self _ c.all.result c.all.ensures.ran
     (starts c.new.ensures) (λ x b q k. search (rules, tests))
     ∙ within-each _ _ _ _ _ _
