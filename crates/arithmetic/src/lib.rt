@@ -2,112 +2,55 @@
 // differences and products that are checked, comparisons, and indexes that are tested.
 #![tactic(auto)]
 
-ghost use Rattle.std.specs.Prelude.{◌≡◌, nat_abs, ◌+ℤ◌, ◌-ℤ◌, ◌*ℤ◌};
-ghost use Rattle.std.specs.Int.Signed.{lt_z, le_z};
-ghost use Rattle.language.specs.Store.{same_integer, apply, relate as relate_of};
+ghost use Rattle.std.specs.Prelude.{◌≡◌, ◌+ℤ◌, ◌-ℤ◌, ◌*ℤ◌};
+ghost use Rattle.std.specs.Int.Signed.{le_z};
+ghost use Rattle.language.specs.Store.{apply, relate as relate_of};
 ghost use Rattle.execution.specs.Evaluate.{worked, index};
 ghost use Rattle.words.specs.Meaning.{operator_meant, comparison_meant};
-ghost use Rattle.arithmetic.specs.Worked.{outcome, index_outcome, checked, most_of};
+ghost use Rattle.arithmetic.specs.Worked.{outcome, index_outcome, checked, refusal_number};
 
 use words::{Comparison, Operator};
 
-// What was worked out, or the number of the refusal that stops it.
-#[derive(Clone, Copy)]
-pub enum Worked {
-    Value(i64),
-    Stops(u32),
+// Why the working out of an expression stops.
+#[derive(Clone, Copy, Debug, PartialEq, Eq)]
+pub enum Stop {
+    // a value leaves the signed 64-bit range
+    OutOfRange,
+    // an index is outside 0 to 63
+    BadIndex,
 }
 
-// An index 0 to 63, or the number of the refusal that stops it.
-#[derive(Clone, Copy)]
-pub enum Index {
-    At(usize),
-    Stops(u32),
+impl Stop {
+    // The number of the refusal.
+    pub fn number(self) -> u32
+        ensures { result ≡ refusal_number self }
+    {
+        match self {
+            Stop::OutOfRange => 14,
+            Stop::BadIndex => 15,
+        }
+    }
 }
 
-pub fn sum(a: i64, b: i64) -> Worked
+pub fn sum(a: i64, b: i64) -> Result<i64, Stop>
     ensures { outcome result ≡ checked (a +ℤ b) }
 {
-    if 0 <= b {
-        if a <= 9223372036854775807 - b {
-            Worked::Value(a + b)
-        } else {
-            Worked::Stops(14)
-        }
-    } else {
-        if -9223372036854775808 - b <= a {
-            Worked::Value(a + b)
-        } else {
-            Worked::Stops(14)
-        }
-    }
+    a.checked_add(b).ok_or(Stop::OutOfRange)
 }
 
-pub fn difference(a: i64, b: i64) -> Worked
+pub fn difference(a: i64, b: i64) -> Result<i64, Stop>
     ensures { outcome result ≡ checked (a -ℤ b) }
 {
-    if 0 <= b {
-        if -9223372036854775808 + b <= a {
-            Worked::Value(a - b)
-        } else {
-            Worked::Stops(14)
-        }
-    } else {
-        if a <= 9223372036854775807 + b {
-            Worked::Value(a - b)
-        } else {
-            Worked::Stops(14)
-        }
-    }
+    a.checked_sub(b).ok_or(Stop::OutOfRange)
 }
 
-// The distance from 0, of every number, also the least.
-fn size(x: i64) -> u64
-    ensures { result ≡ nat_abs x }
-{
-    if 0 <= x {
-        x as u64
-    } else {
-        (-(x + 1)) as u64 + 1
-    }
-}
-
-// The largest size that a product of these signs may have.
-fn most(a: i64, b: i64) -> u64
-    ensures { result ≡ most_of a b }
-{
-    if 0 <= a {
-        if 0 <= b {
-            9223372036854775807
-        } else {
-            9223372036854775808
-        }
-    } else {
-        if 0 <= b {
-            9223372036854775808
-        } else {
-            9223372036854775807
-        }
-    }
-}
-
-pub fn product(a: i64, b: i64) -> Worked
+pub fn product(a: i64, b: i64) -> Result<i64, Stop>
     ensures { outcome result ≡ checked (a *ℤ b) }
 {
-    let m = size(a);
-    let n = size(b);
-    if n == 0 {
-        return Worked::Value(0);
-    }
-    if m <= most(a, b) / n {
-        Worked::Value(a * b)
-    } else {
-        Worked::Stops(14)
-    }
+    a.checked_mul(b).ok_or(Stop::OutOfRange)
 }
 
-// Refusal 14: a value leaves the signed 64-bit range.
-pub fn operate(o: Operator, a: i64, b: i64) -> Worked
+pub fn operate(o: Operator, a: i64, b: i64) -> Result<i64, Stop>
     ensures { outcome result ≡ checked (apply (operator_meant o) a b) }
 {
     match o {
@@ -115,18 +58,6 @@ pub fn operate(o: Operator, a: i64, b: i64) -> Worked
         Operator::Minus => difference(a, b),
         Operator::Times => product(a, b),
     }
-}
-
-fn equal(a: i64, b: i64) -> bool
-    ensures { result ≡ same_integer a b }
-{
-    a == b
-}
-
-fn less(a: i64, b: i64) -> bool
-    ensures { result ≡ lt_z a b }
-{
-    a < b
 }
 
 pub fn at_most(a: i64, b: i64) -> bool
@@ -139,21 +70,17 @@ pub fn relate(c: Comparison, a: i64, b: i64) -> bool
     ensures { result ≡ relate_of (comparison_meant c) a b }
 {
     match c {
-        Comparison::Equal => equal(a, b),
-        Comparison::Less => less(a, b),
+        Comparison::Equal => a == b,
+        Comparison::Less => a < b,
         Comparison::AtMost => at_most(a, b),
     }
 }
 
-// Refusal 15: an index is outside 0 to 63.
-pub fn place(z: i64) -> Index
+pub fn place(z: i64) -> Result<usize, Stop>
     ensures { index_outcome result ≡ index (worked z) }
 {
-    if 0 <= z {
-        let n = z as usize;
-        if n < 64 {
-            return Index::At(n);
-        }
+    match usize::try_from(z) {
+        Ok(n) if n < 64 => Ok(n),
+        _ => Err(Stop::BadIndex),
     }
-    Index::Stops(15)
 }
