@@ -2,7 +2,7 @@
 // differences and products that are checked, comparisons, and indexes that are tested.
 #![tactic(auto)]
 
-ghost use Rattle.std.specs.Prelude.{◌≡◌, ◌+ℤ◌, ◌-ℤ◌, ◌*ℤ◌};
+ghost use Rattle.std.specs.Prelude.{◌≡◌, ◌<◌, IfOk, ◌+ℤ◌, ◌-ℤ◌, ◌*ℤ◌};
 ghost use Rattle.std.specs.Int.Signed.{le_z};
 ghost use Rattle.language.specs.Store.{apply, relate as relate_of};
 ghost use Rattle.execution.specs.Evaluate.{worked, index};
@@ -77,7 +77,8 @@ pub fn relate(c: Comparison, a: i64, b: i64) -> bool
 }
 
 pub fn place(z: i64) -> Result<usize, Stop>
-    ensures { index_outcome result ≡ index (worked z) }
+    ensures outcome { index_outcome result ≡ index (worked z) }
+    ensures small { IfOk result (λ n. n < 64) }
 {
     match usize::try_from(z) {
         Ok(n) if n < 64 => Ok(n),

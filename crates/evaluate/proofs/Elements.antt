@@ -1,12 +1,11 @@
 -- The values of an array at 0 to 63, as a list.
 -- Assumes nothing.
 --     elements-length, elements-at    how many; the value at an index
---     whole                           a list that is all written over
 --     fetched, cleared                the values of an array of the store; zero everywhere
 --     set-elements                    a value replaced
 use mathlib.Core.Path.{◌≡◌, refl, sym, ap, subst, ◌∙◌}
 use mathlib.Core.Bool.{Bool, true, false, cond}
-use mathlib.Core.List.{List, ◌++◌, append-nil}
+use mathlib.Core.List.{List}
 use Prim.Native.Nat.{ℕ, zero, suc, ◌+◌, ◌*◌, ◌<◌}
 use native.Mathlib.Omega.{arith}
 use borrow.Author.Tests.{eqb-true, eqb-false}
@@ -14,8 +13,7 @@ use lib.Dec.{eqb}
 use lib.IntN.{ℤ, pos}
 use lib.ListN.{length, get_or, take, drop, set, replicate, length-take, length-drop, length-set}
 use lib.ListN.{get_or-replicate}
-use lib.ListN.{drop_of_length-le}
-use lib.Seq.{paste, ext_get_or, get_or-take, get_or-drop, get_or-set_same, get_or-set_other}
+use lib.Seq.{ext_get_or, get_or-take, get_or-drop, get_or-set_same, get_or-set_other}
 use Rattle.language.specs.Store.{same_integer, put}
 use Rattle.execution.specs.Lent.{element_at, elements_from, elements}
 
@@ -42,22 +40,16 @@ listed l f e h =
     ext_get_or (pos 0) l (elements f) (e ∙ sym (elements-length f))
     (λ j k. h j (omega arith) ∙ sym (elements-at f j (omega arith)))
 
-pub whole : (n : ℕ) (d s : List ℤ) → length d ≡ n → paste d 0 s n ≡ take n s
-whole n d s h = ap (λ (r : List ℤ). take n s ++ r) (drop_of_length-le d {i = 0 + n} (omega arith)) ∙ append-nil (take n s)
-
-pub fetched : (d vs : List ℤ) (a : ℕ) → length d ≡ 64 → a < 32 → length vs ≡ 2048 →
-    paste d 0 (drop (64 * a) vs) 64 ≡ elements (element_at vs a)
-fetched d vs a hd ha hv =
-    whole 64 d (drop (64 * a) vs) hd
+pub fetched : (vs : List ℤ) (a : ℕ) {n : ℕ} → n ≡ 64 → a < 32 → length vs ≡ 2048 →
+    take n (drop (64 * a) vs) ≡ elements (element_at vs a)
+fetched vs a e ha hv =
+    ap (λ n. take n (drop (64 * a) vs)) e
     ∙ listed (take 64 (drop (64 * a) vs)) (element_at vs a)
     (simp (length-take, length-drop) (omega arith))
     (λ j h. get_or-take 64 (drop (64 * a) vs) j (pos 0) h ∙ get_or-drop (64 * a) vs j (pos 0))
 
-pub cleared : (d : List ℤ) → length d ≡ 64 → paste d 0 (drop 0 (replicate 64 (pos 0))) 64 ≡ elements (λ i. pos 0)
-cleared d h =
-    whole 64 d (drop 0 (replicate 64 (pos 0))) h
-    ∙ listed (take 64 (drop 0 (replicate 64 (pos 0)))) (λ i. pos 0) refl
-    (λ j k. get_or-take 64 (drop 0 (replicate 64 (pos 0))) j (pos 0) k ∙ get_or-replicate 64 j (pos 0) (pos 0) k)
+pub cleared : replicate 64 (pos 0) ≡ elements (λ i. pos 0)
+cleared = listed (replicate 64 (pos 0)) (λ i. pos 0) refl (λ j k. get_or-replicate 64 j (pos 0) (pos 0) k)
 
 pub set-elements : (f : ℤ → ℤ) (n : ℕ) (v : ℤ) → n < 64 → set (elements f) n v ≡ elements (put same_integer f (pos n) v)
 set-elements f n v h =

@@ -1,16 +1,20 @@
--- What is worked out at a place is the definition's outcome of the tree that stands there, by its first word.
+-- What is worked out at a place is the definition's outcome of the tree that stands there, by its first word. A law whose
+-- name ends in -first is of a first operand that stops; one that ends in -second or -third has the outcome of that operand.
 -- Assumes nothing.
+--     passed, passed-filled                                                a stop that `?` hands on
+--     becomes, becomes-filled                                              an outcome that is another
+--     indexed                                                              an index as the code holds it
 --     after_both                                                           one outcome after another
---     held-worked                                                          a number as the code holds it
---     constant-worked, scalar-worked, operation-worked                     arithmetic
---     element_worked, select-worked                                        a select, from an array of the store and from any
---     identifier-filled, zeros-filled, update-filled                       arrays
---     compare-tested, truth-tested, and-tested, or-tested, not_tested      booleans
---     and-settled, or-settled                                              by the left side alone
+--     constant-worked, scalar-worked, operation-first, operation-second    arithmetic
+--     element_worked, select-first, select-second                          a select, from an array of the store and from any
+--     identifier-filled, zeros-filled, update-first, update-second,
+--     update-third                                                         arrays
+--     truth-tested, compare-first, compare-second, not_tested              booleans
+--     and-first, and-second, and-settled, or-first, or-second, or-settled
 use mathlib.Core.Path.{◌≡◌, refl, sym, ap, ◌∙◌}
 use mathlib.Core.Bool.{Bool, true, false, not, cond, ◌&&◌}
 use mathlib.Core.List.{List}
-use Prim.Native.Nat.{ℕ, ◌+◌, ◌*◌, ◌<◌}
+use Prim.Native.Nat.{ℕ, ◌+◌, ◌<◌}
 use native.Mathlib.Omega.{arith}
 use borrow.Author.Tests.{leb-true}
 use lib.Dec.{leb}
@@ -18,10 +22,12 @@ use lib.IntN.{ℤ, pos, negsuc}
 use lib.ListN.{get_or, set}
 use mir.Syntax.{w64}
 use mir.Val.{SFits, to_z, of_z}
+use Rattle.std.specs.Prelude.{Result, Ok, Err, IsErrAnd}
 use Rattle.laws.proofs.Bools.{and_right}
 use Rattle.language.specs.Syntax as syntax
-use Rattle.language.specs.Syntax.{select}
-use Rattle.language.specs.Store.{same_integer, put, apply, relate}
+use Rattle.language.specs.Syntax.{Sort, Expr, select}
+use Rattle.language.specs.Store.{Value, same_integer, put, apply, relate}
+use Rattle.layout.specs.EvidenceWords.{expression_part}
 use Rattle.execution.specs.Lent.{lent, store_of, element_at, elements}
 use Rattle.execution.specs.Evaluate.{Evaluation, worked, stops, on_worked, tested, index, evaluate}
 use Rattle.words.specs.Meaning.{operator_meant, comparison_meant}
@@ -30,12 +36,12 @@ use Rattle.words.specs.declared.Comparison.{Comparison}
 use Rattle.words.specs.declared.ArithmeticWord.TheVariants.{Constant, Scalar, Operation, Select}
 use Rattle.words.specs.declared.BooleanWord.TheVariants.{Compare, Truth, And, Or, Not}
 use Rattle.words.specs.declared.ArrayWord.TheVariants.{Identifier, Zeros, Update}
-use Rattle.heads.specs.Stands.{arithmetic_at, boolean_at, array_at}
+use Rattle.heads.specs.Stands.{PartAt, arithmetic_at, boolean_at, array_at}
 use Rattle.heads.proofs.Parts.{arithmetic-parts, boolean-parts, array_parts}
-use Rattle.arithmetic.specs.Worked.{checked}
-use Rattle.arithmetic.proofs.Signed.{back, held_two}
-use Rattle.evaluate.specs.Evaluated.{Answered, Indexes, Evaluates, Fills}
-use Rattle.evaluate.proofs.Answers.{answered, answered-as, held, onward}
+use Rattle.arithmetic.specs.Worked.{refusal_number, outcome, checked}
+use Rattle.arithmetic.specs.declared.Stop.{Stop}
+use Rattle.arithmetic.proofs.Signed.{back}
+use Rattle.evaluate.specs.Evaluated.{filled, Evaluates, Fills}
 use Rattle.evaluate.proofs.Elements.{elements-at, set-elements}
 use Rattle.evaluate.proofs.Places.{moved}
 
@@ -94,206 +100,290 @@ update-is (worked f) i a =
     ∙ sym (after_both (index i) (λ v. on_worked a λ w. worked (put same_integer f v w)) (λ g. worked (elements g)))
 update-is (stops k) i a = refl
 
-indexed : {s s' : List ℕ} {i : ℤ} {n : ℕ} → SFits w64 i → Indexes s (to_z w64 (of_z w64 i)) n s' →
-    Answered s (index (worked i)) (pos n) s'
-indexed f k = answered-as (ap (λ z. index (worked z)) (back f)) k.is
+-- what `?` hands on
+told : {A : Type 0} (r : Result A Stop) (e : Stop) → IsErrAnd r (λ d. d ≡ e) → outcome r ≡ stops (refusal_number e)
+told (Ok a) e h = absurd h
+told (Err d) e h = ap (λ d. stops (refusal_number d)) h
 
-module _ {w ends : List ℕ} {ss vs : List ℤ} {at : ℕ} {s : List ℕ} where
+told-filled : {A : Type 0} (r : Result A Stop) (l : List ℤ) (e : Stop) → IsErrAnd r (λ d. d ≡ e) →
+    filled r l ≡ stops (refusal_number e)
+told-filled (Ok a) l e h = absurd h
+told-filled (Err d) l e h = ap (λ d. stops (refusal_number d)) h
+
+pub passed : {k : Sort} {w ends : List ℕ} {ss vs : List ℤ} {at : ℕ} (r : Result (Value k) Stop) (e : Stop) →
+    IsErrAnd r (λ d. d ≡ e) → Evaluates k w ends ss vs at (stops (refusal_number e)) →
+    Evaluates k w ends ss vs at (outcome r)
+passed r e h f = record { is = λ x p t. told r e h ∙ f.is x p t }
+
+pub passed-filled : {A : Type 0} {w ends : List ℕ} {ss vs : List ℤ} {at : ℕ} (r : Result A Stop) (l : List ℤ)
+    (e : Stop) → IsErrAnd r (λ d. d ≡ e) → Fills w ends ss vs at (stops (refusal_number e)) →
+    Fills w ends ss vs at (filled r l)
+passed-filled r l e h f = record { is = λ x p t. told-filled r l e h ∙ f.is x p t }
+
+-- of an outcome that is another
+pub becomes : {k : Sort} {w ends : List ℕ} {ss vs : List ℤ} {at : ℕ} {o o' : Evaluation (Value k)} → o ≡ o' →
+    Evaluates k w ends ss vs at o' → Evaluates k w ends ss vs at o
+becomes q f = record { is = λ e p x. q ∙ f.is e p x }
+
+pub becomes-filled : {w ends : List ℕ} {ss vs : List ℤ} {at : ℕ} {o o' : Evaluation (List ℤ)} → o ≡ o' →
+    Fills w ends ss vs at o' → Fills w ends ss vs at o
+becomes-filled q f = record { is = λ e p x. q ∙ f.is e p x }
+
+-- an index as the code holds it
+pub indexed : {o : Evaluation ℤ} (z : ℤ) → SFits w64 z → o ≡ index (worked (to_z w64 (of_z w64 z))) →
+    o ≡ index (worked z)
+indexed z f h = h ∙ ap (λ z. index (worked z)) (back f)
+
+-- an index that is worked out, then tested
+tested-at : {A : Type 0} {w ends : List ℕ} {ss vs : List ℤ} {q : ℕ} {i j : Evaluation ℤ} (f : ℤ → Evaluation A) →
+    j ≡ index i → Evaluates syntax.Arithmetic w ends ss vs q i → (e : Expr syntax.Arithmetic) (p : ℕ) →
+    PartAt w ends (expression_part e) q p → on_worked j f ≡ on_worked (index (evaluate e (store_of (lent ss vs)))) f
+tested-at f k g e p x = ap (λ y. on_worked y f) (k ∙ ap index (g.is e p x))
+
+module _ {w ends : List ℕ} {ss vs : List ℤ} {at : ℕ} where
   pub constant-worked : (z : ℤ) → SFits w64 z → arithmetic_at w at ≡ Constant z →
-      Evaluates syntax.Arithmetic w ends ss vs at s (to_z w64 (of_z w64 z)) s
+      Evaluates syntax.Arithmetic w ends ss vs at (worked (to_z w64 (of_z w64 z)))
   unfolding evaluate
   constant-worked z f h = record {
-    is = λ e p t.
-        answered-as (sym (ap (λ x. evaluate x (store_of (lent ss vs))) (arithmetic-parts e t h))) (answered (back f));
+    is = λ e p t. let m = store_of (lent ss vs) in ap worked (back f) ∙ sym (ap (λ x. evaluate x m) (arithmetic-parts e t h));
   }
 
-  pub scalar-worked : (x : ℕ) (z : ℤ) → SFits w64 z → arithmetic_at w at ≡ Scalar x → z ≡ get_or ss x (pos 0) →
-      Evaluates syntax.Arithmetic w ends ss vs at s (to_z w64 (of_z w64 z)) s
+  pub scalar-worked : (x : ℕ) → SFits w64 (get_or ss x (pos 0)) → arithmetic_at w at ≡ Scalar x →
+      Evaluates syntax.Arithmetic w ends ss vs at (worked (to_z w64 (of_z w64 (get_or ss x (pos 0)))))
   unfolding evaluate
-  scalar-worked x z f h q = record {
-    is = λ e p t.
-        answered-as (sym (ap (λ y. evaluate y (store_of (lent ss vs))) (arithmetic-parts e t h).0))
-        (answered (back f ∙ q));
+  scalar-worked x f h = record {
+    is = λ e p t. let m = store_of (lent ss vs) in ap worked (back f) ∙ sym (ap (λ y. evaluate y m) (arithmetic-parts e t h).0);
   }
-
-  pub held-worked : {z : ℤ} {s₁ : List ℕ} → SFits w64 z → Evaluates syntax.Arithmetic w ends ss vs at s z s₁ →
-      Evaluates syntax.Arithmetic w ends ss vs at s (to_z w64 (of_z w64 z)) s₁
-  held-worked f h = record { is = λ e p t. held f (h.is e p t) }
 
   pub identifier-filled : (a : ℕ) (l : List ℤ) → array_at w at ≡ Identifier a → l ≡ elements (element_at vs a) →
-      Fills w ends ss vs at s l s
+      Fills w ends ss vs at (worked l)
   unfolding evaluate
   identifier-filled a l h q = record {
-    is = λ e p t.
-        answered-as
-        (sym (ap (λ y. on_worked (evaluate y (store_of (lent ss vs))) λ f. worked (elements f)) (array_parts e t h).0))
-        (answered q);
+    is = λ e p t. let m = store_of (lent ss vs) in
+        ap worked q
+        ∙ sym (ap (λ y. on_worked (evaluate y m) λ f. worked (elements f)) (array_parts e t h).0);
   }
 
-  pub zeros-filled : (l : List ℤ) → array_at w at ≡ Zeros → l ≡ elements (λ i. pos 0) → Fills w ends ss vs at s l s
+  pub zeros-filled : (l : List ℤ) → array_at w at ≡ Zeros → l ≡ elements (λ i. pos 0) → Fills w ends ss vs at (worked l)
   unfolding evaluate
   zeros-filled l h q = record {
-    is = λ e p t.
-        answered-as
-        (sym (ap (λ y. on_worked (evaluate y (store_of (lent ss vs))) λ f. worked (elements f)) (array_parts e t h)))
-        (answered q);
+    is = λ e p t. let m = store_of (lent ss vs) in
+        ap worked q ∙ sym (ap (λ y. on_worked (evaluate y m) λ f. worked (elements f)) (array_parts e t h));
   }
 
-  pub truth-tested : (t : Bool) → boolean_at w at ≡ Truth t → Evaluates syntax.Boolean w ends ss vs at s t s
+  pub truth-tested : (t : Bool) → boolean_at w at ≡ Truth t → Evaluates syntax.Boolean w ends ss vs at (worked t)
   unfolding evaluate
-  truth-tested t h = record {
-    is = λ e p x.
-        answered-as (sym (ap (λ y. evaluate y (store_of (lent ss vs))) (boolean-parts e x h))) (answered refl);
-  }
+  truth-tested t h = record { is = λ e p x. let m = store_of (lent ss vs) in sym (ap (λ y. evaluate y m) (boolean-parts e x h)) }
 
-  pub not_tested : {a r : Bool} {s₁ : List ℕ} → boolean_at w at ≡ Not →
-      Evaluates syntax.Boolean w ends ss vs (at + 1) s a s₁ → r ≡ not a → Evaluates syntax.Boolean w ends ss vs at s r s₁
+  -- the outcome of a first operand
+  module _ {o : Evaluation Bool} (f : Evaluates syntax.Boolean w ends ss vs (at + 1) o) where
+    pub not_tested : boolean_at w at ≡ Not → Evaluates syntax.Boolean w ends ss vs at (on_worked o λ v. worked (not v))
+    unfolding evaluate
+    not_tested h = record {
+      is = λ e p x. let m = store_of (lent ss vs) in
+          let t = boolean-parts e x h in
+          ap (λ y. on_worked y λ v. worked (not v)) (f.is t.first p t.first-at) ∙ sym (ap (λ y. evaluate y m) t.is);
+    }
+
+  module _ {k : ℕ} where
+    pub operation-first : {o : Operator} → Evaluates syntax.Arithmetic w ends ss vs (at + 1) (stops k) →
+        arithmetic_at w at ≡ Operation o → Evaluates syntax.Arithmetic w ends ss vs at (stops k)
+    unfolding evaluate checked
+    operation-first {o} f h = record {
+      is = λ e p x. let m = store_of (lent ss vs) in
+          let t = arithmetic-parts e x h in
+          ap (λ y. on_worked y λ v. on_worked (evaluate t.second m) λ z. checked (apply (operator_meant o) v z))
+          (f.is t.first t.middle t.first-at)
+          ∙ sym (ap (λ y. evaluate y m) t.is);
+    }
+
+    pub compare-first : {c : Comparison} → Evaluates syntax.Arithmetic w ends ss vs (at + 1) (stops k) →
+        boolean_at w at ≡ Compare c → Evaluates syntax.Boolean w ends ss vs at (stops k)
+    unfolding evaluate
+    compare-first {c} f h = record {
+      is = λ e p x. let m = store_of (lent ss vs) in
+          let t = boolean-parts e x h in
+          ap (λ y. on_worked y λ v. on_worked (evaluate t.second m) λ z. worked (relate (comparison_meant c) v z))
+          (f.is t.first t.middle t.first-at)
+          ∙ sym (ap (λ y. evaluate y m) t.is);
+    }
+
+    pub and-first : Evaluates syntax.Boolean w ends ss vs (at + 1) (stops k) → boolean_at w at ≡ And →
+        Evaluates syntax.Boolean w ends ss vs at (stops k)
+    unfolding evaluate
+    and-first f h = record {
+      is = λ e p x. let m = store_of (lent ss vs) in
+          let t = boolean-parts e x h in
+          ap (λ y. on_worked y λ v. cond v (evaluate t.second m) (worked false)) (f.is t.first t.middle t.first-at)
+          ∙ sym (ap (λ y. evaluate y m) t.is);
+    }
+
+    pub or-first : Evaluates syntax.Boolean w ends ss vs (at + 1) (stops k) → boolean_at w at ≡ Or →
+        Evaluates syntax.Boolean w ends ss vs at (stops k)
+    unfolding evaluate
+    or-first f h = record {
+      is = λ e p x. let m = store_of (lent ss vs) in
+          let t = boolean-parts e x h in
+          ap (λ y. on_worked y λ v. cond v (worked true) (evaluate t.second m)) (f.is t.first t.middle t.first-at)
+          ∙ sym (ap (λ y. evaluate y m) t.is);
+    }
+
+    pub select-first : Fills w ends ss vs (at + 1) (stops k) → arithmetic_at w at ≡ Select →
+        Evaluates syntax.Arithmetic w ends ss vs at (stops k)
+    unfolding evaluate
+    select-first f h = record {
+      is = λ e p x. let m = store_of (lent ss vs) in
+          let t = arithmetic-parts e x h in
+          ap (λ y. on_worked y (entered (evaluate t.second m))) (f.is t.first t.middle t.first-at)
+          ∙ select-is (evaluate t.first m) (evaluate t.second m)
+          ∙ sym (ap (λ y. evaluate y m) t.is);
+    }
+
+    pub update-first : Fills w ends ss vs (at + 1) (stops k) → array_at w at ≡ Update →
+        Fills w ends ss vs at (stops k)
+    unfolding evaluate
+    update-first f h = record {
+      is = λ e p x. let m = store_of (lent ss vs) in
+          let t = array_parts e x h in
+          ap (λ y. on_worked y (replaced (evaluate t.second m) (evaluate t.third m))) (f.is t.first t.middle t.first-at)
+          ∙ update-is (evaluate t.first m) (evaluate t.second m) (evaluate t.third m)
+          ∙ sym (ap (λ y. on_worked (evaluate y m) λ f. worked (elements f)) t.is);
+    }
+
+  -- the left side settles the test
+  pub and-settled : {a : Bool} → Evaluates syntax.Boolean w ends ss vs (at + 1) (worked a) → boolean_at w at ≡ And →
+      a ≡ false → Evaluates syntax.Boolean w ends ss vs at (worked a)
   unfolding evaluate
-  not_tested h f q = record {
-    is = λ e p x.
+  and-settled f h i = record {
+    is = λ e p x. let m = store_of (lent ss vs) in
         let t = boolean-parts e x h in
-        answered-as (sym (ap (λ y. evaluate y (store_of (lent ss vs))) t.is))
-        (onward (λ v. worked (not v)) (f.is t.first p t.first-at) (answered q));
+        ap worked i ∙ ap (λ a. cond a (evaluate t.second m) (worked false)) (sym i)
+        ∙ ap (λ y. on_worked y λ v. cond v (evaluate t.second m) (worked false)) (f.is t.first t.middle t.first-at)
+        ∙ sym (ap (λ y. evaluate y m) t.is);
   }
 
-  -- the left side settles the test, whose value is then its own
-  module _ {a : Bool} {s₁ : List ℕ} (f : Evaluates syntax.Boolean w ends ss vs (at + 1) s a s₁) where
-    pub and-settled : boolean_at w at ≡ And → a ≡ false → Evaluates syntax.Boolean w ends ss vs at s a s₁
-    unfolding evaluate
-    and-settled h i = record {
-      is = λ e p x.
-          let t = boolean-parts e x h in
-          let m = store_of (lent ss vs) in
-          answered-as (sym (ap (λ y. evaluate y m) t.is))
-          (onward (λ v. cond v (evaluate t.second m) (worked false)) (f.is t.first t.middle t.first-at)
-          (rw i (answered refl)));
-    }
-
-    pub or-settled : boolean_at w at ≡ Or → a ≡ true → Evaluates syntax.Boolean w ends ss vs at s a s₁
-    unfolding evaluate
-    or-settled h i = record {
-      is = λ e p x.
-          let t = boolean-parts e x h in
-          let m = store_of (lent ss vs) in
-          answered-as (sym (ap (λ y. evaluate y m) t.is))
-          (onward (λ v. cond v (worked true) (evaluate t.second m)) (f.is t.first t.middle t.first-at)
-          (rw i (answered refl)));
-    }
+  pub or-settled : {a : Bool} → Evaluates syntax.Boolean w ends ss vs (at + 1) (worked a) → boolean_at w at ≡ Or →
+      a ≡ true → Evaluates syntax.Boolean w ends ss vs at (worked a)
+  unfolding evaluate
+  or-settled f h i = record {
+    is = λ e p x. let m = store_of (lent ss vs) in
+        let t = boolean-parts e x h in
+        ap worked i ∙ ap (λ a. cond a (worked true) (evaluate t.second m)) (sym i)
+        ∙ ap (λ y. on_worked y λ v. cond v (worked true) (evaluate t.second m)) (f.is t.first t.middle t.first-at)
+        ∙ sym (ap (λ y. evaluate y m) t.is);
+  }
 
   -- the second operand stands where the first ends
-  module _ {q : ℕ} (next : q ≡ get_or ends (at + 1) 0) {s₁ s₂ : List ℕ} where
-    module _ {a b : ℤ} (f : Evaluates syntax.Arithmetic w ends ss vs (at + 1) s a s₁)
-        (g : Evaluates syntax.Arithmetic w ends ss vs q s₁ b s₂) (fa : SFits w64 a) (fb : SFits w64 b) where
-      pub operation-worked : {o : Operator} {r : ℤ} {s₃ : List ℕ} → SFits w64 r → arithmetic_at w at ≡ Operation o →
-          Answered s₂ (checked (apply (operator_meant o) (to_z w64 (of_z w64 a)) (to_z w64 (of_z w64 b)))) r s₃ →
-          Evaluates syntax.Arithmetic w ends ss vs at s (to_z w64 (of_z w64 r)) s₃
+  module _ {q : ℕ} (next : q ≡ get_or ends (at + 1) 0) where
+    module _ {a : ℤ} {o : Evaluation ℤ} (f : Evaluates syntax.Arithmetic w ends ss vs (at + 1) (worked a))
+        (g : Evaluates syntax.Arithmetic w ends ss vs q o) where
+      pub operation-second : {c : Operator} → arithmetic_at w at ≡ Operation c →
+          Evaluates syntax.Arithmetic w ends ss vs at (on_worked o λ b. checked (apply (operator_meant c) a b))
       unfolding evaluate checked
-      operation-worked {o} fr h i = record {
-        is = λ e p x.
+      operation-second {c} h = record {
+        is = λ e p x. let m = store_of (lent ss vs) in
             let t = arithmetic-parts e x h in
-            let m = store_of (lent ss vs) in
-            answered-as (sym (ap (λ y. evaluate y m) t.is))
-            (onward (λ v. on_worked (evaluate t.second m) λ z. checked (apply (operator_meant o) v z))
-            (f.is t.first t.middle t.first-at)
-            (onward (λ z. checked (apply (operator_meant o) a z))
+            ap (λ y. on_worked y λ b. checked (apply (operator_meant c) a b))
             (g.is t.second p (moved t.first next t.first-at t.second_at))
-            (held fr (answered-as (held_two (λ x y. checked (apply (operator_meant o) x y)) fa fb) i))));
-      }
-
-      pub compare-tested : {c : Comparison} {r : Bool} → boolean_at w at ≡ Compare c →
-          r ≡ relate (comparison_meant c) (to_z w64 (of_z w64 a)) (to_z w64 (of_z w64 b)) →
-          Evaluates syntax.Boolean w ends ss vs at s r s₂
-      unfolding evaluate
-      compare-tested {c} h i = record {
-        is = λ e p x.
-            let t = boolean-parts e x h in
-            let m = store_of (lent ss vs) in
-            answered-as (sym (ap (λ y. evaluate y m) t.is))
-            (onward (λ v. on_worked (evaluate t.second m) λ z. worked (relate (comparison_meant c) v z))
+            ∙ ap (λ y. on_worked y λ v. on_worked (evaluate t.second m) λ z. checked (apply (operator_meant c) v z))
             (f.is t.first t.middle t.first-at)
-            (onward (λ z. worked (relate (comparison_meant c) a z))
+            ∙ sym (ap (λ y. evaluate y m) t.is);
+      }
+
+      pub compare-second : {c : Comparison} → boolean_at w at ≡ Compare c →
+          Evaluates syntax.Boolean w ends ss vs at (on_worked o λ b. worked (relate (comparison_meant c) a b))
+      unfolding evaluate
+      compare-second {c} h = record {
+        is = λ e p x. let m = store_of (lent ss vs) in
+            let t = boolean-parts e x h in
+            ap (λ y. on_worked y λ b. worked (relate (comparison_meant c) a b))
             (g.is t.second p (moved t.first next t.first-at t.second_at))
-            (answered (i ∙ held_two (relate (comparison_meant c)) fa fb))));
+            ∙ ap (λ y. on_worked y λ v. on_worked (evaluate t.second m) λ z. worked (relate (comparison_meant c) v z))
+            (f.is t.first t.middle t.first-at)
+            ∙ sym (ap (λ y. evaluate y m) t.is);
       }
 
-    -- the left side does not settle the test, so that the right side's value is the test's
-    module _ {a b : Bool} (f : Evaluates syntax.Boolean w ends ss vs (at + 1) s a s₁)
-        (g : Evaluates syntax.Boolean w ends ss vs q s₁ b s₂) where
-      pub and-tested : boolean_at w at ≡ And → a ≡ true → Evaluates syntax.Boolean w ends ss vs at s b s₂
+    -- the left side does not settle the test, so that the right side's outcome is the test's
+    module _ {a : Bool} {o : Evaluation Bool} (f : Evaluates syntax.Boolean w ends ss vs (at + 1) (worked a))
+        (g : Evaluates syntax.Boolean w ends ss vs q o) where
+      pub and-second : boolean_at w at ≡ And → a ≡ true → Evaluates syntax.Boolean w ends ss vs at o
       unfolding evaluate
-      and-tested h i = record {
-        is = λ e p x.
+      and-second h i = record {
+        is = λ e p x. let m = store_of (lent ss vs) in
             let t = boolean-parts e x h in
-            let m = store_of (lent ss vs) in
-            answered-as (sym (ap (λ y. evaluate y m) t.is))
-            (onward (λ v. cond v (evaluate t.second m) (worked false)) (f.is t.first t.middle t.first-at)
-            (rw i (g.is t.second p (moved t.first next t.first-at t.second_at))));
+            g.is t.second p (moved t.first next t.first-at t.second_at)
+            ∙ ap (λ a. cond a (evaluate t.second m) (worked false)) (sym i)
+            ∙ ap (λ y. on_worked y λ v. cond v (evaluate t.second m) (worked false)) (f.is t.first t.middle t.first-at)
+            ∙ sym (ap (λ y. evaluate y m) t.is);
       }
 
-      pub or-tested : boolean_at w at ≡ Or → a ≡ false → Evaluates syntax.Boolean w ends ss vs at s b s₂
+      pub or-second : boolean_at w at ≡ Or → a ≡ false → Evaluates syntax.Boolean w ends ss vs at o
       unfolding evaluate
-      or-tested h i = record {
-        is = λ e p x.
+      or-second h i = record {
+        is = λ e p x. let m = store_of (lent ss vs) in
             let t = boolean-parts e x h in
-            let m = store_of (lent ss vs) in
-            answered-as (sym (ap (λ y. evaluate y m) t.is))
-            (onward (λ v. cond v (worked true) (evaluate t.second m)) (f.is t.first t.middle t.first-at)
-            (rw i (g.is t.second p (moved t.first next t.first-at t.second_at))));
+            g.is t.second p (moved t.first next t.first-at t.second_at)
+            ∙ ap (λ a. cond a (worked true) (evaluate t.second m)) (sym i)
+            ∙ ap (λ y. on_worked y λ v. cond v (worked true) (evaluate t.second m)) (f.is t.first t.middle t.first-at)
+            ∙ sym (ap (λ y. evaluate y m) t.is);
       }
 
-    -- an array of the store, then an index n that is tested
-    pub element_worked : {a : ℕ} {i z : ℤ} {n : ℕ} → Evaluates syntax.Arithmetic w ends ss vs q s i s₁ → SFits w64 i →
-        Indexes s₁ (to_z w64 (of_z w64 i)) n s₂ → arithmetic_at w at ≡ Select → array_at w (at + 1) ≡ Identifier a → SFits w64 z →
-        z ≡ get_or vs (64 * a + n) (pos 0) → Evaluates syntax.Arithmetic w ends ss vs at s (to_z w64 (of_z w64 z)) s₂
+    -- an index, worked out to i and tested to j
+    module _ {i j : Evaluation ℤ} (g : Evaluates syntax.Arithmetic w ends ss vs q i) (k : j ≡ index i) where
+      -- of an array of the store
+      pub element_worked : {a : ℕ} → arithmetic_at w at ≡ Select → array_at w (at + 1) ≡ Identifier a →
+          Evaluates syntax.Arithmetic w ends ss vs at (on_worked j λ v. worked (element_at vs a v))
+      unfolding evaluate
+      element_worked {a} h y = record {
+        is = λ e p x. let m = store_of (lent ss vs) in
+            let t = arithmetic-parts e x h in
+            tested-at (λ v. worked (element_at vs a v)) k g t.second p (moved t.first next t.first-at t.second_at)
+            ∙ sym (ap (λ y. evaluate y m) t.is
+            ∙ ap (λ y. evaluate (select y t.second) m) (array_parts t.first t.first-at y).0);
+      }
+
+      -- of any array
+      module _ {l : List ℤ} (f : Fills w ends ss vs (at + 1) (worked l)) where
+        pub select-second : arithmetic_at w at ≡ Select →
+            Evaluates syntax.Arithmetic w ends ss vs at (on_worked j λ v. worked (entry l v))
+        unfolding evaluate
+        select-second h = record {
+          is = λ e p x. let m = store_of (lent ss vs) in
+              let t = arithmetic-parts e x h in
+              tested-at (λ v. worked (entry l v)) k g t.second p (moved t.first next t.first-at t.second_at)
+              ∙ ap (λ y. on_worked y (entered (evaluate t.second m))) (f.is t.first t.middle t.first-at)
+              ∙ select-is (evaluate t.first m) (evaluate t.second m)
+              ∙ sym (ap (λ y. evaluate y m) t.is);
+        }
+
+    -- the index of an update stops
+    pub update-second : {i : Evaluation ℤ} {k : ℕ} {l : List ℤ} → Evaluates syntax.Arithmetic w ends ss vs q i →
+        stops k ≡ index i → Fills w ends ss vs (at + 1) (worked l) → array_at w at ≡ Update →
+        Fills w ends ss vs at (stops k)
     unfolding evaluate
-    element_worked {a} g fi k h y fz j = record {
-      is = λ e p x.
-          let t = arithmetic-parts e x h in
-          let m = store_of (lent ss vs) in
-          let second = moved t.first next t.first-at t.second_at in
-          answered-as
-          (sym (ap (λ y. evaluate y m) t.is
-          ∙ ap (λ y. evaluate (select y t.second) m) (array_parts t.first t.first-at y).0))
-          (onward (λ v. worked (element_at vs a v))
-          (onward (λ v. index (worked v)) (g.is t.second p second) (indexed fi k)) (answered (back fz ∙ j)));
+    update-second {i} {k} {l} g j f h = record {
+      is = λ e p x. let m = store_of (lent ss vs) in
+          let t = array_parts e x h in
+          tested-at (λ v. on_worked (evaluate t.third m) λ z. worked (with_entry l v z)) j g t.second t.last
+          (moved t.first next t.first-at t.second_at)
+          ∙ ap (λ y. on_worked y (replaced (evaluate t.second m) (evaluate t.third m))) (f.is t.first t.middle t.first-at)
+          ∙ update-is (evaluate t.first m) (evaluate t.second m) (evaluate t.third m)
+          ∙ sym (ap (λ y. on_worked (evaluate y m) λ f. worked (elements f)) t.is);
     }
 
-    -- any array, then an index n that is tested
-    module _ {l : List ℤ} {i : ℤ} {n : ℕ} {s₃ : List ℕ} (f : Fills w ends ss vs (at + 1) s l s₁)
-        (g : Evaluates syntax.Arithmetic w ends ss vs q s₁ i s₂) (fi : SFits w64 i)
-        (k : Indexes s₂ (to_z w64 (of_z w64 i)) n s₃) where
-      pub select-worked : {r : ℤ} → SFits w64 r → arithmetic_at w at ≡ Select → r ≡ get_or l n (pos 0) →
-          Evaluates syntax.Arithmetic w ends ss vs at s (to_z w64 (of_z w64 r)) s₃
-      unfolding evaluate
-      select-worked fr h j = record {
-        is = λ e p x.
-            let t = arithmetic-parts e x h in
-            let m = store_of (lent ss vs) in
-            let second = moved t.first next t.first-at t.second_at in
-            answered-as
-            (select-is (evaluate t.first m) (evaluate t.second m) ∙ sym (ap (λ y. evaluate y m) t.is))
-            (onward (entered (evaluate t.second m)) (f.is t.first t.middle t.first-at)
-            (onward (λ v. worked (entry l v)) (onward (λ v. index (worked v)) (g.is t.second p second) (indexed fi k))
-            (answered (back fr ∙ j))));
-      }
-
-      pub update-filled : {o : ℕ} {z : ℤ} {c : List ℤ} {s₄ : List ℕ} → o ≡ get_or ends q 0 → array_at w at ≡ Update →
-          Evaluates syntax.Arithmetic w ends ss vs o s₃ z s₄ → SFits w64 z → c ≡ set l n (to_z w64 (of_z w64 z)) →
-          Fills w ends ss vs at s c s₄
-      unfolding evaluate
-      update-filled last h y fz j = record {
-        is = λ e p x.
-            let t = array_parts e x h in
-            let m = store_of (lent ss vs) in
-            let second = moved t.first next t.first-at t.second_at in
-            let third = moved t.second last second t.third_at in
-            answered-as
-            (update-is (evaluate t.first m) (evaluate t.second m) (evaluate t.third m)
-            ∙ sym (ap (λ y. on_worked (evaluate y m) λ f. worked (elements f)) t.is))
-            (onward (replaced (evaluate t.second m) (evaluate t.third m))
-            (f.is t.first t.middle t.first-at)
-            (onward (λ v. on_worked (evaluate t.third m) λ z. worked (with_entry l v z))
-            (onward (λ v. index (worked v)) (g.is t.second t.last second) (indexed fi k))
-            (onward (λ z. worked (with_entry l (pos n) z)) (y.is t.third p third)
-            (answered (j ∙ ap (set l n) (back fz))))));
-      }
+    -- the value of an update, after its index n
+    pub update-third : {i o : Evaluation ℤ} {n r : ℕ} {l : List ℤ} → Evaluates syntax.Arithmetic w ends ss vs q i →
+        worked (pos n) ≡ index i → Fills w ends ss vs (at + 1) (worked l) → r ≡ get_or ends q 0 →
+        Evaluates syntax.Arithmetic w ends ss vs r o → array_at w at ≡ Update →
+        Fills w ends ss vs at (on_worked o λ z. worked (set l n z))
+    unfolding evaluate
+    update-third {i} {o} {n} {r} {l} g j f last y h = record {
+      is = λ e p x. let m = store_of (lent ss vs) in
+          let t = array_parts e x h in
+          let second = moved t.first next t.first-at t.second_at in
+          ap (λ y. on_worked y λ z. worked (set l n z)) (y.is t.third p (moved t.second last second t.third_at))
+          ∙ tested-at (λ v. on_worked (evaluate t.third m) λ z. worked (with_entry l v z)) j g t.second t.last second
+          ∙ ap (λ y. on_worked y (replaced (evaluate t.second m) (evaluate t.third m))) (f.is t.first t.middle t.first-at)
+          ∙ update-is (evaluate t.first m) (evaluate t.second m) (evaluate t.third m)
+          ∙ sym (ap (λ y. on_worked (evaluate y m) λ f. worked (elements f)) t.is);
+    }

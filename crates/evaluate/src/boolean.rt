@@ -2,10 +2,11 @@
 // request [1]). The words left from a place on fall.
 ghost use Rattle.language.specs.Syntax.{Boolean};
 ghost use Rattle.heads.specs.Stands.{ExpressionStands};
+ghost use Rattle.arithmetic.specs.Worked.{outcome};
 ghost use Rattle.evaluate.specs.Evaluated.{Evaluates};
 
-use super::Progress;
 use super::expression::eval_operand;
+use arithmetic::{Stop, relate};
 use ends::end_at;
 use heads::boolean_head;
 use words::BooleanWord;
@@ -16,33 +17,31 @@ pub fn eval_boolean(
     at: usize,
     scalars: &[i64; 32],
     values: &[i64; 2048],
-    progress: &mut Progress,
-) -> bool
+) -> Result<bool, Stop>
     requires { ExpressionStands w.now ends.now Boolean «at» }
-    ensures { Evaluates Boolean w.now ends.now scalars.now values.now
-        «at» progress.old result progress.new }
+    ensures { Evaluates Boolean w.now ends.now scalars.now values.now «at» (outcome result) }
 {
     let head = boolean_head(w, at);
     match head {
         BooleanWord::Compare(c) => {
-            let a = eval_operand(w, ends, at + 1, scalars, values, progress);
+            let a = eval_operand(w, ends, at + 1, scalars, values)?;
             let second = end_at(ends, at + 1);
-            let b = eval_operand(w, ends, second, scalars, values, progress);
-            arithmetic::relate(c, a, b)
+            let b = eval_operand(w, ends, second, scalars, values)?;
+            Ok(relate(c, a, b))
         }
-        BooleanWord::Truth(t) => t,
+        BooleanWord::Truth(t) => Ok(t),
         BooleanWord::And => {
-            let a = eval_boolean(w, ends, at + 1, scalars, values, progress);
-            a && eval_boolean(w, ends, end_at(ends, at + 1), scalars, values, progress)
+            let a = eval_boolean(w, ends, at + 1, scalars, values)?;
+            Ok(a && eval_boolean(w, ends, end_at(ends, at + 1), scalars, values)?)
         }
         BooleanWord::Or => {
-            let a = eval_boolean(w, ends, at + 1, scalars, values, progress);
-            a || eval_boolean(w, ends, end_at(ends, at + 1), scalars, values, progress)
+            let a = eval_boolean(w, ends, at + 1, scalars, values)?;
+            Ok(a || eval_boolean(w, ends, end_at(ends, at + 1), scalars, values)?)
         }
         BooleanWord::Not => {
-            let a = eval_boolean(w, ends, at + 1, scalars, values, progress);
-            !a
+            let a = eval_boolean(w, ends, at + 1, scalars, values)?;
+            Ok(!a)
         }
-        BooleanWord::Other => false,
+        BooleanWord::Other => unreachable!(),
     }
 }

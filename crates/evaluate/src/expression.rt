@@ -1,11 +1,11 @@
 // Arithmetic and array expressions. The words left from a place on fall.
 ghost use Rattle.language.specs.Syntax.{Arithmetic, Array};
 ghost use Rattle.heads.specs.Stands.{ExpressionStands};
-ghost use Rattle.evaluate.specs.Evaluated.{CanSelect, Evaluates, Fills};
+ghost use Rattle.arithmetic.specs.Worked.{outcome};
+ghost use Rattle.evaluate.specs.Evaluated.{CanSelect, Evaluates, Fills, filled};
 
-use super::Progress;
-use super::stop::{operate, to_index};
-use super::store::{clear, fetch, put_at, value_at};
+use super::store::fetch;
+use arithmetic::{Stop, operate, place};
 use ends::end_at;
 use heads::{arithmetic_head, array_head};
 use words::{ArithmeticWord, ArrayWord};
@@ -18,17 +18,15 @@ pub fn eval_operand(
     at: usize,
     scalars: &[i64; 32],
     values: &[i64; 2048],
-    progress: &mut Progress,
-) -> i64
+) -> Result<i64, Stop>
     requires { ExpressionStands w.now ends.now Arithmetic «at» }
-    ensures { Evaluates Arithmetic w.now ends.now scalars.now values.now
-        «at» progress.old result progress.new }
+    ensures { Evaluates Arithmetic w.now ends.now scalars.now values.now «at» (outcome result) }
 {
     let head = arithmetic_head(w, at);
     match head {
-        ArithmeticWord::Constant(z) => z,
-        ArithmeticWord::Scalar(x) => value_at(scalars, x as usize),
-        _ => eval_arithmetic(w, ends, at, scalars, values, progress),
+        ArithmeticWord::Constant(z) => Ok(z),
+        ArithmeticWord::Scalar(x) => Ok(scalars[x as usize]),
+        _ => eval_arithmetic(w, ends, at, scalars, values),
     }
 }
 
@@ -39,24 +37,22 @@ pub fn eval_arithmetic(
     at: usize,
     scalars: &[i64; 32],
     values: &[i64; 2048],
-    progress: &mut Progress,
-) -> i64
+) -> Result<i64, Stop>
     requires { ExpressionStands w.now ends.now Arithmetic «at» }
-    ensures { Evaluates Arithmetic w.now ends.now scalars.now values.now
-        «at» progress.old result progress.new }
+    ensures { Evaluates Arithmetic w.now ends.now scalars.now values.now «at» (outcome result) }
 {
     let head = arithmetic_head(w, at);
     match head {
-        ArithmeticWord::Constant(z) => z,
-        ArithmeticWord::Scalar(x) => value_at(scalars, x as usize),
+        ArithmeticWord::Constant(z) => Ok(z),
+        ArithmeticWord::Scalar(x) => Ok(scalars[x as usize]),
         ArithmeticWord::Operation(o) => {
-            let a = eval_operand(w, ends, at + 1, scalars, values, progress);
+            let a = eval_operand(w, ends, at + 1, scalars, values)?;
             let second = end_at(ends, at + 1);
-            let b = eval_operand(w, ends, second, scalars, values, progress);
-            operate(o, a, b, progress)
+            let b = eval_operand(w, ends, second, scalars, values)?;
+            operate(o, a, b)
         }
-        ArithmeticWord::Select => eval_select(w, ends, at, scalars, values, progress),
-        ArithmeticWord::Other => 0,
+        ArithmeticWord::Select => eval_select(w, ends, at, scalars, values),
+        ArithmeticWord::Other => unreachable!(),
     }
 }
 
@@ -68,21 +64,19 @@ fn eval_select(
     at: usize,
     scalars: &[i64; 32],
     values: &[i64; 2048],
-    progress: &mut Progress,
-) -> i64
+) -> Result<i64, Stop>
     requires { CanSelect w.now ends.now «at» }
-    ensures { Evaluates Arithmetic w.now ends.now scalars.now values.now
-        «at» progress.old result progress.new }
+    ensures { Evaluates Arithmetic w.now ends.now scalars.now values.now «at» (outcome result) }
 {
     let head = array_head(w, at + 1);
     match head {
         ArrayWord::Identifier(a) => {
             let second = end_at(ends, at + 1);
-            let i = eval_operand(w, ends, second, scalars, values, progress);
-            let n = to_index(i, progress);
-            value_at(values, 64 * a as usize + n)
+            let i = eval_operand(w, ends, second, scalars, values)?;
+            let n = place(i)?;
+            Ok(values[64 * a as usize + n])
         }
-        _ => select_whole(w, ends, at, scalars, values, progress),
+        _ => select_whole(w, ends, at, scalars, values),
     }
 }
 
@@ -94,18 +88,16 @@ fn select_whole(
     at: usize,
     scalars: &[i64; 32],
     values: &[i64; 2048],
-    progress: &mut Progress,
-) -> i64
+) -> Result<i64, Stop>
     requires { CanSelect w.now ends.now «at» }
-    ensures { Evaluates Arithmetic w.now ends.now scalars.now values.now
-        «at» progress.old result progress.new }
+    ensures { Evaluates Arithmetic w.now ends.now scalars.now values.now «at» (outcome result) }
 {
     let mut scratch = [0i64; 64];
-    eval_array(w, ends, at + 1, scalars, values, progress, &mut scratch);
+    eval_array(w, ends, at + 1, scalars, values, &mut scratch)?;
     let second = end_at(ends, at + 1);
-    let i = eval_operand(w, ends, second, scalars, values, progress);
-    let n = to_index(i, progress);
-    scratch[n]
+    let i = eval_operand(w, ends, second, scalars, values)?;
+    let n = place(i)?;
+    Ok(scratch[n])
 }
 
 // The array's values at 0 to 63 go to the scratch.
@@ -116,26 +108,25 @@ pub fn eval_array(
     at: usize,
     scalars: &[i64; 32],
     values: &[i64; 2048],
-    progress: &mut Progress,
     scratch: &mut [i64; 64],
-)
+) -> Result<(), Stop>
     requires { ExpressionStands w.now ends.now Array «at» }
-    ensures { Fills w.now ends.now scalars.now values.now «at»
-        progress.old scratch.new progress.new }
+    ensures { Fills w.now ends.now scalars.now values.now «at» (filled result scratch.new) }
 {
     let head = array_head(w, at);
     match head {
         ArrayWord::Identifier(a) => fetch(values, a as usize, scratch),
-        ArrayWord::Zeros => clear(scratch),
+        ArrayWord::Zeros => scratch.fill(0),
         ArrayWord::Update => {
-            eval_array(w, ends, at + 1, scalars, values, progress, scratch);
+            eval_array(w, ends, at + 1, scalars, values, scratch)?;
             let second = end_at(ends, at + 1);
-            let i = eval_operand(w, ends, second, scalars, values, progress);
-            let n = to_index(i, progress);
+            let i = eval_operand(w, ends, second, scalars, values)?;
+            let n = place(i)?;
             let third = end_at(ends, second);
-            let v = eval_arithmetic(w, ends, third, scalars, values, progress);
-            put_at(scratch, n, v);
+            let v = eval_arithmetic(w, ends, third, scalars, values)?;
+            scratch[n] = v;
         }
-        ArrayWord::Other => {}
+        ArrayWord::Other => unreachable!(),
     }
+    Ok(())
 }
