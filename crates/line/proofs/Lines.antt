@@ -1,6 +1,5 @@
 -- Bytes put one after the other, and numbers in decimal.
 -- Assumes nothing.
---     put-done             all bytes were put at a place
 --     decimal-digits, decimal-short, put-digits
 --                          the digits that crate io makes are those of the definition, 20 at most
 --     put_both             bytes put behind others
@@ -16,24 +15,11 @@ use native.Mathlib.Nat.{pow-succ', pow-le-pow_right}
 use borrow.Author.Tests.{lt-ltb, le-ltb, leb-true, leb-false}
 use lib.Dec.{ltb, leb}
 use lib.ListN.{length, take, length-append}
-use lib.Seq.{paste, take-paste, take_all, length-take-le}
+use lib.Seq.{length-take-le}
 use Rattle.io.specs.Digits.{hex_digit_ascii, last_digits, IsDigitCount}
 use Rattle.rules.specs.Judge.{accepted, refused}
 use Rattle.line.specs.Line.{decimal_by, decimal, accepted_text, refused_text, line_of, Written}
 use Rattle.line.specs.Putting.{TextPut}
-
-pub put-done : (before : List ℕ) (at : ℕ) (text after : List ℕ) (i : ℕ) → i ≤ length text → length text ≤ i →
-    at + length text ≤ length before → length after ≡ length before → after ≡ paste before at text i →
-    TextPut before at text after (at + length text)
-put-done before at text after i h k r l e =
-    let n : i ≡ length text = omega arith in
-    record {
-      end = refl;
-      content = ap (λ (z : List ℕ). take (at + length text) z) (e ∙ ap (λ (j : ℕ). paste before at text j) n)
-          ∙ take-paste before at text (length text) (omega arith) (omega arith)
-          ∙ ap (λ (z : List ℕ). take at before ++ z) (take_all (length text) text (omega arith));
-      size = l;
-    }
 
 -- ---- decimal digits
 small-glyph : (d : ℕ) → d < 10 → hex_digit_ascii d ≡ 48 + d

@@ -11,12 +11,9 @@ fn put(out: &mut [u8], at: usize, text: &[u8]) -> usize
     requires { Room out.old «at» (length text.now) }
     ensures { TextPut out.old «at» text.now out.new result }
 {
-    let mut i = 0;
-    while i < text.len() {
-        out[at + i] = text[i];
-        i += 1;
-    }
-    at + text.len()
+    let end = at + text.len();
+    out[at..end].copy_from_slice(text);
+    end
 }
 
 // Puts a number in decimal.

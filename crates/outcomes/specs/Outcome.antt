@@ -7,7 +7,8 @@
 --     WordsDone, OutcomeDone   the outcome, and the lent numbers afterwards; of words, of bytes
 --     WithinLimits             limits that the code can serve
 --     FitsRoom                 a file's words are not over a number
-use Rattle.std.specs.Prelude.{◌≡◌, false, cond, List, ℕ, ◌*◌, ◌≤◌, ltb, length}
+--     TableFits                as many numbers are room for the table of so many words
+use Rattle.std.specs.Prelude.{◌≡◌, false, cond, List, ℕ, ◌+◌, ◌*◌, ◌/◌, ◌≤◌, ltb, length}
 use Rattle.rules.specs.Context.{Limits}
 use Rattle.rules.specs.Judge.{Verdict, accepted, refused}
 use Rattle.layout.specs.Bytes.{words_of, word_count}
@@ -52,3 +53,7 @@ pub record WithinLimits (x : Context) : Type 0 where
 pub record FitsRoom (bytes : List ℕ) (n : ℕ) (x : Context) : Type 0 where
   pub fits : bad_length bytes ≡ false → length bytes ≤ 4 * n
   pub within : WithinLimits x
+
+-- ends, masks of blocks, starts of 17 programs and masks of 16 procedures
+abbrev pub TableFits : ℕ → ℕ → Type 0
+TableFits words numbers = words + 2 * (words / 32) + 49 ≤ numbers

@@ -5,7 +5,7 @@ ghost use Rattle.layout.specs.File.{words_read};
 ghost use Rattle.context.specs.Contexts.{limits_of};
 ghost use Rattle.masks.specs.Filled.{MasksOf};
 ghost use Rattle.file.specs.Found.{CanLoad};
-ghost use Rattle.outcomes.specs.Outcome.{outcome_of, WordsDone, OutcomeDone, WithinLimits, FitsRoom};
+ghost use Rattle.outcomes.specs.Outcome.{outcome_of, WordsDone, OutcomeDone, WithinLimits, FitsRoom, TableFits};
 ghost use Rattle.outcomes.specs.Programs.{CanJudgeFile};
 
 use super::Outcome;
@@ -68,63 +68,18 @@ fn check_in(
     }
 }
 
-// The same, of at most 256 words.
-fn check_256(file: &[u8], masks: &mut [u64], context: Context) -> Outcome
-    requires { FitsRoom file.now 256 context }
+// The same, in room for so many words and for so many numbers of their table.
+fn check_sized<const WORDS: usize, const TABLE: usize>(
+    file: &[u8],
+    masks: &mut [u64],
+    context: Context,
+) -> Outcome
+    requires fits { FitsRoom file.now WORDS context }
+    requires table { TableFits WORDS TABLE }
     ensures { OutcomeDone (limits_of context) file.now masks.old result masks.new }
 {
-    let mut words = [0u32; 256];
-    let mut table = [0u32; 321];
-    check_in(file, &mut words, &mut table, masks, context)
-}
-
-// The same, of at most 512 words.
-fn check_512(file: &[u8], masks: &mut [u64], context: Context) -> Outcome
-    requires { FitsRoom file.now 512 context }
-    ensures { OutcomeDone (limits_of context) file.now masks.old result masks.new }
-{
-    let mut words = [0u32; 512];
-    let mut table = [0u32; 593];
-    check_in(file, &mut words, &mut table, masks, context)
-}
-
-// The same, of at most 1,024 words.
-fn check_1024(file: &[u8], masks: &mut [u64], context: Context) -> Outcome
-    requires { FitsRoom file.now 1024 context }
-    ensures { OutcomeDone (limits_of context) file.now masks.old result masks.new }
-{
-    let mut words = [0u32; 1024];
-    let mut table = [0u32; 1137];
-    check_in(file, &mut words, &mut table, masks, context)
-}
-
-// The same, of at most 2,048 words.
-fn check_2048(file: &[u8], masks: &mut [u64], context: Context) -> Outcome
-    requires { FitsRoom file.now 2048 context }
-    ensures { OutcomeDone (limits_of context) file.now masks.old result masks.new }
-{
-    let mut words = [0u32; 2048];
-    let mut table = [0u32; 2225];
-    check_in(file, &mut words, &mut table, masks, context)
-}
-
-// The same, of at most 4,096 words.
-fn check_4096(file: &[u8], masks: &mut [u64], context: Context) -> Outcome
-    requires { FitsRoom file.now 4096 context }
-    ensures { OutcomeDone (limits_of context) file.now masks.old result masks.new }
-{
-    let mut words = [0u32; 4096];
-    let mut table = [0u32; 4401];
-    check_in(file, &mut words, &mut table, masks, context)
-}
-
-// The same, of at most 8,192 words.
-fn check_8192(file: &[u8], masks: &mut [u64], context: Context) -> Outcome
-    requires { FitsRoom file.now 8192 context }
-    ensures { OutcomeDone (limits_of context) file.now masks.old result masks.new }
-{
-    let mut words = [0u32; 8192];
-    let mut table = [0u32; 8753];
+    let mut words = [0u32; WORDS];
+    let mut table = [0u32; TABLE];
     check_in(file, &mut words, &mut table, masks, context)
 }
 
@@ -134,21 +89,12 @@ pub fn outcome(file: &[u8], masks: &mut [u64], context: Context) -> Outcome
     requires { WithinLimits context }
     ensures { OutcomeDone (limits_of context) file.now masks.old result masks.new }
 {
-    let n = file.len();
-    if n <= 1024 {
-        return check_256(file, masks, context);
+    match file.len() {
+        0..=1024 => check_sized::<256, 321>(file, masks, context),
+        1025..=2048 => check_sized::<512, 593>(file, masks, context),
+        2049..=4096 => check_sized::<1024, 1137>(file, masks, context),
+        4097..=8192 => check_sized::<2048, 2225>(file, masks, context),
+        8193..=16384 => check_sized::<4096, 4401>(file, masks, context),
+        _ => check_sized::<8192, 8753>(file, masks, context),
     }
-    if n <= 2048 {
-        return check_512(file, masks, context);
-    }
-    if n <= 4096 {
-        return check_1024(file, masks, context);
-    }
-    if n <= 8192 {
-        return check_2048(file, masks, context);
-    }
-    if n <= 16384 {
-        return check_4096(file, masks, context);
-    }
-    check_8192(file, masks, context)
 }
