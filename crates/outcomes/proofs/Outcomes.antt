@@ -40,16 +40,15 @@ use Rattle.masks.proofs.Stored.{filled_masks, filled_stored}
 use Rattle.masks.proofs.Stored as stored
 use Rattle.goals.specs.Goals.{judged_of}
 use Rattle.goals.specs.declared.Judged.{Judged}
-use Rattle.outcomes.specs.Outcome.{with_places, outcome_of, stored_where, WordsDone, OutcomeDone, WithinLimits, FitsRoom}
+use Rattle.std.specs.Prelude.{Ok, Err}
+use Rattle.outcomes.specs.Outcome.{Outcome, with_places, outcome_of, stored_where, WordsDone, OutcomeDone, WithinLimits, FitsRoom}
 use Rattle.outcomes.specs.Programs.{judged_file, CanJudgeFile}
-use Rattle.outcomes.specs.declared.Outcome.{Outcome}
-use Rattle.outcomes.specs.declared.Outcome.TheVariants.{Accepted, Refused}
 
 -- ---- refusals 8 and 9
 -- what the code makes of programs judged
 abbrev pub outcome_from : Judged → Places → Outcome
-outcome_from (Judged.Accepted n q) s = Accepted n s
-outcome_from (Judged.Refused x) s = Refused x
+outcome_from (Judged.Accepted n q) s = Ok (record { count = n; places = s })
+outcome_from (Judged.Refused x) s = Err x
 
 with-places : (v : judge.Verdict) (end : ℕ) (s : Places) → outcome_from (judged_of v end) s ≡ with_places v s
 with-places (judge.accepted n) end s = refl
@@ -141,7 +140,7 @@ module _ {context : Context} {bytes words table : List ℕ} {r : Layout} (f : Fi
             ∙ ap₂ (λ w x. stored_where (limits_of context) w x lent) (f.loaded s e) same;
       }
 
-  pub refused-outcome : {x : Refusal} (lent : List ℕ) → r ≡ Layout.Refused x → OutcomeDone (limits_of context) bytes lent (Refused x) lent
+  pub refused-outcome : {x : Refusal} (lent : List ℕ) → r ≡ Layout.Refused x → OutcomeDone (limits_of context) bytes lent (Err x) lent
   refused-outcome {x} lent e =
       let h = refused-file (bytes_read (limits_of context) bytes) x (sym e ∙ f.layout) in
       record {

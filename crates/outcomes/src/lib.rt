@@ -4,12 +4,11 @@
 pub mod programs; // programs.rt: refusals 8 and 9, program by program
 pub mod rooms; // rooms.rt: refusals 1 to 9 and 16 in order, in room by the size of the file
 
-use context::Refusal;
 use reader::Places;
 
-// The count of evidence words with the places of the main program of an accepted file, or the refusal.
+// An accepted file: the count of its evidence words, and the places of its main program.
 #[derive(Clone, Copy)]
-pub enum Outcome {
-    Accepted(usize, Places),
-    Refused(Refusal),
+pub struct Accepted {
+    pub count: usize,
+    pub places: Places,
 }

@@ -8,23 +8,29 @@ ghost use Rattle.file.specs.Found.{CanLoad};
 ghost use Rattle.outcomes.specs.Outcome.{outcome_of, WordsDone, OutcomeDone, WithinLimits, FitsRoom, TableFits};
 ghost use Rattle.outcomes.specs.Programs.{CanJudgeFile};
 
-use super::Outcome;
+use super::Accepted;
 use super::programs::judge_programs;
-use context::Context;
+use context::{Context, Refusal};
 use file::read_file;
 use goals::Judged;
 use masks::fill;
 use reader::{Layout, Places};
 
 // Refusals 8 and 9, with the places of the main program.
-fn judge_file(w: &[u32], ends: &[u32], masks: &[u64], context: Context, places: Places) -> Outcome
+fn judge_file(
+    w: &[u32],
+    ends: &[u32],
+    masks: &[u64],
+    context: Context,
+    places: Places,
+) -> Result<Accepted, Refusal>
     requires { CanJudgeFile w.now ends.now context places × MasksOf w.now ends.now masks.now }
     ensures { result ≡ outcome_of (limits_of context) (words_read (limits_of context) w.now) }
 {
     let judged = judge_programs(w, ends, masks, context);
     match judged {
-        Judged::Accepted(count, _) => Outcome::Accepted(count, places),
-        Judged::Refused(refusal) => Outcome::Refused(refusal),
+        Judged::Accepted(count, _) => Ok(Accepted { count, places }),
+        Judged::Refused(refusal) => Err(refusal),
     }
 }
 
@@ -35,7 +41,7 @@ fn judge_stored(
     masks: &mut [u64],
     context: Context,
     places: Places,
-) -> Outcome
+) -> Result<Accepted, Refusal>
     requires { CanJudgeFile w.now table.now context places }
     ensures { WordsDone (limits_of context) w.now masks.old result masks.new }
 {
@@ -54,7 +60,7 @@ fn check_in(
     table: &mut [u32],
     masks: &mut [u64],
     context: Context,
-) -> Outcome
+) -> Result<Accepted, Refusal>
     requires { CanLoad file.now words.old table.old × WithinLimits context }
     ensures { OutcomeDone (limits_of context) file.now masks.old result masks.new }
 {
@@ -64,7 +70,7 @@ fn check_in(
             let n = file.len() / 4;
             judge_stored(&words[..n], table, masks, context, places)
         }
-        Layout::Refused(refusal) => Outcome::Refused(refusal),
+        Layout::Refused(refusal) => Err(refusal),
     }
 }
 
@@ -73,7 +79,7 @@ fn check_sized<const WORDS: usize, const TABLE: usize>(
     file: &[u8],
     masks: &mut [u64],
     context: Context,
-) -> Outcome
+) -> Result<Accepted, Refusal>
     requires fits { FitsRoom file.now WORDS context }
     requires table { TableFits WORDS TABLE }
     ensures { OutcomeDone (limits_of context) file.now masks.old result masks.new }
@@ -85,7 +91,7 @@ fn check_sized<const WORDS: usize, const TABLE: usize>(
 
 // Refusals 1 to 9 and 16. Clearing room for 8,192 words would be most of a small file's cost, so a file gets the least of these
 // rooms that it fits.
-pub fn outcome(file: &[u8], masks: &mut [u64], context: Context) -> Outcome
+pub fn outcome(file: &[u8], masks: &mut [u64], context: Context) -> Result<Accepted, Refusal>
     requires { WithinLimits context }
     ensures { OutcomeDone (limits_of context) file.now masks.old result masks.new }
 {

@@ -3,5 +3,5 @@
 use Rattle.words.proofs.Lengths.{good_length}
 use Rattle.outcomes.proofs.rooms.outcome.Goals as goal
 
-pub check_8192-requires : goal.check_8192-requires
-check_8192-requires c = record { fits = λ g. good_length c.args.file.now g; within = c.requires }
+pub check_sized-requires-in_default-clause-fits : goal.check_sized-requires-in_default-clause-fits
+check_sized-requires-in_default-clause-fits c = record { fits = λ g. good_length c.args.file.now g; within = c.requires }
