@@ -21,12 +21,10 @@ use Rattle.context.specs.Contexts.{limits_of, Settable, refusal}
 use Rattle.context.specs.declared.Context.{Context}
 use Rattle.reader.specs.Program.{places}
 use Rattle.reader.specs.declared.Places.{Places}
-use Rattle.outcomes.specs.Outcome.{with_places, outcome_of, OutcomeDone, WithinLimits}
-use Rattle.outcomes.specs.declared.Outcome.{Outcome}
-use Rattle.outcomes.specs.declared.Outcome.TheVariants.{Refused}
+use Rattle.outcomes.specs.Outcome.{Outcome, with_places, outcome_of, OutcomeDone, WithinLimits}
+use Rattle.std.specs.Prelude.{Ok, Err}
 use Rattle.flow.specs.Answer.{answer_from}
-use Rattle.flow.specs.Checked.{answer_of, Checked}
-use Rattle.flow.specs.declared.Verdict.{Verdict}
+use Rattle.flow.specs.Checked.{Verdict, answer_of, Checked}
 
 -- limits in range are small enough
 pub settings_within : (context : Context) → Settable context → WithinLimits context
@@ -61,7 +59,7 @@ checked limits bytes e h = record {
 
 -- ---- refusals by settings
 -- 19
-pub outside-outcome : (limits : Limits) (bytes : List ℕ) {q : Outcome} → within_ranges limits ≡ false → q ≡ Refused (refusal 19 0) →
+pub outside-outcome : (limits : Limits) (bytes : List ℕ) {q : Outcome} → within_ranges limits ≡ false → q ≡ Err (refusal 19 0) →
     q ≡ outcome_of limits (file_of limits bytes)
 outside-outcome limits bytes h e = e ∙ sym (ap (outcome_of limits) (out_of-ranges limits bytes h))
 

@@ -37,14 +37,11 @@ use Rattle.context.specs.declared.Refusal.{Refusal}
 use Rattle.file.proofs.Faults.{FaultBy, bytes-fault}
 use Rattle.replacement.specs.Put.{changed, replaceable, or_unread, read_put, answer_of as put_answer, PutDone}
 use Rattle.replacement.specs.declared.Replaced.{Replaced}
-use Rattle.outcomes.specs.Outcome.{stored_where, OutcomeDone}
-use Rattle.outcomes.specs.declared.Outcome.{Outcome}
-use Rattle.outcomes.specs.declared.Outcome.TheVariants as outcome
+use Rattle.outcomes.specs.Outcome.{Outcome, stored_where, OutcomeDone}
+use Rattle.std.specs.Prelude.{Ok, Err}
 use Rattle.flow.specs.Answer.{answer_from, packed_answer, SmallAnswer}
-use Rattle.flow.specs.Checked.{answer_of}
+use Rattle.flow.specs.Checked.{Verdict, answer_of}
 use Rattle.flow.specs.CheckedMasks.{lent_before, CheckedMasks, PackedMasks, packed_put, PackedPut}
-use Rattle.flow.specs.declared.Verdict.{Verdict}
-use Rattle.flow.specs.declared.Verdict.TheVariants.{Accepted, Refused}
 use Rattle.flow.proofs.Answers.{outcome-answer, outside-outcome, within-outcome}
 use Rattle.flow.proofs.Parts.{read-bytes}
 use Rattle.flow.proofs.Packed.{SmallBy, verdict-small, answer-small, answer-packed, accepted-verdict}
@@ -134,11 +131,11 @@ module _ (low high : Limits) (r : Raises low high) (bytes : List ℕ) where
           go false h = in_ranges low bytes r.low-within ∙ sym (enough-lent low bytes n r.low-within h) ∙ e
 
 module _ (limits : Limits) (bytes lent : List ℕ) where
-  not-accepted : {A : Type 0} {x : Refusal} {n : ℕ} → Refused x ≡ Accepted n → A
+  not-accepted : {A : Type 0} {x : Refusal} {n : ℕ} → Err x ≡ Ok n → A
   not-accepted e = absurd (let z : ◌≡◌ {A = ℕ} 0 1 = cc in omega arith)
 
   -- a refusal before the file is read
-  unread-checked : {n p : ℕ} {r : Verdict} → read_lent limits bytes (length lent) ≡ fault n p → r ≡ Refused (refusal n p) →
+  unread-checked : {n p : ℕ} {r : Verdict} → read_lent limits bytes (length lent) ≡ fault n p → r ≡ Err (refusal n p) →
       ((within_ranges limits && few_numbers bytes (length lent)) ≡ false → r ≡ answer_of (verdict_of limits bytes)) →
       CheckedMasks limits bytes lent r lent
   unread-checked {r = r} h e k = record {
@@ -155,14 +152,14 @@ module _ (limits : Limits) (bytes lent : List ℕ) where
     masks-raised = λ high x. masks-lent limits high x bytes lent;
   }
 
-  pub outside-checked : {q : Outcome} {r : Verdict} → within_ranges limits ≡ false → q ≡ outcome.Refused (refusal 19 0) → r ≡ answer_from q →
+  pub outside-checked : {q : Outcome} {r : Verdict} → within_ranges limits ≡ false → q ≡ Err (refusal 19 0) → r ≡ answer_from q →
       CheckedMasks limits bytes lent r lent
   outside-checked w e h =
       unread-checked (outside-lent limits bytes (length lent) w) (h ∙ ap answer_from e)
       λ _. outcome-answer limits bytes (outside-outcome limits bytes w e) h
 
   module _ (w : within_ranges limits ≡ true) where
-    pub few-checked : few_numbers bytes (length lent) ≡ true → CheckedMasks limits bytes lent (Refused (refusal 17 0)) lent
+    pub few-checked : few_numbers bytes (length lent) ≡ true → CheckedMasks limits bytes lent (Err (refusal 17 0)) lent
     few-checked h = unread-checked (few-lent limits bytes (length lent) w h) refl λ k. clash (and_both w h) k
 
     module _ (h : few_numbers bytes (length lent) ≡ false) where
@@ -264,7 +261,7 @@ module _ (limits : Limits) (bytes lent : List ℕ) (place : ℕ) (new : List ℕ
   read_done (fault n p) e = not_done (sym e)
 
   read-refused : (x : Reading File) (y : Refusal) → PutBy x → Replaced.Refused y ≡ put_answer x →
-      SmallAnswer (Refused y) × (y.number * 65536 + y.place ≡ packed_put x)
+      SmallAnswer (Err y) × (y.number * 65536 + y.place ≡ packed_put x)
   read-refused (read f p) y h e = not_done e
   read-refused (fault n p) y h e =
       let a : y.number ≡ n = cc in
@@ -279,11 +276,11 @@ module _ (limits : Limits) (bytes lent : List ℕ) (place : ℕ) (new : List ℕ
       masks = d.masks;
     }
 
-    pub put_refused : (x : Refusal) {n : ℕ} → r ≡ Replaced.Refused x → n ≡ packed_answer (Refused x) →
+    pub put_refused : (x : Refusal) {n : ℕ} → r ≡ Replaced.Refused x → n ≡ packed_answer (Err x) →
         PackedPut limits bytes lent place new n left numbers
     put_refused x e h =
         let k = read-refused (read_put limits bytes (length lent) place new) x put-by (sym e ∙ d.answer) in
         record { answer = h ∙ k.1; file = d.file; masks = d.masks }
 
-    pub put_small : (x : Refusal) → r ≡ Replaced.Refused x → SmallAnswer (Refused x)
+    pub put_small : (x : Refusal) → r ≡ Replaced.Refused x → SmallAnswer (Err x)
     put_small x e = (read-refused (read_put limits bytes (length lent) place new) x put-by (sym e ∙ d.answer)).0

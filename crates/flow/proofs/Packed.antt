@@ -19,10 +19,9 @@ use Rattle.layout.specs.Verdict.{judged, verdict_of, packed}
 use Rattle.layout.proofs.Counted.{count-words, file-counted}
 use Rattle.words.proofs.Loading.{words-length}
 use Rattle.context.specs.declared.Refusal.{Refusal}
+use Rattle.std.specs.Prelude.{Ok, Err}
 use Rattle.flow.specs.Answer.{packed_answer, SmallAnswer}
-use Rattle.flow.specs.Checked.{answer_of, Checked}
-use Rattle.flow.specs.declared.Verdict.{Verdict}
-use Rattle.flow.specs.declared.Verdict.TheVariants.{Accepted, Refused}
+use Rattle.flow.specs.Checked.{Verdict, answer_of, Checked}
 use Rattle.file.proofs.Faults.{FaultBy, file-fault}
 use Rattle.flow.proofs.Parts.{read-bytes}
 use Rattle.flow.proofs.Refusals.{programs-inside}
@@ -76,19 +75,19 @@ answer-packed v e h = h ∙ ap packed_answer e ∙ answer-number v
 pub same-checked : {l k : Limits} {bytes : List ℕ} {r : Verdict} → l ≡ k → Checked l bytes r → Checked k bytes r
 same-checked {bytes = bytes} {r} e h = subst (λ x. Checked x bytes r) e h
 
-pub accepted-verdict : (v : judge.Verdict) (n : ℕ) → Accepted n ≡ answer_of v → v ≡ judge.accepted n
+pub accepted-verdict : (v : judge.Verdict) (n : ℕ) → Ok n ≡ answer_of v → v ≡ judge.accepted n
 accepted-verdict (judge.accepted m) n e = cc
 accepted-verdict (judge.refused k i) n e = absurd (let z : ◌≡◌ {A = ℕ} 0 1 = cc in omega arith)
 
-refused-verdict : (v : judge.Verdict) (x : Refusal) → Refused x ≡ answer_of v → v ≡ judge.refused x.number x.place
+refused-verdict : (v : judge.Verdict) (x : Refusal) → Err x ≡ answer_of v → v ≡ judge.refused x.number x.place
 refused-verdict (judge.accepted m) x e = absurd (let z : ◌≡◌ {A = ℕ} 0 1 = cc in omega arith)
 refused-verdict (judge.refused m j) x e = cc
 
 module _ {limits : Limits} {bytes : List ℕ} {r : Verdict} (h : Checked limits bytes r) where
-  pub was-accepted : (n : ℕ) → r ≡ Accepted n → verdict_of limits bytes ≡ judge.accepted n
+  pub was-accepted : (n : ℕ) → r ≡ Ok n → verdict_of limits bytes ≡ judge.accepted n
   was-accepted n e = accepted-verdict (verdict_of limits bytes) n (sym e ∙ h.answer)
 
-  pub was-refused : (x : Refusal) → r ≡ Refused x → verdict_of limits bytes ≡ judge.refused x.number x.place
+  pub was-refused : (x : Refusal) → r ≡ Err x → verdict_of limits bytes ≡ judge.refused x.number x.place
   was-refused x e = refused-verdict (verdict_of limits bytes) x (sym e ∙ h.answer)
 
   -- the number for C

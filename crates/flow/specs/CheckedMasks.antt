@@ -5,7 +5,7 @@
 --     PackedMasks            the same for C
 --     PutUnder               the workbench call
 --     packed_put, PackedPut   the same for C: 0, or number × 65,536 + place; the file and the lent numbers afterwards
-use Rattle.std.specs.Prelude.{◌≡◌, true, false, ◌&&◌, List, ℕ, ◌+◌, ◌*◌, length}
+use Rattle.std.specs.Prelude.{◌≡◌, true, false, ◌&&◌, List, ℕ, ◌+◌, ◌*◌, length, Ok}
 use Rattle.rules.specs.Context.{Limits, standard, within_ranges}
 use Rattle.rules.specs.Judge as judge
 use Rattle.layout.specs.Bytes.{words_of}
@@ -19,9 +19,7 @@ use Rattle.masks.specs.LentNumbers.{LentNumbers}
 use Rattle.masks.specs.WithMasks.{few_numbers, read_lent, verdict_lent, stored_if, masks_after}
 use Rattle.replacement.specs.Put.{changed, read_put, file_after, PutDone}
 use Rattle.replacement.specs.declared.Replaced.{Replaced}
-use Rattle.flow.specs.Checked.{answer_of}
-use Rattle.flow.specs.declared.Verdict.{Verdict}
-use Rattle.flow.specs.declared.Verdict.TheVariants.{Accepted}
+use Rattle.flow.specs.Checked.{Verdict, answer_of}
 
 -- refusals 1, 2, 17, 3 to 7 and 16 as they were before there was a refusal 19
 abbrev pub lent_before : List ℕ → ℕ → Reading File
@@ -35,7 +33,7 @@ pub record CheckedMasks (limits : Limits) (bytes lent : List ℕ) (r : Verdict) 
   -- but for 17, the answer is that without masks
   pub as_without : (within_ranges limits && few_numbers bytes (length lent)) ≡ false → r ≡ answer_of (verdict_of limits bytes)
   -- what is accepted with masks is accepted without, of which demands 2 and 3 speak
-  pub accepted-without : (n : ℕ) → r ≡ Accepted n → verdict_of limits bytes ≡ judge.accepted n
+  pub accepted-without : (n : ℕ) → r ≡ Ok n → verdict_of limits bytes ≡ judge.accepted n
   pub exact : Demand2 limits bytes
   pub secure : Demand3 limits bytes
   -- document 01's limits give the answer from before request [6]

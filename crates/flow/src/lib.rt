@@ -4,81 +4,67 @@
 // and members.
 #![tactic(auto)]
 
-ghost use Rattle.std.specs.Prelude.{◌≡◌, ◌*◌, ◌≤◌, length};
+mod part; // part.rt: the parts of an accepted file
+
+ghost use Rattle.std.specs.Prelude.{◌≡◌};
 ghost use Rattle.rules.specs.Context.{standard, settings_of};
 ghost use Rattle.layout.specs.File.{file_of};
-ghost use Rattle.layout.specs.Verdict.{verdict_of, bytes_between, packed};
+ghost use Rattle.layout.specs.Verdict.{verdict_of, packed};
 ghost use Rattle.layout.specs.Verdict.{precondition as precondition_of, postcondition as postcondition_of};
-ghost use Rattle.layout.specs.Verdict.{packed_places, program_places, precondition_places, postcondition_places};
+ghost use Rattle.layout.specs.Verdict.{program_places, precondition_places, postcondition_places};
 ghost use Rattle.context.specs.Settings.{limits_given};
 ghost use Rattle.context.specs.Contexts.{refusal};
 ghost use Rattle.outcomes.specs.Outcome.{outcome_of};
-ghost use Rattle.outcomes.specs.declared.Outcome.TheVariants.{Refused};
-ghost use Rattle.flow.specs.Answer.{answer_from, packed_answer, SmallAnswer};
+ghost use Rattle.flow.specs.Answer.{packed_answer, SmallAnswer};
 ghost use Rattle.flow.specs.Checked.{Checked};
 ghost use Rattle.flow.specs.CheckedMasks.{CheckedMasks, PackedMasks, PutUnder, PackedPut};
 
 use context::Refusal;
 use context::settings::{Settings, are_within_ranges, context_under, standard_settings};
 use masks::lent::few_numbers;
-use outcomes::Outcome;
+use outcomes::Accepted;
 use outcomes::rooms::outcome;
+use part::{Part, part_bytes, part_places};
 use replacement::Replaced;
 
-// The count of evidence words, or the refusal.
-#[derive(Clone, Copy)]
-pub enum Verdict {
-    Accepted(usize),
-    Refused(Refusal),
-}
-
 // 19: a setting is outside its range.
-fn outside_ranges() -> Outcome
-    ensures { result ≡ Refused (refusal 19 0) }
+fn outside_ranges() -> Refusal
+    ensures { result ≡ refusal 19 0 }
 {
-    Outcome::Refused(Refusal {
+    Refusal {
         number: 19,
         place: 0,
-    })
+    }
 }
 
 // Refusals 19, 1 to 9 and 16.
-fn outcome_under(file: &[u8], settings: Settings) -> Outcome
+pub(crate) fn outcome_under(file: &[u8], settings: Settings) -> Result<Accepted, Refusal>
     ensures { result ≡ outcome_of (limits_given settings) (file_of (limits_given settings) file.now) }
 {
     if !are_within_ranges(settings) {
-        return outside_ranges();
+        return Err(outside_ranges());
     }
     let mut none = [0u64; 0];
     outcome(file, &mut none, context_under(settings))
 }
 
-// The answer for an outcome: the count or the refusal, without the places.
-fn verdict_of(done: Outcome) -> Verdict
-    ensures { result ≡ answer_from done }
-{
-    match done {
-        Outcome::Accepted(count, _) => Verdict::Accepted(count),
-        Outcome::Refused(refusal) => Verdict::Refused(refusal),
-    }
-}
-
 // An answer as one number, for callers in C: number × 65,536 + place, or the count of evidence words.
-fn pack(answer: Verdict) -> u32
+fn pack(answer: Result<usize, Refusal>) -> u32
     requires { SmallAnswer answer }
     ensures { result ≡ packed_answer answer }
 {
     match answer {
-        Verdict::Accepted(count) => count as u32,
-        Verdict::Refused(refusal) => refusal.number * 65536 + refusal.place as u32,
+        Ok(count) => count as u32,
+        Err(refusal) => refusal.number * 65536 + refusal.place as u32,
     }
 }
 
 // The check: the answer that document 01 and the requests settle for these bytes and settings, with demands 2 and 3.
-pub fn check(file: &[u8], settings: Settings) -> Verdict
+pub fn check(file: &[u8], settings: Settings) -> Result<usize, Refusal>
     ensures { Checked (limits_given settings) file.now result }
 {
-    verdict_of(outcome_under(file, settings))
+    let accepted = outcome_under(file, settings)?;
+    Ok(accepted.count)
 }
 
 // The check for callers in C, `uint32_t flow_check(const uint8_t *file, size_t count)`: number × 65,536 + place, or the
@@ -103,44 +89,18 @@ pub fn flow_check_settings(file: &[u8], comparisons: usize, depth: usize, member
     ))
 }
 
-// The bytes of the words between two places.
-fn between(file: &[u8], from: usize, to: usize) -> &[u8]
-    requires { (from ≤ to) × (4 * to ≤ length file.now) }
-    ensures { result.now ≡ bytes_between file.now from to }
-{
-    let a = 4 * from;
-    let b = 4 * to;
-    &file[a..b]
-}
-
 // The precondition as a part of the file, empty if the file is refused.
 pub fn precondition(file: &[u8], settings: Settings) -> &[u8]
     ensures { result.now ≡ precondition_of (limits_given settings) file.now }
 {
-    let done = outcome_under(file, settings);
-    match done {
-        Outcome::Accepted(_, places) => between(file, places.pre, places.post),
-        Outcome::Refused(_) => &file[..0],
-    }
+    part_bytes(file, settings, Part::Precondition)
 }
 
 // The postcondition, alike.
 pub fn postcondition(file: &[u8], settings: Settings) -> &[u8]
     ensures { result.now ≡ postcondition_of (limits_given settings) file.now }
 {
-    let done = outcome_under(file, settings);
-    match done {
-        Outcome::Accepted(_, places) => between(file, places.post, places.evidence),
-        Outcome::Refused(_) => &file[..0],
-    }
-}
-
-// The places of a part as one number.
-fn packed_places(first: usize, past: usize) -> u32
-    requires { (first ≤ 8192) × (past ≤ 8192) }
-    ensures { result ≡ packed_places first past }
-{
-    first as u32 * 65536 + past as u32
+    part_bytes(file, settings, Part::Postcondition)
 }
 
 // The program's part for callers in C, `uint32_t flow_program(const uint8_t *file, size_t count, size_t comparisons, size_t depth,
@@ -153,11 +113,7 @@ pub fn flow_program(file: &[u8], comparisons: usize, depth: usize, members: usiz
         depth,
         members,
     };
-    let done = outcome_under(file, settings);
-    match done {
-        Outcome::Accepted(_, places) => packed_places(places.start, places.pre),
-        Outcome::Refused(_) => 0,
-    }
+    part_places(file, settings, Part::Program)
 }
 
 // The precondition, alike.
@@ -169,11 +125,7 @@ pub fn flow_precondition(file: &[u8], comparisons: usize, depth: usize, members:
         depth,
         members,
     };
-    let done = outcome_under(file, settings);
-    match done {
-        Outcome::Accepted(_, places) => packed_places(places.pre, places.post),
-        Outcome::Refused(_) => 0,
-    }
+    part_places(file, settings, Part::Precondition)
 }
 
 // The postcondition, alike.
@@ -185,27 +137,24 @@ pub fn flow_postcondition(file: &[u8], comparisons: usize, depth: usize, members
         depth,
         members,
     };
-    let done = outcome_under(file, settings);
-    match done {
-        Outcome::Accepted(_, places) => packed_places(places.post, places.evidence),
-        Outcome::Refused(_) => 0,
-    }
+    part_places(file, settings, Part::Postcondition)
 }
 
 // The check, with the masks of what each command modifies stored in the lent numbers. Refusal 17 comes after 19, 1 and 2.
-pub fn check_with_masks(file: &[u8], masks: &mut [u64], settings: Settings) -> Verdict
+pub fn check_with_masks(file: &[u8], masks: &mut [u64], settings: Settings) -> Result<usize, Refusal>
     ensures { CheckedMasks (limits_given settings) file.now masks.old result masks.new }
 {
     if !are_within_ranges(settings) {
-        return verdict_of(outside_ranges());
+        return Err(outside_ranges());
     }
     if few_numbers(file, masks.len()) {
-        return Verdict::Refused(Refusal {
+        return Err(Refusal {
             number: 17,
             place: 0,
         });
     }
-    verdict_of(outcome(file, masks, context_under(settings)))
+    let accepted = outcome(file, masks, context_under(settings))?;
+    Ok(accepted.count)
 }
 
 // The same for callers in C, `uint32_t flow_check_masks(const uint8_t *file, size_t count, uint64_t *masks, size_t n, size_t comparisons,
@@ -263,6 +212,6 @@ pub fn flow_put(
     let answer = put(file, masks, place, command, settings);
     match answer {
         Replaced::Done => 0,
-        Replaced::Refused(refusal) => pack(Verdict::Refused(refusal)),
+        Replaced::Refused(refusal) => pack(Err(refusal)),
     }
 }
