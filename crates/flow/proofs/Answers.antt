@@ -1,5 +1,6 @@
 -- The answer of the check, by what refusals 1 to 9 leave of the file.
 -- Assumes nothing.
+--     exit-err                           what the exit of a `?` returns
 --     settings_within                    limits in range
 --     outcome-answer                     the answer, by the outcome
 --     checked                            what the check promises of it
@@ -19,12 +20,18 @@ use Rattle.claims.proofs.StillAccepted.{still-accepted}
 use Rattle.claims.proofs.Settings.{old-answers, raised}
 use Rattle.context.specs.Contexts.{limits_of, Settable, refusal}
 use Rattle.context.specs.declared.Context.{Context}
+use Rattle.context.specs.declared.Refusal.{Refusal}
 use Rattle.reader.specs.Program.{places}
 use Rattle.reader.specs.declared.Places.{Places}
 use Rattle.outcomes.specs.Outcome.{Outcome, with_places, outcome_of, OutcomeDone, WithinLimits}
-use Rattle.std.specs.Prelude.{Ok, Err}
+use Rattle.std.specs.Prelude.{Result, Ok, Err, IsErrAnd}
 use Rattle.flow.specs.Answer.{answer_from}
 use Rattle.flow.specs.Checked.{Verdict, answer_of, Checked}
+
+-- what the exit of a `?` returns
+pub exit-err : {A E : Type 0} {x : E} {r : Result A E} → IsErrAnd r (λ y. y ≡ x) → r ≡ Err x
+exit-err {r = Ok a} h = absurd h
+exit-err {r = Err y} h = ap Err h
 
 -- limits in range are small enough
 pub settings_within : (context : Context) → Settable context → WithinLimits context
@@ -59,9 +66,9 @@ checked limits bytes e h = record {
 
 -- ---- refusals by settings
 -- 19
-pub outside-outcome : (limits : Limits) (bytes : List ℕ) {q : Outcome} → within_ranges limits ≡ false → q ≡ Err (refusal 19 0) →
-    q ≡ outcome_of limits (file_of limits bytes)
-outside-outcome limits bytes h e = e ∙ sym (ap (outcome_of limits) (out_of-ranges limits bytes h))
+pub outside-outcome : (limits : Limits) (bytes : List ℕ) {x : Refusal} → within_ranges limits ≡ false → x ≡ refusal 19 0 →
+    Err x ≡ outcome_of limits (file_of limits bytes)
+outside-outcome limits bytes h e = ap Err e ∙ sym (ap (outcome_of limits) (out_of-ranges limits bytes h))
 
 pub within-outcome : {low : Limits} (limits : Limits) {bytes lent : List ℕ} {q : Outcome} {left : List ℕ} → low ≡ limits →
     within_ranges limits ≡ true → OutcomeDone low bytes lent q left → q ≡ outcome_of limits (file_of limits bytes)

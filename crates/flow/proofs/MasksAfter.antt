@@ -3,7 +3,7 @@
 --     lent-before                            what was read before request [6]
 --     raises_limits, lent-refused, lent_still, stored-still
 --                                            raised settings: the file's own refusals; a file that is read, and its masks
---     outside-checked, few-checked, masks-checked
+--     outside-checked, few-checked, masks-checked, masks-accepted
 --                                            19; 17; the other answers
 --     lent-small, lent-packed                the numbers of the answer are small; the number for C
 --     put-done, put_small, put_refused       its numbers, and the number for C
@@ -35,8 +35,8 @@ use Rattle.masks.proofs.LentNumbers.{outside-lent, few-lent, enough-lent, lent-n
 use Rattle.context.specs.Contexts.{refusal}
 use Rattle.context.specs.declared.Refusal.{Refusal}
 use Rattle.file.proofs.Faults.{FaultBy, bytes-fault}
-use Rattle.replacement.specs.Put.{changed, replaceable, or_unread, read_put, answer_of as put_answer, PutDone}
-use Rattle.replacement.specs.declared.Replaced.{Replaced}
+use Rattle.replacement.specs.Put.{Replaced, changed, replaceable, or_unread, read_put, answer_of as put_answer, PutDone}
+use Rattle.outcomes.specs.declared.Accepted.{Accepted}
 use Rattle.outcomes.specs.Outcome.{Outcome, stored_where, OutcomeDone}
 use Rattle.std.specs.Prelude.{Ok, Err}
 use Rattle.flow.specs.Answer.{answer_from, packed_answer, SmallAnswer}
@@ -152,11 +152,10 @@ module _ (limits : Limits) (bytes lent : List ℕ) where
     masks-raised = λ high x. masks-lent limits high x bytes lent;
   }
 
-  pub outside-checked : {q : Outcome} {r : Verdict} → within_ranges limits ≡ false → q ≡ Err (refusal 19 0) → r ≡ answer_from q →
-      CheckedMasks limits bytes lent r lent
-  outside-checked w e h =
-      unread-checked (outside-lent limits bytes (length lent) w) (h ∙ ap answer_from e)
-      λ _. outcome-answer limits bytes (outside-outcome limits bytes w e) h
+  pub outside-checked : {x : Refusal} → within_ranges limits ≡ false → x ≡ refusal 19 0 → CheckedMasks limits bytes lent (Err x) lent
+  outside-checked w e =
+      unread-checked (outside-lent limits bytes (length lent) w) (ap Err e)
+      λ _. outcome-answer limits bytes (outside-outcome limits bytes w e) refl
 
   module _ (w : within_ranges limits ≡ true) where
     pub few-checked : few_numbers bytes (length lent) ≡ true → CheckedMasks limits bytes lent (Err (refusal 17 0)) lent
@@ -198,6 +197,10 @@ module _ (limits : Limits) (bytes lent : List ℕ) where
             refused-raised = λ high x. refused-lent limits high x bytes (length lent);
             masks-raised = λ high x. masks-lent limits high x bytes lent;
           }
+
+      pub masks-accepted : {low : Limits} {a : Accepted} {left : List ℕ} → low ≡ limits →
+          OutcomeDone low bytes lent (Ok a) left → CheckedMasks limits bytes lent (Ok a.count) left
+      masks-accepted l d = masks-checked l d refl
 
   -- the numbers of a refusal by reading, where numbers are lent
   lent-fault : FaultBy 8192 (read_lent limits bytes (length lent))
@@ -253,14 +256,14 @@ module _ (limits : Limits) (bytes lent : List ℕ) (place : ℕ) (new : List ℕ
       by-file (read f p) h = after (replaceable limits bytes f place new)
       by-file (fault n p) h = h
 
-  not_done : {A : Type 0} {x : Refusal} → Replaced.Refused x ≡ Replaced.Done → A
+  not_done : {A : Type 0} {x : Refusal} → ◌≡◌ {A = Replaced} (Err x) (Ok tt) → A
   not_done e = absurd (let z : ◌≡◌ {A = ℕ} 0 1 = cc in omega arith)
 
-  read_done : (x : Reading File) → Replaced.Done ≡ put_answer x → 0 ≡ packed_put x
+  read_done : (x : Reading File) → Ok tt ≡ put_answer x → 0 ≡ packed_put x
   read_done (read f p) e = refl
   read_done (fault n p) e = not_done (sym e)
 
-  read-refused : (x : Reading File) (y : Refusal) → PutBy x → Replaced.Refused y ≡ put_answer x →
+  read-refused : (x : Reading File) (y : Refusal) → PutBy x → Err y ≡ put_answer x →
       SmallAnswer (Err y) × (y.number * 65536 + y.place ≡ packed_put x)
   read-refused (read f p) y h e = not_done e
   read-refused (fault n p) y h e =
@@ -269,18 +272,18 @@ module _ (limits : Limits) (bytes lent : List ℕ) (place : ℕ) (new : List ℕ
       ((omega (arith, h.0, a), omega (arith, h.1, b)), omega (arith, a, b))
 
   module _ {r : Replaced} {left numbers : List ℕ} (d : PutDone limits bytes lent place new r left numbers) where
-    pub put-done : r ≡ Replaced.Done → PackedPut limits bytes lent place new 0 left numbers
+    pub put-done : r ≡ Ok tt → PackedPut limits bytes lent place new 0 left numbers
     put-done e = record {
       answer = read_done (read_put limits bytes (length lent) place new) (sym e ∙ d.answer);
       file = d.file;
       masks = d.masks;
     }
 
-    pub put_refused : (x : Refusal) {n : ℕ} → r ≡ Replaced.Refused x → n ≡ packed_answer (Err x) →
+    pub put_refused : (x : Refusal) {n : ℕ} → r ≡ Err x → n ≡ packed_answer (Err x) →
         PackedPut limits bytes lent place new n left numbers
     put_refused x e h =
         let k = read-refused (read_put limits bytes (length lent) place new) x put-by (sym e ∙ d.answer) in
         record { answer = h ∙ k.1; file = d.file; masks = d.masks }
 
-    pub put_small : (x : Refusal) → r ≡ Replaced.Refused x → SmallAnswer (Err x)
+    pub put_small : (x : Refusal) → r ≡ Err x → SmallAnswer (Err x)
     put_small x e = (read-refused (read_put limits bytes (length lent) place new) x put-by (sym e ∙ d.answer)).0

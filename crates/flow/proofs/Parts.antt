@@ -3,9 +3,12 @@
 --     FileOf, read-bytes                      a file that was read from bytes: its words, and its places in order
 --     AcceptedAt, accepted-at, refused-at     the verdict, by the outcome
 --     PlacesIn, places-in                     the places of an accepted file are in order and inside its bytes
---     part-refused                            what there is of a refused file
---     precondition-bytes, .., program-places, ..
---                                             the parts of an accepted file, and their places
+--     accepted-bytes, refused-bytes, accepted-places, refused-places
+--                                             a part's bytes, and its places as one number; of a refused file
+--     RangeIn, range-in, range-of
+--                                             a part's places are in order and inside the bytes
+--     bytes-precondition, .., places-program, ..
+--                                             the layout's own definitions of the parts
 use mathlib.Core.Path.{◌≡◌, refl, sym, ◌∙◌, ap, ap₂, subst}
 use mathlib.Core.Bool.{Bool, true, false}
 use mathlib.Core.List.{List, [], ◌∷◌}
@@ -29,9 +32,12 @@ use Rattle.words.proofs.Loading.{words-length}
 use Rattle.reader.specs.Program.{places}
 use Rattle.context.specs.declared.Refusal.{Refusal}
 use Rattle.reader.specs.declared.Places.{Places}
-use Rattle.outcomes.specs.Outcome.{with_places, outcome_of}
-use Rattle.outcomes.specs.declared.Outcome.{Outcome}
-use Rattle.outcomes.specs.declared.Outcome.TheVariants.{Accepted, Refused}
+use Rattle.outcomes.specs.Outcome.{Outcome, with_places, outcome_of}
+use Rattle.outcomes.specs.declared.Accepted.{Accepted}
+use Rattle.std.specs.Prelude.{Ok, Err}
+use Rattle.flow.specs.Part.{range_in, range_at, bytes_of, places_of}
+use Rattle.flow.specs.declared.part.Part.{Part}
+use Rattle.flow.specs.declared.part.Part.TheVariants as parts
 use Rattle.layout.proofs.Settings.{settings_read}
 use Rattle.words.proofs.Lengths.{bad-file, good-file, good_length}
 
@@ -85,30 +91,30 @@ module _ (limits : Limits) (bytes : List ℕ) where
       go false t =
           file-of f p (good_length bytes t) (file-stood limits (words_of bytes) f p (sym (good-file limits bytes t) ∙ was_read))
 
-  pub record AcceptedAt (n : ℕ) (s : Places) : Type 0 where
+  pub record AcceptedAt (a : Accepted) : Type 0 where
     pub file : File
     pub end : ℕ
     pub reads : file_of limits bytes ≡ read file end
-    pub at : s ≡ places file.main.start file.main.pre_at file.main.post_at file.main.evidence_at end
-    pub verdict : verdict_of limits bytes ≡ judge.accepted n
+    pub at : a.places ≡ places file.main.start file.main.pre_at file.main.post_at file.main.evidence_at end
+    pub verdict : verdict_of limits bytes ≡ judge.accepted a.count
 
-  accepted-verdict : (v : judge.Verdict) (n : ℕ) (s t : Places) → Accepted n s ≡ with_places v t →
-      (v ≡ judge.accepted n) × (s ≡ t)
-  accepted-verdict (judge.accepted m) n s t e = (cc, cc)
-  accepted-verdict (judge.refused k i) n s t e = absurd (let z : ◌≡◌ {A = ℕ} 0 1 = cc in omega arith)
+  accepted-verdict : (v : judge.Verdict) (a : Accepted) (t : Places) → Ok a ≡ with_places v t →
+      (v ≡ judge.accepted a.count) × (a.places ≡ t)
+  accepted-verdict (judge.accepted m) a t e = let k : a ≡ record { count = m; places = t } = cc in (ap (λ z. judge.accepted z.count) (sym k), ap (λ z. z.places) k)
+  accepted-verdict (judge.refused k i) a t e = absurd (let z : ◌≡◌ {A = ℕ} 0 1 = cc in omega arith)
 
-  refused-verdict : (v : judge.Verdict) (x : Refusal) (t : Places) → Refused x ≡ with_places v t →
+  refused-verdict : (v : judge.Verdict) (x : Refusal) (t : Places) → Err x ≡ with_places v t →
       v ≡ judge.refused x.number x.place
   refused-verdict (judge.accepted m) x t e = absurd (let z : ◌≡◌ {A = ℕ} 0 1 = cc in omega arith)
   refused-verdict (judge.refused m j) x t e = cc
 
-  pub accepted-at : (n : ℕ) (s : Places) → Accepted n s ≡ outcome_of limits (file_of limits bytes) → AcceptedAt n s
+  pub accepted-at : (a : Accepted) → Ok a ≡ outcome_of limits (file_of limits bytes) → AcceptedAt a
   unfolding verdict_of
-  accepted-at n s = go (file_of limits bytes) refl
+  accepted-at a = go (file_of limits bytes) refl
     where
-      go : (x : Reading File) → file_of limits bytes ≡ x → Accepted n s ≡ outcome_of limits x → AcceptedAt n s
+      go : (x : Reading File) → file_of limits bytes ≡ x → Ok a ≡ outcome_of limits x → AcceptedAt a
       go (read f p) e h =
-          let k = accepted-verdict (judged limits (read f p)) n s
+          let k = accepted-verdict (judged limits (read f p)) a
           (places f.main.start f.main.pre_at f.main.post_at f.main.evidence_at p) h in
           record {
             file = f;
@@ -119,12 +125,12 @@ module _ (limits : Limits) (bytes : List ℕ) where
           }
       go (fault m p) e h = absurd (let z : ◌≡◌ {A = ℕ} 0 1 = cc in omega arith)
 
-  pub refused-at : (r : Refusal) → Refused r ≡ outcome_of limits (file_of limits bytes) →
+  pub refused-at : (r : Refusal) → Err r ≡ outcome_of limits (file_of limits bytes) →
       verdict_of limits bytes ≡ judge.refused r.number r.place
   unfolding verdict_of
   refused-at r = go (file_of limits bytes)
     where
-      go : (x : Reading File) → Refused r ≡ outcome_of limits x → judged limits x ≡ judge.refused r.number r.place
+      go : (x : Reading File) → Err r ≡ outcome_of limits x → judged limits x ≡ judge.refused r.number r.place
       go (read f p) h = refused-verdict (judged limits (read f p)) r
           (places f.main.start f.main.pre_at f.main.post_at f.main.evidence_at p) h
       go (fault m p) h = cc
@@ -137,10 +143,9 @@ module _ (limits : Limits) (bytes : List ℕ) where
     pub post-evidence : s.post ≤ s.evidence
     pub inside : 4 * s.evidence ≤ length bytes
 
-  pub places-in : (r : Outcome) (n : ℕ) (s : Places) → r ≡ outcome_of limits (file_of limits bytes) → r ≡ Accepted n s →
-      PlacesIn s
-  places-in r n s e h =
-      let x = accepted-at n s (sym h ∙ e) in
+  pub places-in : (a : Accepted) → Ok a ≡ outcome_of limits (file_of limits bytes) → PlacesIn a.places
+  places-in a e =
+      let x = accepted-at a e in
       let f = read-bytes x.file x.end x.reads in
       let l = words-length bytes in
       subst (λ (z : Places). PlacesIn z) (sym x.at)
@@ -155,41 +160,84 @@ module _ (limits : Limits) (bytes : List ℕ) where
   -- what the code makes of the places is what the definition makes of the file
   part-accepted : {A : Type 0} (none : A) (part : File → A) (of : Places → A) →
       ((f : File) (p : ℕ) → of (places f.main.start f.main.pre_at f.main.post_at f.main.evidence_at p) ≡ part f) →
-      (l : A) (r : Outcome) (n : ℕ) (s : Places) → r ≡ outcome_of limits (file_of limits bytes) → r ≡ Accepted n s →
-      l ≡ of s → l ≡ part_of none (verdict_of limits bytes) (file_of limits bytes) part
-  part-accepted none part of same l r n s e h k =
-      let x = accepted-at n s (sym h ∙ e) in
-      k ∙ ap of x.at ∙ same x.file x.end
+      (a : Accepted) → Ok a ≡ outcome_of limits (file_of limits bytes) →
+      of a.places ≡ part_of none (verdict_of limits bytes) (file_of limits bytes) part
+  part-accepted none part of same a e =
+      let x = accepted-at a e in
+      ap of x.at ∙ same x.file x.end
       ∙ ap₂ (λ v z. part_of none v z part) (sym x.verdict) (sym x.reads)
 
-  pub part-refused : {A : Type 0} (none : A) (part : File → A) (r : Outcome) (x : Refusal) →
-      r ≡ outcome_of limits (file_of limits bytes) → r ≡ Refused x →
+  part-refused : {A : Type 0} (none : A) (part : File → A) (x : Refusal) →
+      Err x ≡ outcome_of limits (file_of limits bytes) →
       none ≡ part_of none (verdict_of limits bytes) (file_of limits bytes) part
-  part-refused none part r x e h =
-      ap (λ v. part_of none v (file_of limits bytes) part) (sym (refused-at x (sym h ∙ e)))
+  part-refused none part x e = ap (λ v. part_of none v (file_of limits bytes) part) (sym (refused-at x e))
 
   -- each part: its bytes, or its places as one number
-  abbrev IsPart : {A : Type 0} → (Places → A) → A → Type 0
-  IsPart {A} of due =
-      (l : A) (r : Outcome) (n : ℕ) (s : Places) → r ≡ outcome_of limits (file_of limits bytes) → r ≡ Accepted n s →
-      l ≡ of s → l ≡ due
+  same-range : (part : Part) (f : File) (p : ℕ) →
+      range_at part (places f.main.start f.main.pre_at f.main.post_at f.main.evidence_at p) ≡ range_in part f.main
+  same-range parts.Program f p = refl
+  same-range parts.Precondition f p = refl
+  same-range parts.Postcondition f p = refl
 
-  pub precondition-bytes : IsPart (λ s. bytes_between bytes s.pre s.post) (precondition limits bytes)
-  unfolding precondition
-  precondition-bytes = part-accepted [] _ _ (λ f p. refl)
+  pub accepted-bytes : (part : Part) (a : Accepted) → Ok a ≡ outcome_of limits (file_of limits bytes) →
+      bytes_between bytes (range_at part a.places).0 (range_at part a.places).1 ≡ bytes_of part limits bytes
+  unfolding bytes_of
+  accepted-bytes part =
+      part-accepted [] _ (λ s. bytes_between bytes (range_at part s).0 (range_at part s).1)
+      λ f p. ap (λ r. bytes_between bytes r.0 r.1) (same-range part f p)
 
-  pub postcondition-bytes : IsPart (λ s. bytes_between bytes s.post s.evidence) (postcondition limits bytes)
-  unfolding postcondition
-  postcondition-bytes = part-accepted [] _ _ (λ f p. refl)
+  pub refused-bytes : (part : Part) (x : Refusal) → Err x ≡ outcome_of limits (file_of limits bytes) → [] ≡ bytes_of part limits bytes
+  unfolding bytes_of
+  refused-bytes part = part-refused [] _
 
-  pub program-places : IsPart (λ s. packed_places s.start s.pre) (program_places limits bytes)
-  unfolding program_places
-  program-places = part-accepted 0 _ _ (λ f p. refl)
+  pub accepted-places : (part : Part) (a : Accepted) → Ok a ≡ outcome_of limits (file_of limits bytes) →
+      packed_places (range_at part a.places).0 (range_at part a.places).1 ≡ places_of part limits bytes
+  unfolding places_of
+  accepted-places part =
+      part-accepted 0 _ (λ s. packed_places (range_at part s).0 (range_at part s).1)
+      λ f p. ap (λ r. packed_places r.0 r.1) (same-range part f p)
 
-  pub precondition-places : IsPart (λ s. packed_places s.pre s.post) (precondition_places limits bytes)
-  unfolding precondition_places
-  precondition-places = part-accepted 0 _ _ (λ f p. refl)
+  pub refused-places : (part : Part) (x : Refusal) → Err x ≡ outcome_of limits (file_of limits bytes) → 0 ≡ places_of part limits bytes
+  unfolding places_of
+  refused-places part = part-refused 0 _
 
-  pub postcondition-places : IsPart (λ s. packed_places s.post s.evidence) (postcondition_places limits bytes)
-  unfolding postcondition_places
-  postcondition-places = part-accepted 0 _ _ (λ f p. refl)
+  -- a part's places are in order, and inside the bytes
+  pub record RangeIn (range : ℕ × ℕ) : Type 0 where
+    pub order : range.0 ≤ range.1
+    pub inside : 4 * range.1 ≤ length bytes
+    pub few : range.1 ≤ 8192
+
+  pub range-in : (part : Part) {s : Places} → PlacesIn s → RangeIn (range_at part s)
+  range-in parts.Program h =
+      record { order = h.start-pre; inside = omega (arith, h.pre-post, h.post-evidence, h.inside); few = omega (arith, h.few, h.pre-post, h.post-evidence, h.inside) }
+  range-in parts.Precondition h =
+      record { order = h.pre-post; inside = omega (arith, h.post-evidence, h.inside); few = omega (arith, h.few, h.post-evidence, h.inside) }
+  range-in parts.Postcondition h =
+      record { order = h.post-evidence; inside = h.inside; few = omega (arith, h.few, h.inside) }
+
+-- the same of a range that is given
+pub range-of : (limits : Limits) (bytes : List ℕ) (part : Part) {a : Accepted} {range : ℕ × ℕ} → range ≡ range_at part a.places →
+    Ok a ≡ outcome_of limits (file_of limits bytes) → RangeIn limits bytes range
+range-of limits bytes part {a} e h =
+    subst (λ z. RangeIn limits bytes z) (sym e) (range-in limits bytes part (places-in limits bytes a h))
+
+-- the layout's own definitions of the parts
+pub bytes-precondition : (limits : Limits) (bytes : List ℕ) → bytes_of parts.Precondition limits bytes ≡ precondition limits bytes
+unfolding bytes_of precondition
+bytes-precondition limits bytes = refl
+
+pub bytes-postcondition : (limits : Limits) (bytes : List ℕ) → bytes_of parts.Postcondition limits bytes ≡ postcondition limits bytes
+unfolding bytes_of postcondition
+bytes-postcondition limits bytes = refl
+
+pub places-program : (limits : Limits) (bytes : List ℕ) → places_of parts.Program limits bytes ≡ program_places limits bytes
+unfolding places_of program_places
+places-program limits bytes = refl
+
+pub places-precondition : (limits : Limits) (bytes : List ℕ) → places_of parts.Precondition limits bytes ≡ precondition_places limits bytes
+unfolding places_of precondition_places
+places-precondition limits bytes = refl
+
+pub places-postcondition : (limits : Limits) (bytes : List ℕ) → places_of parts.Postcondition limits bytes ≡ postcondition_places limits bytes
+unfolding places_of postcondition_places
+places-postcondition limits bytes = refl

@@ -24,8 +24,7 @@ use Rattle.masks.specs.Masks.{command_at, stored}
 use Rattle.masks.specs.WithMasks.{read_lent}
 use Rattle.masks.proofs.Raised.{command-raised}
 use Rattle.splice.specs.Simple.{simple_to}
-use Rattle.replacement.specs.Put.{changed, replaceable, or_unread, read_put, PutDone}
-use Rattle.replacement.specs.declared.Replaced.{Replaced}
+use Rattle.replacement.specs.Put.{Replaced, changed, replaceable, or_unread, read_put, PutDone}
 use Rattle.flow.specs.CheckedMasks.{PutUnder}
 use Rattle.flow.proofs.MasksAfter.{lent-before, raises_limits, lent-refused, lent_still, stored-still}
 

@@ -17,8 +17,7 @@ use Rattle.claims.specs.Settings.{Raises, Stays}
 use Rattle.masks.specs.Masks.{stored}
 use Rattle.masks.specs.LentNumbers.{LentNumbers}
 use Rattle.masks.specs.WithMasks.{few_numbers, read_lent, verdict_lent, stored_if, masks_after}
-use Rattle.replacement.specs.Put.{changed, read_put, file_after, PutDone}
-use Rattle.replacement.specs.declared.Replaced.{Replaced}
+use Rattle.replacement.specs.Put.{Replaced, changed, read_put, file_after, PutDone}
 use Rattle.flow.specs.Checked.{Verdict, answer_of}
 
 -- refusals 1, 2, 17, 3 to 7 and 16 as they were before there was a refusal 19

@@ -3,7 +3,7 @@
 -- each part. Assumes nothing.
 --     range_in, range_at     a part's first place and the place past its last, in a program; by the places
 --     bytes_of, places_of    its bytes, none of a refused file; its places as one number, 0 of a refused file
-use Rattle.std.specs.Prelude.{List, [], ℕ, ◌×◌}
+use Rattle.std.specs.Prelude.{List, [], ℕ}
 use Rattle.rules.specs.Context.{Limits}
 use Rattle.layout.specs.Program.{Program}
 use Rattle.layout.specs.File.{file_of}

@@ -25,7 +25,6 @@ use masks::lent::few_numbers;
 use outcomes::Accepted;
 use outcomes::rooms::outcome;
 use part::{Part, part_bytes, part_places};
-use replacement::Replaced;
 
 // 19: a setting is outside its range.
 fn outside_ranges() -> Refusal
@@ -141,7 +140,11 @@ pub fn flow_postcondition(file: &[u8], comparisons: usize, depth: usize, members
 }
 
 // The check, with the masks of what each command modifies stored in the lent numbers. Refusal 17 comes after 19, 1 and 2.
-pub fn check_with_masks(file: &[u8], masks: &mut [u64], settings: Settings) -> Result<usize, Refusal>
+pub fn check_with_masks(
+    file: &[u8],
+    masks: &mut [u64],
+    settings: Settings,
+) -> Result<usize, Refusal>
     ensures { CheckedMasks (limits_given settings) file.now masks.old result masks.new }
 {
     if !are_within_ranges(settings) {
@@ -183,7 +186,7 @@ pub fn put(
     place: usize,
     command: &[u8],
     settings: Settings,
-) -> Replaced
+) -> Result<(), Refusal>
     ensures { PutUnder (limits_given settings) file.old masks.old place command.now result
         file.new masks.new }
 {
@@ -211,7 +214,7 @@ pub fn flow_put(
     };
     let answer = put(file, masks, place, command, settings);
     match answer {
-        Replaced::Done => 0,
-        Replaced::Refused(refusal) => pack(Err(refusal)),
+        Ok(()) => 0,
+        Err(refusal) => pack(Err(refusal)),
     }
 }

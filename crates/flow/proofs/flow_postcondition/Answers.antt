@@ -1,35 +1,8 @@
--- `flow::flow_postcondition` meets its contract: the places of an accepted file are at most 8,192.
+-- `flow::flow_postcondition` meets its contract: the part's places are what the layout says.
 -- Assumes nothing.
-use borrow.Author.Rules.{rules}
-use native.Mathlib.Omega.{arith}
-use Rattle.layout.specs.Verdict.{postcondition_places}
-use Rattle.flow.proofs.Parts.{places-in, postcondition-places, part-refused}
+use mathlib.Core.Path.{◌∙◌}
+use Rattle.flow.proofs.Parts.{places-postcondition}
 use Rattle.flow.proofs.flow_postcondition.Goals as goal
 
-pub outcome_under-done-requires : goal.outcome_under-done-requires
-unfolding postcondition_places
-outcome_under-done-requires c = search rules
-
-pub enum_known-done : goal.enum_known-done
-unfolding postcondition_places
-enum_known-done c = search rules
-
-pub packed_places-requires : goal.packed_places-requires
-unfolding postcondition_places
-packed_places-requires c =
-    let h = places-in _ _ _ _ _ c.outcome_under-done.ensures c.in-Accepted.is in
-    (omega (arith, h.few, h.post-evidence, h.inside), omega (arith, h.few, h.inside))
-
-pub enum_told-1 : goal.enum_told-1
-unfolding postcondition_places
-enum_told-1 c = search rules
-
-pub returns-in-Accepted : goal.returns-in-Accepted
-unfolding postcondition_places
-returns-in-Accepted c =
-    postcondition-places _ _ _ _ _ _ c.outcome_under-done.ensures c.in-Accepted.is
-    c.packed_places.ensures
-
-pub returns-in-Refused : goal.returns-in-Refused
-unfolding postcondition_places
-returns-in-Refused c = part-refused _ _ _ _ _ _ c.outcome_under-done.ensures c.in-Refused.is
+pub returns : goal.returns
+returns c = c.part_places.ensures ∙ places-postcondition _ _

@@ -4,12 +4,12 @@ use Rattle.flow.proofs.MasksAfter.{put-done, put_small, put_refused}
 use Rattle.flow.proofs.flow_put.Goals as goal
 
 pub pack-requires : goal.pack-requires
-pack-requires c = put_small _ _ _ _ _ c.put-answer.ensures.done _ c.in-Refused.is
+pack-requires c = put_small _ _ _ _ _ c.put-answer.ensures.done _ c.in-Err.is
 
-pub returns-in-Done : goal.returns-in-Done
-returns-in-Done c = put-done _ _ _ _ _ c.put-answer.ensures.done c.in-Done.is
+pub returns-in-Ok : goal.returns-in-Ok
+returns-in-Ok c = put-done _ _ _ _ _ c.put-answer.ensures.done c.in-Ok.is
 
-pub returns-in-Refused : goal.returns-in-Refused
-returns-in-Refused c =
-    put_refused _ _ _ _ _ c.put-answer.ensures.done _ c.in-Refused.is
+pub returns-in-Err : goal.returns-in-Err
+returns-in-Err c =
+    put_refused _ _ _ _ _ c.put-answer.ensures.done _ c.in-Err.is
     c.pack.ensures
