@@ -5,7 +5,6 @@ ghost use Rattle.line.specs.Line.{Written};
 ghost use Rattle.line.specs.Putting.{Room};
 
 use context::settings::standard_settings;
-use flow::Verdict;
 use line::{accepted_line, refused_line};
 
 // Puts the line of the check's answer in front, and answers how many bytes it has.
@@ -13,9 +12,8 @@ pub fn answer(file: &[u8], out: &mut [u8]) -> usize
     requires { Room out.old 0 64 }
     ensures { Written (verdict_of standard file.now) out.new result }
 {
-    let verdict = flow::check(file, standard_settings());
-    match verdict {
-        Verdict::Accepted(count) => accepted_line(count as u64, out),
-        Verdict::Refused(refusal) => refused_line(refusal.number as u64, refusal.place as u64, out),
+    match flow::check(file, standard_settings()) {
+        Ok(count) => accepted_line(count as u64, out),
+        Err(refusal) => refused_line(refusal.number as u64, refusal.place as u64, out),
     }
 }
