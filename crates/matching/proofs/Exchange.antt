@@ -1,25 +1,33 @@
 -- An expression's numbers are its first word's, then its operands', also with others in the place of a word.
 -- Assumes nothing.
 --     exchanged-append                                         one list after the other
---     none-matched, one-matched, two-matched, three-matched    a cursor after an expression with so many operands
---     any-first, can-inside, any-listed                                   places are in the file, in the list of ends
---     can-first, can-second, can-third                         its operands can be matched, and lie further on
+--     any-first, any-listed                                    its place is in the file, in the list of ends
+--     Walked, walked-head, walked-on, walked-all, walked-lost  after its first word and some of its operands
+--     can-operand                                              an operand can be matched, and lies further on
 use mathlib.Core.Path.{◌≡◌, refl, sym, ap, subst, ◌∙◌}
 use mathlib.Core.List.{List, [], ◌∷◌, ◌++◌, append_assoc, append-nil}
-use Prim.Native.Nat.{ℕ, ◌+◌, ◌-◌, ◌<◌, ◌≤◌}
+use Prim.Native.Nat.{ℕ, zero, suc, ◌+◌, ◌-◌, ◌<◌, ◌≤◌}
 use native.Mathlib.Omega.{arith}
 use lib.ListN.{length, get_or}
-use Rattle.language.specs.Syntax.{Sort}
+use Rattle.std.specs.Prelude.{Option, Some, None}
+use Rattle.layout.specs.Bytes.{kind_at, payload_at}
+use Rattle.layout.specs.Nodes.{count_of}
 use Rattle.ends.specs.Ends.{EndsOf}
 use Rattle.matching.specs.Matching.{between, matched, put_for, exchanged}
 use Rattle.ends.specs.Places.{end_at}
 use Rattle.ends.proofs.Places.{node_known}
-use Rattle.matching.specs.Places.{ExpressionAt, AnyAt, Chained, CanMatch, CanMatchAny, Matched}
-use Rattle.matching.specs.declared.cursor.Match.{Match}
+use Rattle.matching.specs.Places.{AnyAt, Chained, CanMatchAny, Matched}
 use Rattle.matching.specs.declared.cursor.Put.{Put}
 use Rattle.matching.proofs.Ranges.{between_none, between_first, between_join}
-use Rattle.matching.proofs.Matching.{matched-append}
-use Rattle.matching.proofs.Operands.{any-inside}
+use Rattle.matching.proofs.Matching.{matched-lost, matched-append}
+use Rattle.matching.proofs.Operands.{any-inside, operands}
+
+pub any-first : {file ends : List ℕ} {b : ℕ} → AnyAt file ends b → b < length file
+any-first x =
+    let i = any-inside x in
+    let s = i.start in
+    let l = i.within in
+    omega arith
 
 module _ (file : List ℕ) (put : Put) where
   pub exchanged-append : (k l : List ℕ) → exchanged file put (k ++ l) ≡ exchanged file put k ++ exchanged file put l
@@ -27,19 +35,33 @@ module _ (file : List ℕ) (put : Put) where
   exchanged-append [] l = refl
   exchanged-append (x ∷ k) l = rw (append_assoc, exchanged-append k l)
 
-  -- a cursor after the numbers between two places
-  record After (m : Match) (a : ℕ) (n : Match) (p : ℕ) : Type 0 where
-    is : n ≡ matched file m (exchanged file put (between file a p))
-    order : a ≤ p
-    within : p ≤ length file
+  -- the place past the numbers between two places, with what is put for a word
+  pub record After (m : Option ℕ) (a : ℕ) (n : Option ℕ) (p : ℕ) : Type 0 where
+    pub is : n ≡ matched file m (exchanged file put (between file a p))
+    pub order : a ≤ p
+    pub within : p ≤ length file
 
   single : (b : ℕ) → b < length file → between file b (b + 1) ≡ get_or file b 0 ∷ []
   single b h =
       between_first file b (b + 1) (omega arith) (omega arith)
       ∙ ap (λ l. get_or file b 0 ∷ l) (between_none file (b + 1) (b + 1) (omega arith))
 
+-- so many operands of the expression at b are left, after what stood so far from `at` on
+pub record Walked (file ends : List ℕ) (put : Put) (at b : ℕ) (m : Option ℕ) (p n : ℕ) : Type 0 where
+  pub past : b < p
+  pub left : Chained file ends n p (end_at ends b)
+  pub so-far : After file put (Some at) b m p
+
+module _ (file ends : List ℕ) where
+  further : (n p e : ℕ) → Chained file ends n p e → p ≤ e
+  further zero p e c = omega arith
+  further (suc n) p e c =
+      let s = (any-inside c.0).start in
+      let h = further n (end_at ends p) e c.1 in
+      omega arith
+
 module _ {file : List ℕ} {put : Put} where
-  then : {m n r : Match} {a q p : ℕ} → After file put m a n q → After file put n q r p → After file put m a r p
+  then : {m n r : Option ℕ} {a q p : ℕ} → After file put m a n q → After file put n q r p → After file put m a r p
   then {m} {n} {r} {a} {q} {p} x y = record {
     is =
         y.is
@@ -51,7 +73,7 @@ module _ {file : List ℕ} {put : Put} where
     within = y.within;
   }
 
-  after-word : {m n : Match} {b : ℕ} → b < length file → n ≡ matched file m (put_for file put (get_or file b 0)) →
+  after-word : {m n : Option ℕ} {b : ℕ} → b < length file → n ≡ matched file m (put_for file put (get_or file b 0)) →
       After file put m b n (b + 1)
   unfolding exchanged
   after-word {m} {n} {b} h e = record {
@@ -64,93 +86,67 @@ module _ {file : List ℕ} {put : Put} where
   }
 
   module _ {ends : List ℕ} where
-    operand : {m n : Match} {at : ℕ} → AnyAt file ends at → Matched file ends m at put n →
-        After file put m at n (end_at ends at)
-    operand x e =
-        let i = any-inside x in
-        record { is = e.is; order = let h = i.start in omega arith; within = i.within }
+    pub walked-head : {at b n : ℕ} {m : Option ℕ} → EndsOf file ends → AnyAt file ends b →
+        m ≡ matched file (Some at) (put_for file put (get_or file b 0)) →
+        n ≡ count_of (kind_at file b) (payload_at file b) → Walked file ends put at b m (b + 1) n
+    walked-head {at} {b} {n} o x h e = record {
+      past = omega arith;
+      left = operands file ends b n o x e;
+      so-far = after-word (any-first x) h;
+    }
 
-    up-to : {m r : Match} {b p : ℕ} → After file put m b r p → p ≡ end_at ends b → Matched file ends m b put r
-    up-to {m} {r} {b} x k =
-        record { is = subst (λ p. r ≡ matched file m (exchanged file put (between file b p))) k x.is }
+    pub walked-on : {at b e p q n : ℕ} {r : Option ℕ} → Walked file ends put at b (Some e) p (suc n) → Matched file ends (Some e) p put r →
+        q ≡ end_at ends p → Walked file ends put at b r q n
+    walked-on {at} {b} {e} {p} {q} {n} {r} x h k =
+        let i = any-inside x.left.0 in
+        let s = i.start in
+        let l = x.past in
+        subst (λ q. Walked file ends put at b r q n) (sym k)
+        (record {
+          past = omega arith;
+          left = x.left.1;
+          so-far = then x.so-far (record { is = h.is; order = omega arith; within = i.within });
+        })
 
-    moved : {m r : Match} {i j : ℕ} → Matched file ends m i put r → i ≡ j → Matched file ends m j put r
-    moved {m} {r} x e = subst (λ i. Matched file ends m i put r) e x
+    pub walked-all : {at b p : ℕ} {m : Option ℕ} → Walked file ends put at b m p 0 → Matched file ends (Some at) b put m
+    walked-all {at} {b} {p} {m} x =
+        record { is = subst (λ p. m ≡ matched file (Some at) (exchanged file put (between file b p))) x.left x.so-far.is }
 
-    pub none-matched : {m n : Match} {b : ℕ} → b < length file → n ≡ matched file m (put_for file put (get_or file b 0)) →
-        Chained file ends 0 (b + 1) (end_at ends b) → Matched file ends m b put n
-    none-matched h e c = up-to (after-word h e) c
-
-    pub one-matched : {m n r : Match} {b : ℕ} → b < length file → n ≡ matched file m (put_for file put (get_or file b 0)) →
-        Chained file ends 1 (b + 1) (end_at ends b) → Matched file ends n (b + 1) put r → Matched file ends m b put r
-    one-matched h e c k = up-to (then (after-word h e) (operand c.0 k)) c.1
-
-    pub two-matched : {m n l r : Match} {b second : ℕ} → b < length file →
-        n ≡ matched file m (put_for file put (get_or file b 0)) → Chained file ends 2 (b + 1) (end_at ends b) →
-        Matched file ends n (b + 1) put l → second ≡ end_at ends (b + 1) → Matched file ends l second put r →
-        Matched file ends m b put r
-    two-matched h e c k s g =
-        up-to (then (then (after-word h e) (operand c.0 k)) (operand c.1.0 (moved g s))) c.1.1
-
-    pub three-matched : {m n l i r : Match} {b second third : ℕ} → b < length file →
-        n ≡ matched file m (put_for file put (get_or file b 0)) → Chained file ends 3 (b + 1) (end_at ends b) →
-        Matched file ends n (b + 1) put l → second ≡ end_at ends (b + 1) → Matched file ends l second put i →
-        third ≡ end_at ends second → Matched file ends i third put r → Matched file ends m b put r
-    three-matched h e c k s g t f =
-        up-to
-        (then
-        (then (then (after-word h e) (operand c.0 k)) (operand c.1.0 (moved g s)))
-        (operand c.1.1.0 (moved f (t ∙ ap (end_at ends) s))))
-        c.1.1.1
-
-pub any-first : {file ends : List ℕ} {b : ℕ} → AnyAt file ends b → b < length file
-any-first x =
-    let i = any-inside x in
-    let s = i.start in
-    let l = i.within in
-    omega arith
-
-pub can-inside : {file ends : List ℕ} {k : Sort} {b : ℕ} {put : Put} → CanMatch file ends k b put → b < length file
-can-inside p = any-first (record { sort = _; expression = p.expression })
+    -- what did not stand is not made good by what follows
+    pub walked-lost : {at b p n : ℕ} {r : Option ℕ} → AnyAt file ends b → Walked file ends put at b None p n → r ≡ None →
+        Matched file ends (Some at) b put r
+    walked-lost {at} {b} {p} {n} y x e = record {
+      is =
+          e ∙ (then x.so-far
+          (record {
+            is = matched-lost file (exchanged file put (between file p (end_at ends b)));
+            order = further file ends n p (end_at ends b) x.left;
+            within = (any-inside y).within;
+          })).is;
+    }
 
 -- an operand's place is in the list of ends too
 pub any-listed : {file ends : List ℕ} {at : ℕ} → EndsOf file ends → AnyAt file ends at → at < length ends
 any-listed o x = (node_known o x.expression.there).listed
 
--- the words left from a place on, twice, so that a function's own number lies between those of its operands
-abbrev pub left : List ℕ → ℕ → ℕ
-left file b = (length file - b) + (length file - b)
+pub left-some : {file ends : List ℕ} {put : Put} {at b p e i : ℕ} {m : Option ℕ} → Walked file ends put at b m p (e - i) →
+    i < e → Walked file ends put at b m p (suc (e - (i + 1)))
+left-some {file} {ends} {put} {at} {b} {p} {e} {i} {m} x h =
+    let n : e - i ≡ suc (e - (i + 1)) = omega arith in
+    subst (λ n. Walked file ends put at b m p n) n x
 
--- what a call on an operand asks for: it can be matched, and lies further on
-abbrev pub CanCall : List ℕ → List ℕ → Put → ℕ → ℕ → Type 0
-CanCall file ends put t at = (left file at + 1 < t) × CanMatchAny file ends at put
+pub none-left : {file ends : List ℕ} {put : Put} {at b p e i : ℕ} {m : Option ℕ} → Walked file ends put at b m p (e - i) →
+    e ≤ i → Walked file ends put at b m p 0
+none-left {file} {ends} {put} {at} {b} {p} {e} {i} {m} x h =
+    let n : e - i ≡ 0 = omega arith in
+    subst (λ n. Walked file ends put at b m p n) n x
 
-module _ {file ends : List ℕ} {put : Put} (ends_of : EndsOf file ends) (inside : put.to ≤ length file) where
-  call : {t b at : ℕ} → left file b ≡ t → b < at → AnyAt file ends at → CanCall file ends put t at
-  call {t} {b} {at} e h x =
-      let i = any-inside x in
-      let s = i.start in
-      let l = i.within in
-      (omega arith, record { ends_of = ends_of; any = x; inside = inside })
-
-  module _ (b : ℕ) {t : ℕ} (e : left file b ≡ t) where
-    pub can-first : AnyAt file ends (b + 1) → CanCall file ends put t (b + 1)
-    can-first x = call e (omega arith) x
-
-    pub can-second : {at p : ℕ} → Chained file ends 2 (b + 1) p → at ≡ end_at ends (b + 1) → CanCall file ends put t at
-    can-second {at} c k =
-        let s = (any-inside c.0).start in
-        call e (omega arith) (subst (AnyAt file ends) (sym k) c.1.0)
-
-    pub can-third : {at second p : ℕ} → Chained file ends 3 (b + 1) p → second ≡ end_at ends (b + 1) →
-        at ≡ end_at ends second → CanCall file ends put t at
-    can-third {at} {second} c k g =
-        let s = (any-inside c.0).start in
-        let u = (any-inside c.1.0).start in
-        let f : at ≡ end_at ends (end_at ends (b + 1)) = g ∙ ap (end_at ends) k in
-        call e (omega arith) (subst (AnyAt file ends) (sym f) c.1.1.0)
-
--- the function for the sort is called at the same place
-pub can-sort : {file ends : List ℕ} {put : Put} {t b : ℕ} {k : Sort} → left file b + 1 ≡ t → CanMatchAny file ends b put →
-    ExpressionAt file ends k b → (left file b < t) × CanMatch file ends k b put
-can-sort e p x = (omega arith, record { ends_of = p.ends_of; expression = x; inside = p.inside })
+-- an operand can be matched, and lies further on
+pub can-operand : {file ends : List ℕ} {put : Put} {at b p n t : ℕ} {m : Option ℕ} → CanMatchAny file ends b put →
+    Walked file ends put at b m p (suc n) → length file - b ≡ t → (length file - p < t) × CanMatchAny file ends p put
+can-operand c x e =
+    let i = any-inside x.left.0 in
+    let s = i.start in
+    let l = i.within in
+    let h = x.past in
+    (omega arith, record { ends_of = c.ends_of; any = x.left.0; inside = c.inside })

@@ -1,16 +1,18 @@
 -- The numbers of a file between two places.
 -- Assumes nothing.
 --     between_none, between_first    none, the first and the others
+--     between_range                  as a range of a slice
 --     between_join                   up to a place and from there on
 --     between-last                   those before the last, and the last
 --     between-length                 how many
-use mathlib.Core.Path.{◌≡◌, ap, ◌∙◌}
+use mathlib.Core.Path.{◌≡◌, sym, ap, ◌∙◌}
 use mathlib.Core.List.{List, [], ◌∷◌, ◌++◌}
 use Prim.Native.Nat.{ℕ, zero, suc, ◌+◌, ◌-◌, ◌<◌, ◌≤◌}
 use native.Mathlib.Numerals.{add-one}
 use native.Mathlib.Omega.{arith}
-use lib.ListN.{length, get_or, take, length-take, length-drop, drop_of_length-le}
+use lib.ListN.{length, get_or, take, drop, length-take, length-drop, drop_of_length-le}
 use lib.Seq.{slice-cons}
+use Rattle.std.proofs.lemmas.List.{drop-take}
 use Rattle.matching.specs.Matching.{between}
 
 module _ (file : List ℕ) where
@@ -22,6 +24,13 @@ module _ (file : List ℕ) where
       between file a e ≡ get_or file a 0 ∷ between file (a + 1) e
   unfolding between
   between_first a e h k = rw add-one (slice-cons a e file 0 h k)
+
+  -- `&w[a..e]`
+  pub between_range : (a e : ℕ) → a ≤ e → take (e - a) (drop a file) ≡ between file a e
+  unfolding between
+  between_range a e h =
+      let k : a + (e - a) ≡ e = omega arith in
+      sym (drop-take a (e - a) file) ∙ ap (λ n. drop a (take n file)) k
 
   join : (n a q e : ℕ) → q ≡ a + n → q ≤ e → e ≤ length file →
       between file a e ≡ between file a q ++ between file q e

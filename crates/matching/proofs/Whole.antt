@@ -1,77 +1,103 @@
--- A cursor that passes all of a part finds the same numbers there.
+-- Numbers that lead from one place to another are those between them.
 -- Assumes nothing.
---     whole-sound, whole-complete    numbers that lead a cursor from one place to another are those between them, and back
---     whole-past                     a cursor at which none was missing lies past as many as were asked for
-use mathlib.Core.Path.{◌≡◌, refl, sym, ap, subst, ◌∙◌}
+--     whole-sound, whole-complete    numbers that lead from one place to another are those between them, and back
+--     whole-past                     numbers lead as far as there are numbers
+--     range_same, range_other, range-out
+--                                    the numbers between two places stand from a place on, do not, have no room there
+use mathlib.Core.Path.{◌≡◌, refl, sym, ap, ◌∙◌}
 use mathlib.Core.Bool.{Bool, true, false, ◌&&◌, cond}
 use mathlib.Core.List.{List, [], ◌∷◌}
-use Prim.Native.Nat.{ℕ, zero, suc, ◌+◌, ◌-◌, ◌≤◌}
+use Prim.Native.Nat.{ℕ, zero, suc, ◌+◌, ◌-◌, ◌<◌, ◌≤◌}
+use native.Mathlib.Decide.{dec_lt}
 use native.Mathlib.Omega.{arith}
 use borrow.Author.Tests.{ltb-true, eqb-true}
 use lib.Dec.{eqb, ltb}
 use lib.ListN.{length, get_or}
-use Rattle.laws.proofs.Bools.{and_left, and_right, clash}
+use Rattle.std.specs.Prelude.{Option, Some, None}
+use Rattle.std.proofs.lemmas.Option.{none-some, same_Some}
+use Rattle.laws.proofs.Bools.{and_left, and_right}
 use Rattle.matching.specs.Matching.{between, matched_word, matched}
-use Rattle.matching.specs.declared.cursor.Match.{Match}
-use Rattle.matching.proofs.Ranges.{between_none, between_first}
-use Rattle.matching.proofs.Matching.{matched-lost, word-here}
-
-abbrev pub cursor : Bool → ℕ → Match
-cursor b i = record { same = b; at = i }
+use Rattle.matching.proofs.Ranges.{between_none, between_first, between-length}
+use Rattle.matching.proofs.Matching.{matched-lost, word_out, word-here}
 
 module _ (file : List ℕ) where
-  -- the cursor lies past the numbers, and they are those that it passed
-  record NumbersPassed (at : ℕ) (l : List ℕ) (r : Match) : Type 0 where
-    past : r.at ≡ at + length l
-    within : r.at ≤ length file
-    same : between file at r.at ≡ l
+  -- the numbers stand from one place up to another
+  record NumbersStand (at : ℕ) (l : List ℕ) (end : ℕ) : Type 0 where
+    past : end ≡ at + length l
+    within : end ≤ length file
+    same : between file at end ≡ l
 
-  module _ (x : ℕ) (l : List ℕ) (at : ℕ)
-      (ih :
-      at + 1 ≤ length file → (matched file (cursor true (at + 1)) l).same ≡ true →
-      NumbersPassed (at + 1) l (matched file (cursor true (at + 1)) l)) where
+  module _ (x : ℕ) (l : List ℕ) (at end : ℕ)
+      (ih : at + 1 ≤ length file → matched file (Some (at + 1)) l ≡ Some end → NumbersStand (at + 1) l end) where
     step : (b : Bool) → (ltb at (length file) && eqb (get_or file at 0) x) ≡ b →
-        (matched file (cond b (cursor true (at + 1)) (cursor false at)) l).same ≡ true →
-        NumbersPassed at (x ∷ l) (matched file (cond b (cursor true (at + 1)) (cursor false at)) l)
+        matched file (cond b (Some (at + 1)) None) l ≡ Some end → NumbersStand at (x ∷ l) end
     step true e h =
         let inside = ltb-true at (length file) (and_left (ltb at (length file)) (eqb (get_or file at 0) x) e) in
         let here = eqb-true (get_or file at 0) x (and_right (ltb at (length file)) (eqb (get_or file at 0) x) e) in
         let p = ih (omega arith) h in
         let q = p.past in
-        let r : Match = matched file (cursor true (at + 1)) l in
         record {
           past = omega arith;
           within = p.within;
           same =
-              between_first file at r.at (omega arith) p.within ∙ ap (λ z. z ∷ between file (at + 1) r.at) here
+              between_first file at end (omega arith) p.within ∙ ap (λ z. z ∷ between file (at + 1) end) here
               ∙ ap (λ z. x ∷ z) p.same;
         }
-    step false e h =
-        clash h (sym (ap (λ (m : Match). m.same) (matched-lost file (cursor false at) l refl)))
+    step false e h = absurd (none-some end (matched-lost file l ∙ h))
 
-  passed : (l : List ℕ) (at : ℕ) → at ≤ length file → (matched file (cursor true at) l).same ≡ true →
-      NumbersPassed at l (matched file (cursor true at) l)
+  stand : (l : List ℕ) (at end : ℕ) → at ≤ length file → matched file (Some at) l ≡ Some end → NumbersStand at l end
   unfolding matched matched_word
-  passed [] at i h = record { past = omega arith; within = i; same = between_none file at at (omega arith) }
-  passed (x ∷ l) at i h = step x l at (λ j k. passed l (at + 1) j k) (ltb at (length file) && eqb (get_or file at 0) x) refl h
+  stand [] at end i h =
+      let e = same_Some at end h in
+      record { past = omega arith; within = omega arith; same = between_none file at end (omega arith) }
+  stand (x ∷ l) at end i h =
+      step x l at end (λ j k. stand l (at + 1) end j k) (ltb at (length file) && eqb (get_or file at 0) x) refl h
 
-  pub whole-past : (l : List ℕ) (at : ℕ) → at ≤ length file → (matched file (cursor true at) l).same ≡ true →
-      (matched file (cursor true at) l).at ≡ at + length l
-  whole-past l at i h = (passed l at i h).past
+  pub whole-past : (l : List ℕ) (at end : ℕ) → at ≤ length file → matched file (Some at) l ≡ Some end → end ≡ at + length l
+  whole-past l at end i h = (stand l at end i h).past
 
-  pub whole-sound : (l : List ℕ) (at to : ℕ) → at ≤ length file → (matched file (cursor true at) l).same ≡ true →
-      (matched file (cursor true at) l).at ≡ to → between file at to ≡ l
-  whole-sound l at to i h e = subst (λ p. between file at p ≡ l) e (passed l at i h).same
+  pub whole-sound : (l : List ℕ) (at end : ℕ) → at ≤ length file → matched file (Some at) l ≡ Some end → between file at end ≡ l
+  whole-sound l at end i h = (stand l at end i h).same
 
-  reaches : (n at to : ℕ) → to ≡ at + n → to ≤ length file →
-      matched file (cursor true at) (between file at to) ≡ cursor true to
+  reaches : (n at to : ℕ) → to ≡ at + n → to ≤ length file → matched file (Some at) (between file at to) ≡ Some to
   unfolding matched
-  reaches zero at to e h = rw (between_none file at to (omega arith)) (ap (cursor true) (omega arith))
+  reaches zero at to e h = rw (between_none file at to (omega arith)) (ap Some (omega arith))
   reaches (suc n) at to e h =
       rw (between_first file at to (omega arith) h)
-      (ap (λ m. matched file m (between file (at + 1) to)) (sym (word-here file (cursor true at) (get_or file at 0) refl (omega arith) refl))
+      (ap (λ m. matched file m (between file (at + 1) to)) (sym (word-here file at (get_or file at 0) (omega arith) refl))
       ∙ reaches n (at + 1) to (omega arith) h)
 
-  pub whole-complete : (at to : ℕ) → at ≤ to → to ≤ length file →
-      matched file (cursor true at) (between file at to) ≡ cursor true to
+  pub whole-complete : (at to : ℕ) → at ≤ to → to ≤ length file → matched file (Some at) (between file at to) ≡ Some to
   whole-complete at to h k = reaches (to - at) at to (omega arith) k
+
+  -- a list stands from a place on, or none is past it
+  unless : (l : List ℕ) (at : ℕ) → at ≤ length file → ((end : ℕ) → NumbersStand at l end → ⊥) → None ≡ matched file (Some at) l
+  unless l at i n = go (matched file (Some at) l) refl
+    where
+      go : (m : Option ℕ) → matched file (Some at) l ≡ m → None ≡ matched file (Some at) l
+      go None e = sym e
+      go (Some end) e = absurd (n end (stand l at end i e))
+
+  module _ (at from to : ℕ) (inside : to ≤ length file) where
+    pub range_same : at + (to - from) ≤ length file → between file at (at + (to - from)) ≡ between file from to →
+        Some (at + (to - from)) ≡ matched file (Some at) (between file from to)
+    range_same h e = sym (ap (matched file (Some at)) (sym e) ∙ whole-complete at (at + (to - from)) (omega arith) h)
+
+    pub range_other : at + (to - from) ≤ length file → (between file at (at + (to - from)) ≡ between file from to → ⊥) →
+        None ≡ matched file (Some at) (between file from to)
+    range_other h n =
+        let l = between-length file from to inside in
+        unless (between file from to) at (omega arith)
+        (λ end s. let p = s.past in let e : end ≡ at + (to - from) = omega arith in n (ap (between file at) (sym e) ∙ s.same))
+
+    pub range-out : from < to → length file < at + (to - from) → None ≡ matched file (Some at) (between file from to)
+    unfolding matched
+    range-out h k = elim (dec_lt at (length file)) [
+      | yes j ↦
+          let l = between-length file from to inside in
+          unless (between file from to) at (omega arith) (λ end s. let p = s.past in let q = s.within in omega arith)
+      | no j ↦
+          rw (between_first file from to h inside)
+          (matched-lost file (between file (from + 1) to)
+          ∙ ap (λ m. matched file m (between file (from + 1) to)) (word_out file at (get_or file from 0) (omega arith)))
+    ]

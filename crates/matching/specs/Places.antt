@@ -1,16 +1,15 @@
--- What the functions that walk an expression ask for and promise.
+-- What the function that walks an expression asks for and promises.
 -- Working: `written-any` of proofs/Operands says that a written expression stands so; `replaces` of proofs/Replaced ties
 -- what is matched to the rules' `replace`. Assumes nothing.
 --     part                            the numbers of what starts at a place, up to its end in the list of ends
 --     ExpressionAt, AnyAt, Chained    an expression of a sort; one of any sort; so many of them, one after the other
---     CanMatch, CanMatchAny           what the functions ask for
---     Matched                         what they promise: the cursor after its numbers, with others in the place of a word
-use Rattle.std.specs.Prelude.{◌≡◌, List, ℕ, zero, suc, ◌≤◌, length}
+--     CanMatchAny                     what the function asks for
+--     Matched                         what it promises: the place past its numbers, with others in the place of a word
+use Rattle.std.specs.Prelude.{◌≡◌, Option, List, ℕ, zero, suc, ◌≤◌, length}
 use Rattle.language.specs.Syntax.{Sort, Expr}
 use Rattle.ends.specs.Ends.{EndsOf}
 use Rattle.ends.specs.Places.{end_at, WrittenAt}
 use Rattle.matching.specs.Matching.{between, matched, exchanged}
-use Rattle.matching.specs.declared.cursor.Match.{Match}
 use Rattle.matching.specs.declared.cursor.Put.{Put}
 
 module _ (file ends : List ℕ) where
@@ -29,15 +28,10 @@ module _ (file ends : List ℕ) where
   Chained zero at p = at ≡ p
   Chained (suc n) at p = AnyAt at × Chained n (end_at ends at) p
 
-  pub record CanMatch (k : Sort) (at : ℕ) (put : Put) : Type 0 where
-    pub ends_of : EndsOf file ends
-    pub expression : ExpressionAt k at
-    pub inside : put.to ≤ length file
-
   pub record CanMatchAny (at : ℕ) (put : Put) : Type 0 where
     pub ends_of : EndsOf file ends
     pub any : AnyAt at
     pub inside : put.to ≤ length file
 
-pub record Matched (file ends : List ℕ) (m : Match) (b : ℕ) (put : Put) (r : Match) : Type 0 where
+pub record Matched (file ends : List ℕ) (m : Option ℕ) (b : ℕ) (put : Put) (r : Option ℕ) : Type 0 where
   pub is : r ≡ matched file m (exchanged file put (between file b (end_at ends b)))

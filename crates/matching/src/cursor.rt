@@ -1,95 +1,63 @@
 ghost use Rattle.std.specs.Prelude.{◌≡◌, ◌<◌, ◌≤◌, length};
-ghost use Rattle.matching.specs.Matching.{match_at, matched_word, matched, between, put_for};
+ghost use Rattle.matching.specs.Matching.{matched_word, matched, between, put_for};
 
-use crate::equal::equal_words;
-use words::numbers::least;
-
-// Whether all that was asked for stood there so far, and the place past it. A failure absorbs what follows.
-#[derive(Clone, Copy)]
-pub struct Match {
-    pub same: bool,
-    pub at: usize,
-}
+use crate::equal::same_words;
 
 // A word, and the places between which the words stand that are put for it.
-#[derive(Clone, Copy)]
+#[derive(Clone, Copy, Debug, PartialEq, Eq)]
 pub struct Put {
     pub word: u32,
     pub from: usize,
     pub to: usize,
 }
 
-pub fn match_word(w: &[u32], m: Match, x: u32) -> Match
-    ensures { result ≡ matched_word w.now m x }
+// The place past the word x, if it stands at `at`.
+#[tactic(auto, using(std::proofs::lemmas::Option::gets), unfolding(crate::specs::Matching::matched_word))]
+pub fn match_word(w: &[u32], at: usize, x: u32) -> Option<usize>
+    ensures { result ≡ matched_word w.now (Some «at») x }
 {
-    let same = m.same;
-    let at = m.at;
-    if !same {
-        return m;
-    }
-    if w.len() <= at {
-        return Match { same: false, at };
-    }
-    if w[at] != x {
-        return Match { same: false, at };
-    }
-    Match {
-        same: true,
-        at: at + 1,
-    }
+    if *w.get(at)? == x { Some(at + 1) } else { None }
 }
 
-// The words from `from` up to `to` stand from `at` on, one by one.
-pub fn match_rest(w: &[u32], at: usize, from: usize, to: usize) -> Match
-    requires { to ≤ length w.now }
-    ensures { result ≡ matched w.now (match_at «at») (between w.now from to) }
+// The place past some words, if they stand from `at` on.
+pub fn match_words(w: &[u32], at: usize, words: &[u32]) -> Option<usize>
+    ensures { result ≡ matched w.now (Some «at») words.now }
 {
-    let n = w.len();
-    let mut i = from;
-    let mut j = at;
-    while i < to {
-        if n <= j {
-            return Match { same: false, at: j };
-        }
-        if w[i] != w[j] {
-            return Match { same: false, at: j };
-        }
-        i += 1;
-        j += 1;
+    let mut next = at;
+    for x in words {
+        next = match_word(w, next, *x)?;
     }
-    Match { same: true, at: j }
+    Some(next)
 }
 
-// The words from `from` up to `to` stand at the cursor.
-pub fn match_range(w: &[u32], m: Match, from: usize, to: usize) -> Match
+// The place past the words from `from` up to `to`, if they stand from `at` on.
+pub fn match_range(w: &[u32], at: usize, from: usize, to: usize) -> Option<usize>
     requires { to ≤ length w.now }
-    ensures { result ≡ matched w.now m (between w.now from to) }
+    ensures { result ≡ matched w.now (Some «at») (between w.now from to) }
 {
-    let same = m.same;
-    let at = m.at;
-    if !same {
-        return m;
-    }
     if to <= from {
-        return m;
+        return Some(at);
     }
-    let n = w.len();
-    if n <= at {
-        return Match { same: false, at };
+    let count = to - from;
+    if w.len().saturating_sub(at) < count {
+        return None;
     }
-    let k = equal_words(w, at, from, least(n - at, to - from));
-    match_rest(w, at + k, from + k, to)
+    let end = at + count;
+    if same_words(w, at, end, from, to) {
+        Some(end)
+    } else {
+        None
+    }
 }
 
-// The word x, or what is put for it.
-pub fn match_head(w: &[u32], m: Match, x: u32, put: Put) -> Match
+// The place past the word x, or past what is put for it, if that stands at `at`.
+pub fn match_head(w: &[u32], at: usize, x: u32, put: Put) -> Option<usize>
     requires { put.to ≤ length w.now }
-    ensures { result ≡ matched w.now m (put_for w.now put x) }
+    ensures { result ≡ matched w.now (Some «at») (put_for w.now put x) }
 {
-    let word = put.word;
-    if x == word {
-        match_range(w, m, put.from, put.to)
+    if x == put.word {
+        match_range(w, at, put.from, put.to)
     } else {
-        match_word(w, m, x)
+        match_word(w, at, x)
     }
 }

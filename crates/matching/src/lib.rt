@@ -1,7 +1,7 @@
 // Words matched along a file: written expressions compared by words, also with one expression in the place of an identifier.
 #![tactic(auto)]
 
-mod equal; // words compared four at a time
-pub mod cursor; // a place that moves along a file while the words from it on are the ones asked for
+mod equal; // words compared
+pub mod cursor; // the place past a word, or past what is put for it, if that stands there
 pub mod expression; // the words of an expression, with another in the place of an identifier
-pub mod part; // the words of a part at a cursor, and of two parts
+pub mod part; // the words of a part, and of two parts

@@ -3,48 +3,35 @@ ghost use Rattle.matching.specs.Matching.{matched, came, same_numbers};
 ghost use Rattle.ends.specs.Places.{end_at, PartKnown};
 ghost use Rattle.matching.specs.Places.{part};
 
-use crate::cursor::{Match, match_range, match_rest};
-use crate::equal::equal_words;
+use crate::cursor::match_range;
+use crate::equal::same_words;
 use ends::end_at;
 
-// The words of the part at a stand at the cursor.
-pub fn match_part(w: &[u32], ends: &[u32], m: Match, a: usize) -> Match
+// The place past the words of the part at a, if they stand at `at`.
+pub fn match_part(w: &[u32], ends: &[u32], at: usize, a: usize) -> Option<usize>
     requires { PartKnown w.now ends.now a }
-    ensures { result ≡ matched w.now m (part w.now ends.now a) }
+    ensures { result ≡ matched w.now (Some «at») (part w.now ends.now a) }
 {
     let to = end_at(ends, a);
-    match_range(w, m, a, to)
+    match_range(w, at, a, to)
 }
 
-// Whether nothing was missing, and the cursor has come to the end of the part at `at`.
-pub fn came_to_end(ends: &[u32], m: Match, at: usize) -> bool
+// Whether all stood there, up to the end of the part at `at`.
+#[tactic(auto, unfolding(crate::specs::Matching::came))]
+pub fn came_to_end(ends: &[u32], end: Option<usize>, at: usize) -> bool
     requires { «at» < length ends.now }
-    ensures { result ≡ came m (end_at ends.now «at») }
+    ensures { result ≡ came end (end_at ends.now «at») }
 {
-    let same = m.same;
-    if !same {
-        return false;
-    }
-    let to = end_at(ends, at);
-    let end = m.at;
-    end == to
+    end == Some(end_at(ends, at))
 }
 
-// Whether the words of the parts at f and g are the same. Parts of other lengths are not, and two of one length differ
-// more often at their end than at their start.
+// Whether the words of the parts at f and g are the same. Two of one length differ more often at their end than at their
+// start.
 pub fn same_parts(w: &[u32], ends: &[u32], f: usize, g: usize) -> bool
     requires { PartKnown w.now ends.now f × PartKnown w.now ends.now g }
     ensures { result ≡ same_numbers (part w.now ends.now f) (part w.now ends.now g) }
 {
     let e = end_at(ends, f);
     let to = end_at(ends, g);
-    if e - f != to - g {
-        return false;
-    }
-    if w[e - 1] != w[to - 1] {
-        return false;
-    }
-    let k = equal_words(w, f, g, to - 1 - g);
-    let m = match_rest(w, f + k, g + k, to - 1);
-    m.same
+    w[e - 1] == w[to - 1] && same_words(w, f, e - 1, g, to - 1)
 }
