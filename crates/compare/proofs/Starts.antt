@@ -2,10 +2,8 @@
 -- Assumes nothing.
 --     true-words, words-true                   a plain form is true exactly when each word is and or true
 --     true-test                                as the first other word tells
---     of_and-word, of-other_word, is-neither, is-either
---                                              the test of a word
---     Scanning, scanning_start, scanning_on, scanning_stop, scanning_end, other-until
---                                              the words so far are and or true
+--     first-low, first-found, first-none, other-until
+--                                              the first word that is neither and nor true
 --     Descends, descends_start                 the boolean there has the plain form, and what is dropped lies before it
 --     AndAt, and_at                            an and, and its operands
 --     place_inside, second-boolean, second-further, first-listed
@@ -16,12 +14,18 @@
 use mathlib.Core.Path.{◌≡◌, refl, sym, ap, subst, ◌∙◌}
 use mathlib.Core.Bool.{Bool, true, false, not, ◌&&◌, ◌||◌, cond, false≢true, true≢false}
 use mathlib.Core.List.{List}
-use mathlib.Core.Logic.{inl, inr}
-use Prim.Native.Nat.{ℕ, ◌+◌, ◌<◌, ◌≤◌}
+use mathlib.Core.Logic.{◌⊎◌, inl, inr}
+use Prim.Native.Nat.{ℕ, ◌+◌, ◌-◌, ◌<◌, ◌≤◌}
 use native.Mathlib.Omega.{arith}
-use borrow.Author.Tests.{eqb-true, eq-eqb, ne_eqb}
-use lib.Dec.{eqb}
-use lib.ListN.{length, get_or}
+use borrow.Author.Tests.{eqb-true, eq-eqb, lt-ltb}
+use lib.Dec.{eqb, ltb}
+use lib.ListN.{length, get_or, take, drop, length-take, length-drop}
+use Rattle.std.specs.Prelude.{Some, None}
+use Rattle.std.specs.List.{position, position_or_len}
+use Rattle.std.proofs.lemmas.List.{get_or-take, get_or-drop}
+use Rattle.std.proofs.lemmas.List.Quantifiers.{position-Some}
+use Rattle.std.proofs.lemmas.List.Sums.{fails_before_first}
+use Rattle.std.proofs.lemmas.Option.{none-some}
 use Rattle.laws.proofs.Bools.{and_left, and_right, and_both, or-second}
 use Rattle.language.specs.Syntax.{Boolean, Expr, compare, truth, and, or, neg}
 use Rattle.rules.specs.Plain.{is_true, plain_and, plain}
@@ -128,56 +132,73 @@ module _ {file ends : List ℕ} (o : EndsOf file ends) where
             ]);
       })
 
--- ---- the scan
 -- the test of a word
-pub of_and-word : (x : ℕ) → x ≡ word_of 10 0 → false ≡ not (eqb x (word_of 10 0) || eqb x (word_of 9 1))
-of_and-word x h = rw (eq-eqb x (word_of 10 0) h) refl
+abbrev is-word : ℕ → Bool
+is-word x = not (eqb x (word_of 10 0) || eqb x (word_of 9 1))
 
-pub of-other_word : (x : ℕ) → (x ≡ word_of 10 0 → ⊥) → not (eqb x (word_of 9 1)) ≡ not (eqb x (word_of 10 0) || eqb x (word_of 9 1))
-of-other_word x h = rw (ne_eqb x (word_of 10 0) h) refl
+-- the test of a word
+is-neither : (x : ℕ) → is-word x ≡ true → (x ≡ word_of 10 0) ⊎ (x ≡ word_of 9 1) → ⊥
+is-neither x h (inl k) = false≢true (sym (rw (eq-eqb x (word_of 10 0) k) refl) ∙ h)
+is-neither x h (inr k) = false≢true (sym (rw (eq-eqb x (word_of 9 1) k) (ap not (or-second (eqb x (word_of 10 0)) refl))) ∙ h)
 
--- what it says
-module _ (file : List ℕ) (at : ℕ) {r : Bool} (e : r ≡ not (eqb (get_or file at 0) (word_of 10 0) || eqb (get_or file at 0) (word_of 9 1))) where
-  pub is-neither : r ≡ true → AndOrTrue file at → ⊥
-  is-neither h (inl k) = false≢true (sym (e ∙ rw (eq-eqb (get_or file at 0) (word_of 10 0) k) refl) ∙ h)
-  is-neither h (inr k) =
-      false≢true
-      (sym (e ∙ rw (eq-eqb (get_or file at 0) (word_of 9 1) k) (ap not (or-second (eqb (get_or file at 0) (word_of 10 0)) refl))) ∙ h)
+is-either : (x : ℕ) → is-word x ≡ false → (x ≡ word_of 10 0) ⊎ (x ≡ word_of 9 1)
+is-either x h = go (eqb x (word_of 10 0)) (eqb x (word_of 9 1)) refl refl h
+  where
+    go : (t u : Bool) → eqb x (word_of 10 0) ≡ t → eqb x (word_of 9 1) ≡ u → not (t || u) ≡ false → (x ≡ word_of 10 0) ⊎ (x ≡ word_of 9 1)
+    go true u i j k = inl (eqb-true _ _ i)
+    go false true i j k = inr (eqb-true _ _ j)
+    go false false i j k = absurd (true≢false k)
 
-  pub is-either : r ≡ false → AndOrTrue file at
-  is-either h = go (eqb (get_or file at 0) (word_of 10 0)) (eqb (get_or file at 0) (word_of 9 1)) refl refl (sym e ∙ h)
-    where
-      go : (t u : Bool) → eqb (get_or file at 0) (word_of 10 0) ≡ t → eqb (get_or file at 0) (word_of 9 1) ≡ u → not (t || u) ≡ false →
-          AndOrTrue file at
-      go true u i j k = inl (eqb-true _ _ i)
-      go false true i j k = inr (eqb-true _ _ j)
-      go false false i j k = absurd (true≢false k)
+none-before : (n m : ℕ) → None ≡ cond (ltb n m) (Some n) None → m ≤ n
+none-before n m h = elim (lt_or_le n m) [
+  | inl l ↦ absurd (none-some n (h ∙ rw (lt-ltb n m l) refl))
+  | inr l ↦ l
+]
 
-pub record Scanning (file : List ℕ) (from to at : ℕ) : Type 0 where
-  pub low : from ≤ at
-  pub high : at ≤ to
-  pub passed : (p : ℕ) → from ≤ p → p < at → AndOrTrue file p
+module _ (file : List ℕ) (f to : ℕ) (h : f < to) (k : to ≤ length file) where
+  -- the words of the range
+  abbrev range : List ℕ
+  range = take (to - f) (drop f file)
 
-module _ {file : List ℕ} {from to : ℕ} where
-  pub scanning_start : from ≤ to → Scanning file from to from
-  scanning_start h = record { low = omega arith; high = h; passed = λ p l u. absurd (omega arith) }
+  range-length : length range ≡ to - f
+  range-length = grind (arith, length-take, length-drop)
 
-  module _ {at : ℕ} (s : Scanning file from to at) where
-    pub scanning_on : at < to → AndOrTrue file at → Scanning file from to (at + 1)
-    scanning_on h x = record {
-      low = omega (arith, s.low);
-      high = omega arith;
-      passed = λ p l u. elim (lt_or_le p at) [
-        | inl i ↦ s.passed p l i
-        | inr i ↦ let here : at ≡ p = omega arith in subst (AndOrTrue file) here x
-      ];
-    }
+  at-range : (i : ℕ) → i < to - f → get_or range i 0 ≡ get_or file (f + i) 0
+  at-range i l = get_or-take (to - f) (drop f file) i 0 l ∙ get_or-drop f file i 0
 
-    pub scanning_stop : (AndOrTrue file at → ⊥) → FirstOther file from to at
-    scanning_stop h = record { low = s.low; high = s.high; passed = s.passed; stopped = λ l x. h x }
+  pub first-low : {i : ℕ} → Some i ≡ position is-word range → i < to - f
+  first-low {i} e = let p = position-Some is-word range i 0 (sym e) in omega (arith, p.0, range-length)
 
-    pub scanning_end : to ≤ at → FirstOther file from to at
-    scanning_end h = record { low = s.low; high = s.high; passed = s.passed; stopped = λ l x. absurd (omega arith) }
+  pub first-found : {i : ℕ} → Some i ≡ position is-word range → FirstOther file f to (f + i)
+  first-found {i} e =
+      let p = position-Some is-word range i 0 (sym e) in
+      let l = first-low e in
+      record {
+        low = omega arith;
+        high = omega arith;
+        passed = λ at m u.
+            let n : f + (at - f) ≡ at = omega arith in
+            subst (AndOrTrue file) n
+            (subst (λ x. (x ≡ word_of 10 0) ⊎ (x ≡ word_of 9 1)) (at-range (at - f) (omega arith))
+            (is-either (get_or range (at - f) 0) (p.2 (at - f) (omega arith))));
+        stopped = λ m x.
+            is-neither (get_or file (f + i) 0) (ap is-word (sym (at-range i l)) ∙ p.1) x;
+      }
+
+  pub first-none : None ≡ position is-word range → FirstOther file f to to
+  first-none e =
+      let l : length range ≤ position_or_len is-word range = none-before (position_or_len is-word range) (length range) e in
+      let n : length range ≡ to - f = range-length in
+      record {
+        low = omega arith;
+        high = omega arith;
+        passed = λ at m u.
+            let same : f + (at - f) ≡ at = omega arith in
+            subst (AndOrTrue file) same
+            (subst (λ x. (x ≡ word_of 10 0) ⊎ (x ≡ word_of 9 1)) (at-range (at - f) (omega arith))
+            (is-either (get_or range (at - f) 0) (fails_before_first is-word range (at - f) 0 (omega arith))));
+        stopped = λ m x. absurd (omega arith);
+      }
 
 -- up to the end by another name
 pub other-until : {file : List ℕ} (ends : List ℕ) {f to r : ℕ} → to ≡ end_at ends f → FirstOther file f to r → FirstOther file f (end_at ends f) r

@@ -14,7 +14,7 @@ use words::kinds::{AND_WORD, NOT_WORD, OR_WORD};
 
 // An antecedent, or an assertion of rules 20 to 32, as the rules form it, by places: the boolean at a place; φ ∧ B; φ ∧ ¬B;
 // (φ1 ∧ B) ∨ (φ2 ∧ ¬B) by φ1, φ2 and B; the boolean at a place with words put for a word; true.
-#[derive(Clone, Copy)]
+#[derive(Clone, Copy, Debug, PartialEq, Eq)]
 pub enum Antecedent {
     Written(usize),
     And(usize, usize),

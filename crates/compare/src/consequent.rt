@@ -4,12 +4,12 @@ ghost use Rattle.ends.specs.Places.{PartKnown};
 ghost use Rattle.matching.specs.Places.{part};
 ghost use Rattle.compare.specs.Forms.{consequent_numbers, CanConsequent};
 
-use matching::cursor::{Match, Put};
+use matching::cursor::Put;
 use matching::expression::match_expression;
 use matching::part::{came_to_end, same_parts};
 
 // A consequent as the rules form it, by places: the expression at a place; the same with words put for a word.
-#[derive(Clone, Copy)]
+#[derive(Clone, Copy, Debug, PartialEq, Eq)]
 pub enum Consequent {
     Written(usize),
     Replaced(usize, Put),
@@ -30,10 +30,10 @@ pub fn same_consequent(w: &[u32], ends: &[u32], at: usize, form: Consequent) -> 
         (consequent_numbers w.now ends.now form) }
 {
     match form {
-        Consequent::Written(a) => same_consequents(w, ends, at, a),
+        Consequent::Written(a) => same_parts(w, ends, at, a),
         Consequent::Replaced(a, put) => {
-            let m = match_expression(w, ends, Match { same: true, at }, a, put);
-            came_to_end(ends, m, at)
+            let end = match_expression(w, ends, at, a, put);
+            came_to_end(ends, end, at)
         }
     }
 }

@@ -7,13 +7,13 @@ ghost use Rattle.compare.specs.declared.plain.Change.TheVariants.{Unchanged};
 
 use crate::start::{left_other, other_of, plain_start, start_from};
 use ends::end_at;
-use matching::cursor::{Match, Put};
-use matching::expression::match_boolean;
+use matching::cursor::Put;
+use matching::expression::match_expression;
 use matching::part::{came_to_end, same_parts};
 use words::kinds::{COMPARISON, KIND, NOT, TRUTH};
 
 // What is put for an identifier in the second of two booleans: nothing; words for a word.
-#[derive(Clone, Copy)]
+#[derive(Clone, Copy, Debug, PartialEq, Eq)]
 pub enum Change {
     Unchanged,
     Replaced(Put),
@@ -27,8 +27,8 @@ fn same_changed(w: &[u32], ends: &[u32], f: usize, g: usize, change: Change) -> 
     match change {
         Change::Unchanged => same_parts(w, ends, f, g),
         Change::Replaced(put) => {
-            let m = match_boolean(w, ends, Match { same: true, at: f }, g, put);
-            came_to_end(ends, m, f)
+            let end = match_expression(w, ends, f, g, put);
+            came_to_end(ends, end, f)
         }
     }
 }

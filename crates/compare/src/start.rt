@@ -1,7 +1,7 @@
 // Where the plain form of a boolean starts (document 02, request [2]): past each side whose plain form is true. The words of such a side
 // are all and or true, so that the first other word of a boolean tells of each left side that starts before it whether it is so; each word is looked
 // at a few times, however the sides are nested.
-ghost use Rattle.std.specs.Prelude.{◌≡◌, true, not, ◌||◌, ◌+◌, ◌≤◌, eqb, length};
+ghost use Rattle.std.specs.Prelude.{◌≡◌, true, not, ◌||◌, ◌+◌, ◌≤◌, eqb, length, position};
 ghost use Rattle.language.specs.Syntax.{truth};
 ghost use Rattle.rules.specs.Tests.{same_antecedent};
 ghost use Rattle.layout.specs.Bytes.{word_of};
@@ -18,34 +18,26 @@ use words::kinds::{AND_WORD, TRUE_WORD};
 fn is_other(x: u32) -> bool
     ensures { result ≡ not (eqb x (word_of 10 0) || eqb x (word_of 9 1)) }
 {
-    if x == AND_WORD {
-        return false;
-    }
-    x != TRUE_WORD
+    !matches!(x, AND_WORD | TRUE_WORD)
 }
 
-// The first of the words from a place up to another that is neither and nor true, or that other place.
-fn first_other(w: &[u32], from: usize, to: usize) -> usize
-    requires { (from ≤ to) × (to ≤ length w.now) }
-    ensures { FirstOther w.now from to result }
+// The first of some words that is neither and nor true.
+fn first_other(words: &[u32]) -> Option<usize>
+    ensures { result ≡ position (λ x. not (eqb x (word_of 10 0) || eqb x (word_of 9 1))) words.now }
 {
-    let mut at = from;
-    while at < to {
-        if is_other(w[at]) {
-            return at;
-        }
-        at += 1;
-    }
-    at
+    words.iter().position(|x| is_other(*x))
 }
 
-// The same of the words of the boolean at f.
+// The place of the first word of the boolean at f that is neither and nor true, or the boolean's end.
 pub fn other_of(w: &[u32], ends: &[u32], f: usize) -> usize
     requires { CanAntecedent w.now ends.now f True }
     ensures { FirstOther w.now f (end_at ends.now f) result }
 {
     let to = end_at(ends, f);
-    first_other(w, f, to)
+    match first_other(&w[f..to]) {
+        Some(k) => f + k,
+        None => to,
+    }
 }
 
 // Whether the plain form of the boolean at f is true.
