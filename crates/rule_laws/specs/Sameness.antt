@@ -4,11 +4,11 @@
 --     CanSame, CanSameAssertion
 --                             two written expressions, two written assertions: what the tests of them ask for
 --     SameAssertionAt, SameAt two assertions; two consequents: what the tests promise
---     start_numbers, next_numbers
---                             the words before and after the body in the meaning of a `for`
+--     start_numbers, next_numbers, meaning_numbers
+--                             the words before and after the body in the meaning of a `for`, and all of them
 --     CanMean, MeaningAt      a written command and the meaning of a written `for` (document 01, rules 14 and 30)
 --     CanKeep, KeptAt         a command modifies no identifier of a written expression or set
-use Rattle.std.specs.Prelude.{◌≡◌, Bool, List, [], ◌∷◌, ℕ, ◌+◌, ◌<◌, length}
+use Rattle.std.specs.Prelude.{◌≡◌, Bool, List, [], ◌∷◌, ◌++◌, ℕ, ◌+◌, ◌/◌, ◌%◌, ◌<◌, length}
 use Rattle.language.specs.Syntax.{Sort, Boolean, Expr, Command, for}
 use Rattle.language.specs.Runs.{meaning}
 use Rattle.language.specs.Modifies.{identifiers}
@@ -17,12 +17,12 @@ use Rattle.rules.specs.Context.{Context}
 use Rattle.rules.specs.Sets.{set_identifiers}
 use Rattle.rules.specs.Tests.{same_antecedent, same_consequent, unmodified}
 use Rattle.rules.specs.Words.{command_words, same_words}
-use Rattle.layout.specs.Bytes.{word_of}
+use Rattle.layout.specs.Bytes.{payload_at, word_of}
 use Rattle.ends.specs.Ends.{EndsOf}
 use Rattle.ends.specs.Places.{WrittenAt, CommandAt, SetAt, PartKnown}
 use Rattle.ends.specs.Procedures.{Procedures}
 use Rattle.masks.specs.Filled.{MasksOf}
-use Rattle.matching.specs.Places.{ExpressionAt}
+use Rattle.matching.specs.Places.{part, ExpressionAt}
 use Rattle.goals.specs.Resolved.{ResolvedAt}
 
 -- 25:0 27:q 1:1 30:0 8:2 2:q 2:m 25:0
@@ -36,6 +36,11 @@ unfoldable pub next_numbers : ℕ → List ℕ
 next_numbers q = (word_of 27 q) ∷ (word_of 3 0) ∷ (word_of 2 q) ∷ (word_of 1 1) ∷ []
 
 module _ (file ends : List ℕ) where
+  -- of the `for` at c, with its body's words between them
+  unfoldable pub meaning_numbers : ℕ → List ℕ
+  meaning_numbers c =
+      start_numbers (payload_at file c % 32) (payload_at file c / 32) ++ (part file ends (c + 1) ++ next_numbers (payload_at file c % 32))
+
   pub record CanSame (f g : ℕ) : Type 0 where
     pub first : PartKnown file ends f
     pub second : PartKnown file ends g

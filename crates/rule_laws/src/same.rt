@@ -1,11 +1,12 @@
-ghost use Rattle.std.specs.Prelude.{◌≡◌, ◌≤◌};
+ghost use Rattle.std.specs.Prelude.{◌≡◌, ◌+◌, ◌<◌, ◌≤◌, length};
 ghost use Rattle.matching.specs.Matching.{matched};
-ghost use Rattle.rule_laws.specs.Sameness.{CanSame, CanSameAssertion, SameAssertionAt, SameAt, start_numbers, next_numbers};
+ghost use Rattle.ends.specs.Places.{PartKnown};
+ghost use Rattle.rule_laws.specs.Sameness.{CanSame, CanSameAssertion, SameAssertionAt, SameAt, start_numbers, next_numbers, meaning_numbers};
 ghost use Rattle.rule_laws.specs.Sameness.{CanMean, MeaningAt};
 
 use compare::antecedent::{Antecedent, same_antecedent};
 use compare::consequent::{Consequent, same_consequent};
-use matching::cursor::{Match, match_word};
+use matching::cursor::match_words;
 use matching::part::{came_to_end, match_part};
 use words::kinds::{
     AT_MOST_WORD, KIND, ONE_WORD, PLUS_WORD, SCALAR_WORD, SEQUENCE_WORD, TO_SCALAR_WORD, WHILE_WORD,
@@ -27,30 +28,46 @@ pub fn is_same_consequent(w: &[u32], ends: &[u32], f: usize, g: usize) -> bool
     same_consequent(w, ends, f, Consequent::Written(g))
 }
 
-// The words before the body: 25:0 27:q 1:1 30:0 8:2 2:q 2:m 25:0, that is q := 1; while q ≤ m do (..
-fn match_start(w: &[u32], m: Match, q: u32, bound: u32) -> Match
+// The place past the words before the body, if they stand at `at`: 25:0 27:q 1:1 30:0 8:2 2:q 2:m 25:0, that is
+// q := 1; while q ≤ m do (..
+#[tactic(auto, unfolding(crate::specs::Sameness::start_numbers))]
+fn match_start(w: &[u32], at: usize, q: u32, bound: u32) -> Option<usize>
     requires { (q ≤ 67108863) × (bound ≤ 67108863) }
-    ensures { result ≡ matched w.now m (start_numbers q bound) }
+    ensures { result ≡ matched w.now (Some «at») (start_numbers q bound) }
 {
-    let sequence = match_word(w, m, SEQUENCE_WORD);
-    let start = match_word(w, sequence, TO_SCALAR_WORD + q);
-    let one = match_word(w, start, ONE_WORD);
-    let repeat = match_word(w, one, WHILE_WORD);
-    let test = match_word(w, repeat, AT_MOST_WORD);
-    let left = match_word(w, test, SCALAR_WORD + q);
-    let right = match_word(w, left, SCALAR_WORD + bound);
-    match_word(w, right, SEQUENCE_WORD)
+    let words = [
+        SEQUENCE_WORD,
+        TO_SCALAR_WORD + q,
+        ONE_WORD,
+        WHILE_WORD,
+        AT_MOST_WORD,
+        SCALAR_WORD + q,
+        SCALAR_WORD + bound,
+        SEQUENCE_WORD,
+    ];
+    match_words(w, at, &words)
 }
 
-// The words after it: 27:q 3:0 2:q 1:1, that is q := q + 1.
-fn match_next(w: &[u32], m: Match, q: u32) -> Match
+// The place past the words after it: 27:q 3:0 2:q 1:1, that is q := q + 1.
+#[tactic(auto, unfolding(crate::specs::Sameness::next_numbers))]
+fn match_next(w: &[u32], at: usize, q: u32) -> Option<usize>
     requires { q ≤ 67108863 }
-    ensures { result ≡ matched w.now m (next_numbers q) }
+    ensures { result ≡ matched w.now (Some «at») (next_numbers q) }
 {
-    let next = match_word(w, m, TO_SCALAR_WORD + q);
-    let sum = match_word(w, next, PLUS_WORD);
-    let counter = match_word(w, sum, SCALAR_WORD + q);
-    match_word(w, counter, ONE_WORD)
+    let words = [TO_SCALAR_WORD + q, PLUS_WORD, SCALAR_WORD + q, ONE_WORD];
+    match_words(w, at, &words)
+}
+
+// The place past the words of what the `for` at c means, if they stand at `at`.
+fn match_meaning(w: &[u32], ends: &[u32], at: usize, c: usize) -> Option<usize>
+    requires { (c < length w.now) × PartKnown w.now ends.now (c + 1) }
+    ensures { result ≡ matched w.now (Some «at») (meaning_numbers w.now ends.now c) }
+{
+    let p = w[c] % KIND;
+    let q = p % 32;
+    let body = match_start(w, at, q, p / 32)?;
+    let next = match_part(w, ends, body, c + 1)?;
+    match_next(w, next, q)
 }
 
 // Whether the command at d is what the `for` at c means: q := 1; while q ≤ m do (C; q := q + 1).
@@ -58,10 +75,5 @@ pub fn is_meaning(w: &[u32], ends: &[u32], d: usize, c: usize) -> bool
     requires { CanMean w.now ends.now d c }
     ensures { MeaningAt w.now ends.now d c result }
 {
-    let p = w[c] % KIND;
-    let q = p % 32;
-    let start = match_start(w, Match { same: true, at: d }, q, p / 32);
-    let body = match_part(w, ends, start, c + 1);
-    let next = match_next(w, body, q);
-    came_to_end(ends, next, d)
+    came_to_end(ends, match_meaning(w, ends, d, c), d)
 }
