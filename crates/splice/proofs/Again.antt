@@ -5,6 +5,7 @@
 --     calls-kept, spliced-right
 --                       the law; of words in the place of as many
 use mathlib.Core.Path.{◌≡◌, refl, sym, ap, ap₂, subst, ◌∙◌}
+use Rattle.std.specs.Prelude.{Ok}
 use mathlib.Core.Bool.{true, false, not, ◌&&◌}
 use mathlib.Core.List.{List, [], ◌∷◌}
 use mathlib.Core.Logic.{◌⊎◌, inl, inr}
@@ -22,9 +23,7 @@ use Rattle.layout.proofs.Resolved.{right-calls}
 use Rattle.reader.specs.Walk.{command_walk}
 use Rattle.reader.specs.Program.{places}
 use Rattle.reader.specs.File.{places_of, starts_from, starts_of, read_of}
-use Rattle.reader.specs.declared.Walk.TheVariants.{Next}
 use Rattle.reader.specs.declared.Places.{Places}
-use Rattle.reader.specs.declared.Layout.TheVariants as Layout
 use Rattle.reader.proofs.Programs.{ends, trace_of}
 use Rattle.reader.proofs.Kept.{Swapped, read_kept}
 use Rattle.ends.specs.Procedures.{start_at}
@@ -47,36 +46,36 @@ use Rattle.splice.proofs.Shift.{read-stands}
 use Rattle.splice.proofs.ReadTo.{read-is_simple, read_walk, walk-stands, walk-deeper, kind-bounds, no-calls, read-ends}
 
 -- r is the extent of the old command, which is read with `most` levels up to `to`; so is the new one, with as many as the old one takes
-pub fits-wherever : (w v : List ℕ) (place to most : ℕ) (r : Extent) → ExtentOf w place most r → command_walk w most place ≡ Next to →
-    command_walk v r.levels place ≡ Next to → (d p : ℕ) → command_walk w d place ≡ Next p →
-    (command_walk v d place ≡ Next p) × (to ≤ p)
+pub fits-wherever : (w v : List ℕ) (place to most : ℕ) (r : Extent) → ExtentOf w place most r → command_walk w most place ≡ Ok to →
+    command_walk v r.levels place ≡ Ok to → (d p : ℕ) → command_walk w d place ≡ Ok p →
+    (command_walk v d place ≡ Ok p) × (to ≤ p)
 fits-wherever w v place to most r x old new d p e = go (lt_or_le most d)
   where
-    stands_at : (n q : ℕ) → n ≤ most → command_walk w n place ≡ Next q → (r.end ≡ q) × (r.levels ≤ n)
+    stands_at : (n q : ℕ) → n ≤ most → command_walk w n place ≡ Ok q → (r.end ≡ q) × (r.levels ≤ n)
     stands_at n q l e =
         let k = walk-stands w n place q e in
         let s = (read-stands w (alone standard) n place k.1).0 in
         (x.end (command_node (alone standard) k.0) n q l s, x.least (command_node (alone standard) k.0) n q l s)
 
-    go : (most < d) ⊎ (d ≤ most) → (command_walk v d place ≡ Next p) × (to ≤ p)
+    go : (most < d) ⊎ (d ≤ most) → (command_walk v d place ≡ Ok p) × (to ≤ p)
     go (inl l) =
         let f = walk-deeper w most d place to (omega arith) old in
         let same : to ≡ p = cc in
-        (walk-deeper v r.levels d place to (omega (arith, x.few)) new ∙ ap Next same, omega arith)
+        (walk-deeper v r.levels d place to (omega (arith, x.few)) new ∙ ap Ok same, omega arith)
     go (inr l) =
         let a = stands_at d p l e in
         let b = stands_at most to (omega arith) old in
         let same : to ≡ p = sym b.0 ∙ a.0 in
-        (walk-deeper v r.levels d place to a.1 new ∙ ap Next same, omega arith)
+        (walk-deeper v r.levels d place to a.1 new ∙ ap Ok same, omega arith)
 
 -- ---- the file is read as before
 -- what was read, by its trace
 trace-read : (x : Reading File) {l : List ℕ} {s : Places} → trace_of x ≡ ends l s →
-    (f : File) × (p : ℕ) × (x ≡ read f p) × (starts_of f ≡ l) × (Layout.Found s ≡ places_of x)
+    (f : File) × (p : ℕ) × (x ≡ read f p) × (starts_of f ≡ l) × (Ok s ≡ places_of x)
 trace-read (read f p) {l} {s} e =
     let a : starts_of f ≡ l = cc in
     let b : s ≡ places f.main.start f.main.pre_at f.main.post_at f.main.evidence_at p = cc in
-    (f, p, refl, a, ap Layout.Found b)
+    (f, p, refl, a, ap Ok b)
 trace-read (fault n p) e = absurd (let z : ◌≡◌ {A = ℕ} 0 1 = cc in omega arith)
 
 -- the programs start where the list says, by their starts alone
@@ -144,7 +143,7 @@ module _ {w v table : List ℕ} {Γ : code.Context} {s : Places} {place to : ℕ
         outside : (i ≡ place → ⊥) → (place < i → to ≤ i) → wrong_at v table i ≡ false
         outside a b = wrong_kept i (h.other i a b) ∙ right-before i (omega (arith, h.size))
 
-    kept_here : Layout.Found s ≡ places_of (read_of limits v) → CallsRight v Γ s table
+    kept_here : Ok s ≡ places_of (read_of limits v) → CallsRight v Γ s table
     kept_here at = record {
       found = record {
         found = at;

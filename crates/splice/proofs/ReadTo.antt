@@ -1,7 +1,7 @@
 -- A skip, an assert or an assignment that is read from a place up to another.
 -- Assumes nothing.
 --     read-simple_to    such a command is read up to a place, by the kind of its first word and a walk
---     read_past, read-other, read_next, read-refused
+--     read_past, read-other, read_next
 --                       the same as the code has it: past the file; at a word of another kind; by a walk that goes on; by one that is refused
 --     read-is_simple, read_walk
 --                       the kind and the walk of one that is
@@ -11,6 +11,7 @@
 --     low-rest, kinds-below, no-calls, read-ends
 --                       its words but for the first are those of an expression; the kinds of all; none is a call; where it ends
 use mathlib.Core.Path.{◌≡◌, refl, sym, ap, ap₂, subst, ◌∙◌}
+use Rattle.std.specs.Prelude.{Ok, Err, MatchResult}
 use mathlib.Core.Bool.{Bool, true, false, ◌&&◌, ◌||◌}
 use mathlib.Core.List.{List, [], ◌∷◌, ◌++◌}
 use mathlib.Core.Logic.{inl, inr}
@@ -33,15 +34,12 @@ use Rattle.layout.specs.Standing.{StandsTo}
 use Rattle.layout.proofs.Nodes.{node_deeper, node_range, with_levels, kind-at, node_inside}
 use Rattle.layout.proofs.Back.{command-stands}
 use Rattle.layout.proofs.Spelled.{CommandSpelled}
-use Rattle.reader.specs.Walk.{walk_of, command_walk}
-use Rattle.reader.specs.declared.Walk.{Walk}
-use Rattle.reader.specs.declared.Walk.TheVariants.{Next, Refused}
+use Rattle.reader.specs.Walk.{Walk, walk_of, command_walk}
 use Rattle.reader.proofs.Contexts.{command-walk}
 use Rattle.reader.proofs.Kept.{walk-read}
 use Rattle.ends.specs.Sizes.{sizes}
 use Rattle.ends.proofs.Ends.{node_sized}
 use Rattle.ends.proofs.Sizes.{lt_or_le}
-use Rattle.context.specs.declared.Refusal.{Refusal}
 use Rattle.splice.specs.Simple.{is_simple, simple_to}
 use Rattle.splice.specs.SimpleWords.{is_simple_kind, ends_at, read_to}
 use Rattle.splice.proofs.SimpleWords.{kind-simple}
@@ -65,16 +63,16 @@ module _ (file : List ℕ) (Γ : Context) (d at : ℕ) where
       go (read c p) e = ap (λ b. b && eqb p to) (read-kind e)
       go (fault n p) e = none_left (is_simple_kind (kind_at file at))
 
-walk-to : (x : Walk) (to : ℕ) → ends_at x to ≡ true → x ≡ Next to
-walk-to (Next p) to e = ap Next (eqb-true p to e)
-walk-to (Refused x) to e = clash refl (sym e)
+walk-to : (x : Walk) (to : ℕ) → ends_at x to ≡ true → x ≡ Ok to
+walk-to (Ok p) to e = ap Ok (eqb-true p to e)
+walk-to (Err x) to e = clash refl (sym e)
 
 module _ (file : List ℕ) (d at to : ℕ) (h : read_to file d at to ≡ true) where
   pub read-is_simple : is_simple_kind (kind_at file at) ≡ true
   unfolding read_to
   read-is_simple = and_left (is_simple_kind (kind_at file at)) (ends_at (command_walk file d at) to) h
 
-  pub read_walk : command_walk file d at ≡ Next to
+  pub read_walk : command_walk file d at ≡ Ok to
   unfolding read_to
   read_walk = walk-to (command_walk file d at) to (and_right (is_simple_kind (kind_at file at)) (ends_at (command_walk file d at) to) h)
 
@@ -89,20 +87,21 @@ module _ (file : List ℕ) (d at to : ℕ) where
   read_past h = read-other (rw (get_or-eq_default file 0 h) refl)
 
   module _ (h : is_simple_kind (kind_at file at) ≡ true) {r : Walk} (e : r ≡ command_walk file d at) where
-    pub read_next : {p : ℕ} → r ≡ Next p → eqb p to ≡ read_to file d at to
+    pub read_next : {P : ℕ → Type 0} {b : Bool} → MatchResult r P (λ _. b ≡ false) → ((p : ℕ) → P p → b ≡ eqb p to) →
+        b ≡ read_to file d at to
     unfolding read_to
-    read_next f = ap₂ (λ a (x : Walk). a && ends_at x to) (sym h) (sym f ∙ e)
-
-    pub read-refused : {x : Refusal} → r ≡ Refused x → false ≡ read_to file d at to
-    unfolding read_to
-    read-refused f = ap₂ (λ a (x : Walk). a && ends_at x to) (sym h) (sym f ∙ e)
+    read_next {P} {b} m f = go r m ∙ ap₂ (λ a (x : Walk). a && ends_at x to) (sym h) e
+      where
+        go : (x : Walk) → MatchResult x P (λ _. b ≡ false) → b ≡ ends_at x to
+        go (Ok p) m = f p m
+        go (Err x) m = m
 
 -- what is read with some levels is read with more, and stands there
-pub walk-stands : (file : List ℕ) (d at p : ℕ) → command_walk file d at ≡ Next p →
+pub walk-stands : (file : List ℕ) (d at p : ℕ) → command_walk file d at ≡ Ok p →
     (c : Command) × (command (alone standard) file d at ≡ read c p)
 walk-stands file d at p e = walk-read (command (alone standard) file d at) p e
 
-pub walk-deeper : (file : List ℕ) (d n at p : ℕ) → d ≤ n → command_walk file d at ≡ Next p → command_walk file n at ≡ Next p
+pub walk-deeper : (file : List ℕ) (d n at p : ℕ) → d ≤ n → command_walk file d at ≡ Ok p → command_walk file n at ≡ Ok p
 walk-deeper file d n at p l e =
     let x = walk-stands file d at p e in
     let s = (read-stands file (alone standard) d at x.1).0 in

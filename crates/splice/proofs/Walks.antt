@@ -5,7 +5,7 @@
 --     part, part_count, part-words
 --                       the words of a part of some bytes
 --     back-loaded       that part of the file is loaded: the words in front are the file's
---     walk-count, walk-room, file-walked, file-first
+--     walk-count, walk-room, walked-here, file-walked, file-refused, file-first
 --                       the words of the file, and room for their table; these are walked; so is the file alone
 --     new-count, new-room, can-put_back, can-walk
 --                       the same of the changed words; the file's are put back, and can be walked
@@ -16,6 +16,7 @@
 --                       the old command is read with these levels, or the file is walked
 --     new-loaded        the new command's words are loaded
 use mathlib.Core.Path.{◌≡◌, refl, sym, ap, subst, ◌∙◌}
+use Rattle.std.specs.Prelude.{Result, Ok, Err}
 use mathlib.Core.Bool.{Bool, true, false}
 use mathlib.Core.List.{List}
 use mathlib.Core.Logic.{inl, inr}
@@ -31,8 +32,9 @@ use Rattle.words.proofs.Loading.{words-length, words-at}
 use Rattle.words.proofs.Lengths.{good_length}
 use Rattle.ends.proofs.Sizes.{lt_or_le}
 use Rattle.context.specs.declared.Context.{Context}
+use Rattle.context.specs.declared.Refusal.{Refusal}
 use Rattle.reader.specs.declared.Places.{Places}
-use Rattle.reader.specs.declared.Layout.{Layout}
+use Rattle.reader.specs.Program.{Layout}
 use Rattle.file.specs.Found.{CallsRight, Called, TableRoom}
 use Rattle.splice.specs.Splice.{spliced}
 use Rattle.splice.specs.SimpleWords.{read_to}
@@ -145,16 +147,28 @@ module _ {bytes words table : List ℕ} (c : CanWalk bytes words table) where
     room = omega (arith, walk-count, c.rooms.inside, c.rooms.wide);
   }
 
-  pub file-walked : {Γ : Context} {r : Layout} {after : List ℕ} → Called (take (length bytes / 4) words) Γ r after →
-      WalkedFile Γ bytes (record { layout = r; both = false }) after
-  file-walked {Γ} {r} {after} h = record { called = subst (λ w. Called w Γ r after) c.rooms.loaded h; alone = refl }
+  module _ {Γ : Context} {after : List ℕ} where
+    walked-here : {r : Layout} → Called (take (length bytes / 4) words) Γ r after → Called (words_of bytes) Γ r after
+    walked-here {r} h = subst (λ w. Called w Γ r after) c.rooms.loaded h
 
-pub file-first : {Γ : Context} {bytes words table : List ℕ} {r : Walked} (place : ℕ) (new : List ℕ) →
+    pub file-walked : {s : Places} → Called (take (length bytes / 4) words) Γ (Ok s) after →
+        WalkedFile Γ bytes (Ok (record { places = s; both = false })) after
+    file-walked {s} h = record {
+      called = walked-here h;
+      alone = λ x e. let y : ◌≡◌ {A = Walked} (record { places = s; both = false }) x = cc in ap (λ z. z.both) (sym y);
+    }
+
+    pub file-refused : {x : Refusal} {r : Result Walked Refusal} → r ≡ Err x → Called (take (length bytes / 4) words) Γ (Err x) after →
+        WalkedFile Γ bytes r after
+    file-refused {x} e h =
+        subst (λ r. WalkedFile Γ bytes r after) (sym e) (record { called = walked-here h; alone = λ y f. cc })
+
+pub file-first : {Γ : Context} {bytes words table : List ℕ} {r : Result Walked Refusal} (place : ℕ) (new : List ℕ) →
     take (length bytes / 4) words ≡ words_of bytes → WalkedFile Γ bytes r table → WalkedFirst Γ bytes place new r words table
 file-first place new e h = record {
   loaded = e;
   called = h.called;
-  both = λ s b l. clash b h.alone;
+  both = λ x e b. clash b (h.alone x e);
 }
 
 -- ---- the changed words stand there
@@ -208,7 +222,7 @@ module _ {Γ : Context} {bytes : List ℕ} {place : ℕ} {new words table : List
 
 module _ {Γ : Context} {bytes : List ℕ} {place : ℕ} {new words table : List ℕ} {x : Extent}
     (c : NewRead Γ bytes place new words table x) {after : List ℕ} {r : Layout} {s : Places}
-    (h : Called (take (length bytes / 4) words) Γ r after) (e : r ≡ Layout.Found s) where
+    (h : Called (take (length bytes / 4) words) Γ r after) (e : r ≡ Ok s) where
   abbrev v : List ℕ
   v = spliced (words_of bytes) place (words_of new)
 
@@ -247,25 +261,24 @@ module _ {Γ : Context} {bytes : List ℕ} {place : ℕ} {new words table : List
         OldIfRead Γ bytes again s after place (place + length new / 4) x.levels
     old-if_read n k = record { walk = can-walk c.loaded loaded n k; right = old-right }
 
-    pub old-walked : {q : Walked} {last : List ℕ} → WalkedOld Γ bytes s after q last → WalkedFirst Γ bytes place new q again last
+    pub old-walked : {q : Result Walked Refusal} {last : List ℕ} → WalkedOld Γ bytes s after q last → WalkedFirst Γ bytes place new q again last
     old-walked {q} {last} o = record {
       loaded = loaded;
       called = o.called;
-      both = λ t b l.
-          let z : Layout.Found s ≡ Layout.Found t = sym (o.layout b) ∙ l in
-          let y : s ≡ t = cc in
-          record {
-            within = words-room c.loaded;
-            simple = c.simple;
-            right = subst (λ p. CallsRight v Γ p last) y (subst (CallsRight v Γ s) (sym (o.kept b)) new-right);
-          };
+      both = λ y f b. record {
+        within = words-room c.loaded;
+        simple = c.simple;
+        right =
+            subst (λ p. CallsRight v Γ p last) (sym (o.same_places y f b))
+            (subst (CallsRight v Γ s) (sym (o.kept y f b)) new-right);
+      };
     }
 
 -- ---- whether the file is known to pass
 module _ {Γ : Context} {bytes words : List ℕ} {s : Places} {table : List ℕ} {place to levels : ℕ}
     (c : OldIfRead Γ bytes words s table place to levels) where
   pub old-here : {b : Bool} → b ≡ read_to (take (length bytes / 4) words) levels place to → b ≡ true →
-      WalkedOld Γ bytes s table (record { layout = Layout.Found s; both = true }) table
+      WalkedOld Γ bytes s table (Ok (record { places = s; both = true })) table
   old-here h e = record {
     called = record {
       refused = λ x f. absurd (let z : ◌≡◌ {A = ℕ} 0 1 = cc in omega arith);
@@ -274,12 +287,12 @@ module _ {Γ : Context} {bytes words : List ℕ} {s : Places} {table : List ℕ}
           subst (λ p. CallsRight (words_of bytes) Γ p table) y
           (c.right (subst (λ w. read_to w levels place to ≡ true) c.walk.rooms.loaded (sym h ∙ e)));
     };
-    layout = λ b. refl;
-    kept = λ b. refl;
+    same_places = λ y f b. let z : ◌≡◌ {A = Walked} (record { places = s; both = true }) y = cc in ap (λ z. z.places) (sym z);
+    kept = λ y f b. refl;
   }
 
-  pub old-not : {r : Walked} {last : List ℕ} → WalkedFile Γ bytes r last → WalkedOld Γ bytes s table r last
-  old-not h = record { called = h.called; layout = λ b. clash b h.alone; kept = λ b. clash b h.alone }
+  pub old-not : {r : Result Walked Refusal} {last : List ℕ} → WalkedFile Γ bytes r last → WalkedOld Γ bytes s table r last
+  old-not h = record { called = h.called; same_places = λ x e b. clash b (h.alone x e); kept = λ x e b. clash b (h.alone x e) }
 
 -- ---- the new command's words are loaded
 module _ {bytes words table : List ℕ} (c : CanWalk bytes words table) {place : ℕ} {new : List ℕ} where

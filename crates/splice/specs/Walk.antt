@@ -6,15 +6,17 @@
 --     NewLoaded, NewRead    the new command's words stand there; it is one, read whole, and r is its extent
 --     OldIfRead             the file passes refusals 2 to 6 and 16 if the command at a place is read with so many levels
 --     ChangedRight          the new command is one, read whole, and the changed words pass refusals 2 to 6 and 16
+--     layout_of             the places, or the refusal
 --     WalkedFile            the walk of the file
 --     WalkedOld             the same where it may be known to pass: if so, its places are these, and the table stays
 --     WalkedFirst           the walk of the file and, if `both`, of the changed words: they pass with the same places and starts
-use Rattle.std.specs.Prelude.{◌≡◌, true, false, List, ℕ, ◌+◌, ◌*◌, ◌/◌, ◌<◌, ◌≤◌, length, get_or, take}
+use Rattle.std.specs.Prelude.{◌≡◌, true, false, List, ℕ, ◌+◌, ◌*◌, ◌/◌, ◌<◌, ◌≤◌, length, get_or, take, Result, Ok, Err}
 use Rattle.layout.specs.Bytes.{words_of}
 use Rattle.layout.specs.File.{bad_length}
 use Rattle.context.specs.declared.Context.{Context}
+use Rattle.context.specs.declared.Refusal.{Refusal}
 use Rattle.reader.specs.declared.Places.{Places}
-use Rattle.reader.specs.declared.Layout.TheVariants as Layout
+use Rattle.reader.specs.Program.{Layout}
 use Rattle.file.specs.Found.{CallsRight, Called}
 use Rattle.splice.specs.Splice.{spliced}
 use Rattle.splice.specs.SimpleWords.{read_to}
@@ -59,16 +61,20 @@ pub record ChangedRight (Γ : Context) (bytes : List ℕ) (place : ℕ) (new : L
   pub simple : read_to (spliced (words_of bytes) place (words_of new)) Γ.depth place (place + length new / 4) ≡ true
   pub right : CallsRight (spliced (words_of bytes) place (words_of new)) Γ s table
 
-pub record WalkedFile (Γ : Context) (bytes : List ℕ) (r : Walked) (table : List ℕ) : Type 0 where
-  pub called : Called (words_of bytes) Γ r.layout table
-  pub alone : r.both ≡ false
+abbrev pub layout_of : Result Walked Refusal → Layout
+layout_of (Ok x) = Ok x.places
+layout_of (Err x) = Err x
 
-pub record WalkedOld (Γ : Context) (bytes : List ℕ) (s : Places) (before : List ℕ) (r : Walked) (table : List ℕ) : Type 0 where
-  pub called : Called (words_of bytes) Γ r.layout table
-  pub layout : r.both ≡ true → r.layout ≡ Layout.Found s
-  pub kept : r.both ≡ true → table ≡ before
+pub record WalkedFile (Γ : Context) (bytes : List ℕ) (r : Result Walked Refusal) (table : List ℕ) : Type 0 where
+  pub called : Called (words_of bytes) Γ (layout_of r) table
+  pub alone : (x : Walked) → r ≡ Ok x → x.both ≡ false
 
-pub record WalkedFirst (Γ : Context) (bytes : List ℕ) (place : ℕ) (new : List ℕ) (r : Walked) (words table : List ℕ) : Type 0 where
+pub record WalkedOld (Γ : Context) (bytes : List ℕ) (s : Places) (before : List ℕ) (r : Result Walked Refusal) (table : List ℕ) : Type 0 where
+  pub called : Called (words_of bytes) Γ (layout_of r) table
+  pub same_places : (x : Walked) → r ≡ Ok x → x.both ≡ true → x.places ≡ s
+  pub kept : (x : Walked) → r ≡ Ok x → x.both ≡ true → table ≡ before
+
+pub record WalkedFirst (Γ : Context) (bytes : List ℕ) (place : ℕ) (new : List ℕ) (r : Result Walked Refusal) (words table : List ℕ) : Type 0 where
   pub loaded : take (length bytes / 4) words ≡ words_of bytes
-  pub called : Called (words_of bytes) Γ r.layout table
-  pub both : (s : Places) → r.both ≡ true → r.layout ≡ Layout.Found s → ChangedRight Γ bytes place new s table
+  pub called : Called (words_of bytes) Γ (layout_of r) table
+  pub both : (x : Walked) → r ≡ Ok x → x.both ≡ true → ChangedRight Γ bytes place new x.places table

@@ -5,7 +5,6 @@ ghost use Rattle.ends.specs.Ends.{EndsListed};
 ghost use Rattle.splice.specs.SimpleWords.{is_simple_kind, SimpleAt, read_to};
 
 use ends::end_at;
-use reader::Walk;
 use reader::command::read_command;
 use words::kinds::{ASSERT, KIND, SKIP, TO_ARRAY, TO_SCALAR};
 
@@ -47,9 +46,5 @@ pub fn is_read_to(w: &[u32], at: usize, to: usize, levels: usize) -> bool
     if !is_simple(w[at]) {
         return false;
     }
-    let walk = read_command(w, at, levels);
-    match walk {
-        Walk::Next(p) => p == to,
-        Walk::Refused(_) => false,
-    }
+    read_command(w, at, levels).is_ok_and(|p| p == to)
 }

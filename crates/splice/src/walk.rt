@@ -5,29 +5,34 @@ ghost use Rattle.splice.specs.Walk.{CanWalk, CanPutBack, NewLoaded, NewRead, Old
 
 use super::extent::{Extent, extent_at};
 use super::simple::is_read_to;
-use context::Context;
+use context::{Context, Refusal};
 use file::read_calls;
-use reader::{Layout, Places};
+use reader::Places;
 use words::load::load;
 
-// What refusals 2 to 6 and 16 leave of the file, and whether they are known to let the changed words pass too.
+// The places of a file that refusals 2 to 6 and 16 let pass, and whether they are known to let the changed words pass too.
 #[derive(Clone, Copy)]
 pub struct Walked {
-    pub layout: Layout,
+    pub places: Places,
     pub both: bool,
 }
 
 // The file by itself.
-fn walk_file(words: &[u32], table: &mut [u32], context: Context, file: &[u8]) -> Walked
+fn walk_file(
+    words: &[u32],
+    table: &mut [u32],
+    context: Context,
+    file: &[u8],
+) -> Result<Walked, Refusal>
     requires { CanWalk file.now words.now table.old }
     ensures { WalkedFile context file.now result table.new }
 {
     let n = file.len() / 4;
-    let layout = read_calls(&words[..n], table, context);
-    Walked {
-        layout,
+    let places = read_calls(&words[..n], table, context)?;
+    Ok(Walked {
+        places,
         both: false,
-    }
+    })
 }
 
 // The file's words from a place up to another, where others stand.
@@ -48,7 +53,7 @@ fn walk_back(
     file: &[u8],
     place: usize,
     new: &[u8],
-) -> Walked
+) -> Result<Walked, Refusal>
     requires { NewLoaded file.now place new.now words.old table.old }
     ensures { WalkedFirst context file.now place new.now result words.new table.new }
 {
@@ -67,16 +72,13 @@ fn walk_old(
     place: usize,
     to: usize,
     levels: usize,
-) -> Walked
+) -> Result<Walked, Refusal>
     requires { OldIfRead context file.now words.now places table.old place to levels }
     ensures { WalkedOld context file.now places table.old result table.new }
 {
     let n = file.len() / 4;
     if is_read_to(&words[..n], place, to, levels) {
-        return Walked {
-            layout: Layout::Found(places),
-            both: true,
-        };
+        return Ok(Walked { places, both: true });
     }
     walk_file(words, table, context, file)
 }
@@ -90,16 +92,16 @@ fn walk_new(
     place: usize,
     new: &[u8],
     extent: Extent,
-) -> Walked
+) -> Result<Walked, Refusal>
     requires { NewRead context file.now place new.now words.old table.old extent }
     ensures { WalkedFirst context file.now place new.now result words.new table.new }
 {
     let n = file.len() / 4;
     let to = place + new.len() / 4;
-    let layout = read_calls(&words[..n], table, context);
+    let changed = read_calls(&words[..n], table, context);
     put_back(words, file, place, to);
-    match layout {
-        Layout::Found(places) => {
+    match changed {
+        Ok(places) => {
             walk_old(
                 words,
                 table,
@@ -111,7 +113,7 @@ fn walk_new(
                 extent.levels,
             )
         }
-        Layout::Refused(_) => walk_file(words, table, context, file),
+        Err(_) => walk_file(words, table, context, file),
     }
 }
 
@@ -124,7 +126,7 @@ fn walk_changed(
     place: usize,
     new: &[u8],
     old: usize,
-) -> Walked
+) -> Result<Walked, Refusal>
     requires { NewLoaded file.now place new.now words.old table.old }
     ensures { WalkedFirst context file.now place new.now result words.new table.new }
 {
@@ -149,7 +151,7 @@ pub fn walk_first(
     file: &[u8],
     place: usize,
     new: &[u8],
-) -> Walked
+) -> Result<Walked, Refusal>
     requires { CanWalk file.now words.old table.old }
     ensures { WalkedFirst context file.now place new.now result words.new table.new }
 {
