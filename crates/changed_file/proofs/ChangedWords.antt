@@ -5,6 +5,7 @@
 --     same-again, apart-again    7 lets them pass as before
 --     fors_again                 their `for`s
 use mathlib.Core.Path.{◌≡◌, sym, ap, subst, ◌∙◌}
+use Rattle.std.specs.Prelude.{Ok}
 use mathlib.Core.Bool.{Bool, true, false}
 use mathlib.Core.List.{List}
 use mathlib.Core.Logic.{inl, inr}
@@ -22,7 +23,6 @@ use Rattle.context.specs.Contexts.{limits_of}
 use Rattle.context.specs.declared.Context.{Context}
 use Rattle.reader.specs.File.{places_of}
 use Rattle.reader.specs.declared.Places.{Places}
-use Rattle.reader.specs.declared.Layout.{Layout}
 use Rattle.splice.specs.SimpleWords.{read_to}
 use Rattle.splice.proofs.ReadTo.{read-ends}
 use Rattle.changed_file.specs.Changed.{ChangedKnown}
@@ -66,14 +66,14 @@ module _ {Γ : Context} {v table : List ℕ} {s : Places} {place to : ℕ} {old 
 
   -- the table was mended
   module _ {stay : Bool} {after : List ℕ} (m : TableMended v Γ s table after stay) where
-    found-again : Layout.Found s ≡ places_of (words_read (limits_of Γ) v) → ReadMarked v Γ (Layout.Found s) after
+    found-again : Ok s ≡ places_of (words_read (limits_of Γ) v) → ReadMarked v Γ (Ok s) after
     found-again e = read-marked_by e m.marked
 
-    pub same-again : {same : Bool} → same ≡ eqb (get_or v place 0) old.first → stay ≡ true → same ≡ true → ReadMarked v Γ (Layout.Found s) after
+    pub same-again : {same : Bool} → same ≡ eqb (get_or v place 0) old.first → stay ≡ true → same ≡ true → ReadMarked v Γ (Ok s) after
     same-again e y k = found-again (same-found exchanged a.marked a.was_read m.marked (m.kept y) (first_word e k))
 
     pub apart-again : {r : Bool} → stay ≡ true → AssignsAny old.fors.mask (kind_at v place) (payload_at v place) r → r ≡ false →
-        ReadMarked v Γ (Layout.Found s) after
+        ReadMarked v Γ (Ok s) after
     apart-again y t k = found-again (apart-found exchanged a.marked a.was_read m.marked (m.kept y) a.fors_of.mask-of t k)
 
   -- the changed words have the same `for`s

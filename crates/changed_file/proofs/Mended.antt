@@ -11,6 +11,7 @@
 --     same-found, apart-found        refusal 7 lets the words pass as before: the first word is the same; it assigns nothing that a `for`
 --                                    counts with
 use mathlib.Core.Path.{◌≡◌, refl, sym, ap, ap₂, fun_ext, subst, ◌∙◌}
+use Rattle.std.specs.Prelude.{Ok}
 use mathlib.Core.Bool.{Bool, true, false, ◌||◌, cond}
 use mathlib.Core.List.{List}
 use mathlib.Core.Logic.{inl, inr}
@@ -42,7 +43,6 @@ use Rattle.context.specs.Contexts.{limits_of}
 use Rattle.context.specs.declared.Context as code
 use Rattle.reader.specs.File.{places_of}
 use Rattle.reader.specs.declared.Places.{Places}
-use Rattle.reader.specs.declared.Layout.TheVariants as Layout
 use Rattle.splice.proofs.ReadTo.{low-rest, kinds-below, read-ends}
 use Rattle.changed_file.specs.Tables.{Marked, Stays, SameBehind, AssignsAny}
 use Rattle.changed_file.proofs.Tables.{marked-file, found_none, steady-before}
@@ -190,13 +190,13 @@ module _ {w v : List ℕ} {place to : ℕ} (x : Exchanged w v place to) where
       ]
 
   -- ---- refusal 7
-  module _ {Γ : code.Context} {s : Places} {t u : List ℕ} (m : Marked w Γ s t) (was : Layout.Found s ≡ places_of (words_read (limits_of Γ) w))
+  module _ {Γ : code.Context} {s : Places} {t u : List ℕ} (m : Marked w Γ s t) (was : Ok s ≡ places_of (words_read (limits_of Γ) w))
       (k : Marked v Γ s u) (a : SameBehind (length v) t u) where
     ends_same : (at : ℕ) → at < length w → (place < at → to ≤ at) → get_or u at 0 ≡ get_or t at 0
     ends_same at h o =
         k.listed.sized at (omega (arith, x.size)) ∙ ap (λ n. at + n) (sizes-same at h o) ∙ sym (m.listed.sized at h)
 
-    pub same-found : get_or v place 0 ≡ get_or w place 0 → Layout.Found s ≡ places_of (words_read (limits_of Γ) v)
+    pub same-found : get_or v place 0 ≡ get_or w place 0 → Ok s ≡ places_of (words_read (limits_of Γ) v)
     same-found e =
         found_none k
         (same-steady w v t u x.size m.listed.sized k.listed.sized (marked-file m) (marked-file k) place to outside-same new-rest
@@ -206,7 +206,7 @@ module _ {w v : List ℕ} {place to : ℕ} (x : Exchanged w v place to) where
         (steady-before m was))
 
     pub apart-found : {fors : ℕ} {r : Bool} → ForsMask w fors → AssignsAny fors (kind_at v place) (payload_at v place) r → r ≡ false →
-        Layout.Found s ≡ places_of (words_read (limits_of Γ) v)
+        Ok s ≡ places_of (words_read (limits_of Γ) v)
     apart-found {fors} {r} f h e =
         found_none k
         (still-steady w v t u x.size m.listed.sized k.listed.sized (marked-file m) (marked-file k) place to outside-same new-rest

@@ -11,7 +11,7 @@
 --     kept_on, right-moved           the starts, and what refusals 2 to 6 and 16 let pass, in another list
 --     filled_marked                  the table that is filled
 --     can-scan, can-scan_blocks      what the scan asks, without masks of blocks and with them
---     steadied-without, steadied-steady, steadied-unsteady
+--     steadied-without, steadied-none, steadied-some, steadied-blocked
 --                                    refusal 7, by what the code finds
 --     tabled_again, read-marked_by, steadied-again
 --                                    what is left for the masks of all words
@@ -22,6 +22,8 @@
 --     assigns-unknown, assigns-nothing, assigns-scalar, assigns-array
 --                                    whether a word assigns an identifier of a mask
 use mathlib.Core.Path.{◌≡◌, refl, sym, ap, ap₂, subst, ◌∙◌}
+use Rattle.std.specs.Prelude.{Ok, Err}
+use Rattle.std.specs.Prelude as std
 use mathlib.Core.Bool.{Bool, true, false}
 use mathlib.Core.List.{List}
 use mathlib.Core.Logic.{inl, inr}
@@ -53,8 +55,6 @@ use Rattle.scan.specs.Programs.{procedure_count, StartsListed, MaskMade, Masked}
 use Rattle.scan.specs.Steady.{file_context, MaskedFile, CanScanFors, FirstFound}
 use Rattle.scan.specs.ForsMask.{ForsMask, ForsFound}
 use Rattle.scan.specs.declared.for_mask.Fors.{Fors}
-use Rattle.scan.specs.declared.steady.Steadiness.{Steadiness}
-use Rattle.scan.specs.declared.steady.Steadiness.TheVariants.{Steady, At}
 use Rattle.scan.proofs.ProcedureMasks.{made-moved}
 use Rattle.scan.proofs.WrongCalls.{wrong_calls}
 use Rattle.scan.proofs.Procedures.{masks-known}
@@ -64,10 +64,10 @@ use Rattle.context.specs.declared.Context.{Context}
 use Rattle.reader.specs.File.{places_of, read_of}
 use Rattle.reader.proofs.Whole.{words-read}
 use Rattle.reader.specs.declared.Places.{Places}
-use Rattle.reader.specs.declared.Layout.{Layout}
+use Rattle.reader.specs.Program.{Layout}
 use Rattle.file.specs.Found.{CallsRight, TableRoom, Tabled}
 use Rattle.file.proofs.Found.{ReadAt, found-read, read-file, words-steady, words-unsteady}
-use Rattle.file.proofs.Files.{starts-moved, steady-none, unsteady-some}
+use Rattle.file.proofs.Files.{starts-moved, no-fault, some-fault}
 use Rattle.changed_file.specs.Tables.{Marked, StartsKept, Steadied, ReadMarked, Unchanged, MayChange}
 use Rattle.changed_file.specs.Tables.{SameBehind, CanMendTable, TableMended, AssignsAny}
 
@@ -151,8 +151,8 @@ module _ {w table : List ℕ} {Γ : Context} {s : Places} (m : Marked w Γ s tab
   pub marked-none : Unsteady none → words_read (limits_of Γ) w ≡ read it.file it.end
   marked-none h = words-steady (limits_of Γ) w it.file it.end it.was_read (m.called it.file it.end it.was_read) h
 
-  pub found_none : Unsteady none → Layout.Found s ≡ places_of (words_read (limits_of Γ) w)
-  found_none h = ap Layout.Found it.at ∙ sym (ap places_of (marked-none h))
+  pub found_none : Unsteady none → Ok s ≡ places_of (words_read (limits_of Γ) w)
+  found_none h = ap Ok it.at ∙ sym (ap places_of (marked-none h))
 
   marked-some : (at : ℕ) → Unsteady (some at) → words_read (limits_of Γ) w ≡ fault 7 at
   marked-some at h =
@@ -166,11 +166,11 @@ module _ {w table : List ℕ} {Γ : Context} {s : Places} (m : Marked w Γ s tab
       let i : f ≡ it.file = cc in
       (sym i, subst (λ g. first_place (unsteady_at (file_context (limits_of Γ) g) w) (word_count w) 0 ≡ none) i z.1)
 
-  pub steady-before : Layout.Found s ≡ places_of (words_read (limits_of Γ) w) → Unsteady none
+  pub steady-before : Ok s ≡ places_of (words_read (limits_of Γ) w) → Unsteady none
   steady-before h = let r = found-read (words_read (limits_of Γ) w) s h in (same-file r.was_read).1
 
   -- ---- refusal 7
-  pub steadied-without : {fors : Fors} → ForsFound w fors → fors.mask ≡ 0 → Steadied w Γ s (Layout.Found s) table table
+  pub steadied-without : {fors : Fors} → ForsFound w fors → fors.mask ≡ 0 → Steadied w Γ s (Ok s) table table
   steadied-without h e = record {
     layout = found_none (no-fors w (file_context (limits_of Γ) it.file) (subst (ForsMask w) e h.mask-of));
     marked = m;
@@ -188,22 +188,25 @@ module _ {w table : List ℕ} {Γ : Context} {s : Places} (m : Marked w Γ s tab
 pub kept-blocked : {w table after : List ℕ} → Blocked w table after → StartsKept w table after
 kept-blocked {w} b = record { kept = λ i h. b.rest-kept (table_at w + i) (omega arith) }
 
--- the table as it was, or with masks of blocks
-module _ {w table after : List ℕ} {Γ : Context} {s : Places} (n : Marked w Γ s after) (kept : StartsKept w table after) (r : Steadiness)
-    (f : FirstFound w after r) where
-  pub steadied-steady : r ≡ Steady → Steadied w Γ s (Layout.Found s) table after
-  steadied-steady e = record {
-    layout = found_none n (steady-none _ (sym e ∙ f.place (limits_of Γ) (it n).file (marked-file n)));
+module _ {w table : List ℕ} {Γ : Context} {s : Places} (n : Marked w Γ s table) where
+  pub steadied-none : FirstFound w table std.None → Steadied w Γ s (Ok s) table table
+  steadied-none f = record {
+    layout = found_none n (no-fault _ (f.place (limits_of Γ) (it n).file (marked-file n)));
     marked = n;
-    starts = kept;
+    starts = kept_same;
   }
 
-  pub steadied-unsteady : (at : ℕ) → r ≡ At at → Steadied w Γ s (Layout.Refused (refusal 7 at)) table after
-  steadied-unsteady at e = record {
-    layout = sym (ap places_of (marked-some n at (unsteady-some _ at (sym e ∙ f.place (limits_of Γ) (it n).file (marked-file n)))));
+  pub steadied-some : (at : ℕ) → FirstFound w table (std.Some at) → Steadied w Γ s (Err (refusal 7 at)) table table
+  steadied-some at f = record {
+    layout = sym (ap places_of (marked-some n at (some-fault _ at (f.place (limits_of Γ) (it n).file (marked-file n)))));
     marked = n;
-    starts = kept;
+    starts = kept_same;
   }
+
+-- with masks of blocks
+pub steadied-blocked : {w before table : List ℕ} {Γ : Context} {s : Places} {r : Layout} → Blocked w before table →
+    Steadied w Γ s r table table → Steadied w Γ s r before table
+steadied-blocked b t = record { layout = t.layout; marked = t.marked; starts = kept-blocked b }
 
 -- ---- the starts
 pub kept_on : {w a b c : List ℕ} → StartsKept w a b → StartsKept w b c → StartsKept w a c

@@ -4,14 +4,13 @@
 --     LevelsFor       with how many levels the new command has to be read
 --     OldAt           what is kept of the old one
 --     ChangedKnown    with a command that takes no more levels than the old one, refusals 2 to 6 and 16 let them pass as before
-use Rattle.std.specs.Prelude.{◌≡◌, Bool, true, false, List, ℕ, ◌<◌, ◌≤◌, length, get_or}
+use Rattle.std.specs.Prelude.{◌≡◌, Bool, true, false, List, ℕ, ◌<◌, ◌≤◌, length, get_or, Ok}
 use Rattle.layout.specs.File.{words_read}
 use Rattle.scan.specs.ForsMask.{ForsFound}
 use Rattle.context.specs.Contexts.{limits_of}
 use Rattle.context.specs.declared.Context.{Context}
 use Rattle.reader.specs.File.{places_of}
 use Rattle.reader.specs.declared.Places.{Places}
-use Rattle.reader.specs.declared.Layout.TheVariants as Layout
 use Rattle.file.specs.Found.{CallsRight, TableRoom}
 use Rattle.scan.specs.declared.for_mask.Fors.{Fors}
 use Rattle.splice.specs.SimpleWords.{read_to}
@@ -36,7 +35,7 @@ pub record OldAt (w : List ℕ) (place depth : ℕ) (both : Bool) (fors : Fors) 
 pub record ChangedKnown (Γ : Context) (v : List ℕ) (s : Places) (table : List ℕ) (place to : ℕ) (old : Old) : Type 0 where
   pub words : List ℕ
   pub marked : Marked words Γ s table
-  pub was_read : Layout.Found s ≡ places_of (words_read (limits_of Γ) words)
+  pub was_read : Ok s ≡ places_of (words_read (limits_of Γ) words)
   pub fors_of : ForsFound words old.fors
   pub first : old.first ≡ get_or words place 0
   pub simple : read_to words Γ.depth place to ≡ true

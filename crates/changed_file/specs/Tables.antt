@@ -11,7 +11,7 @@
 --     CanMendTable, TableMended
 --                 the table is that of other words, which differ between two places; it is made that of these
 --     AssignsAny     a word assigns an identifier of a mask
-use Rattle.std.specs.Prelude.{◌≡◌, Bool, true, false, List, ◌⊎◌, ℕ, ◌+◌, ◌<◌, ◌≤◌, length, get_or}
+use Rattle.std.specs.Prelude.{◌≡◌, Bool, true, false, List, ◌⊎◌, ℕ, ◌+◌, ◌<◌, ◌≤◌, length, get_or, Ok}
 use Rattle.std.proofs.Math.Option.{none}
 use Rattle.layout.specs.Bytes.{word_count}
 use Rattle.layout.specs.Reading.{read, first_place}
@@ -30,11 +30,11 @@ use Rattle.context.specs.Contexts.{limits_of}
 use Rattle.context.specs.declared.Context.{Context}
 use Rattle.reader.specs.File.{places_of, read_of}
 use Rattle.reader.specs.declared.Places.{Places}
-use Rattle.reader.specs.declared.Layout.{Layout}
+use Rattle.reader.specs.Program.{Layout}
 
 pub record Marked (file : List ℕ) (Γ : Context) (s : Places) (table : List ℕ) : Type 0 where
   pub listed : EndsListed file table
-  pub found : Layout.Found s ≡ places_of (read_of (limits_of Γ) file)
+  pub found : Ok s ≡ places_of (read_of (limits_of Γ) file)
   pub starts : (f : File) (p : ℕ) → read_of (limits_of Γ) file ≡ read f p → StartsListed file table f
   pub called : (f : File) (p : ℕ) → read_of (limits_of Γ) file ≡ read f p →
       first_place (wrong_call file f.procedures) (word_count file) 0 ≡ none
@@ -50,7 +50,7 @@ pub record Steadied (file : List ℕ) (Γ : Context) (s : Places) (r : Layout) (
 
 pub record ReadMarked (file : List ℕ) (Γ : Context) (r : Layout) (table : List ℕ) : Type 0 where
   pub layout : r ≡ places_of (words_read (limits_of Γ) file)
-  pub listed : (s : Places) → r ≡ Layout.Found s → EndsListed file table
+  pub listed : (s : Places) → r ≡ Ok s → EndsListed file table
   pub masked : (f : File) (p : ℕ) → words_read (limits_of Γ) file ≡ read f p → MaskedFile file table (limits_of Γ) f
 
 -- a command from `start` up to `past`: its first word is not behind the first of the words and before `to`, and unless they assign the same

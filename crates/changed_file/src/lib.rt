@@ -9,9 +9,9 @@ ghost use Rattle.splice.specs.SimpleWords.{read_to};
 ghost use Rattle.changed_file.specs.Tables.{ReadMarked};
 ghost use Rattle.changed_file.specs.Changed.{ChangedKnown};
 
-use context::Context;
+use context::{Context, Refusal};
 use old::Old;
-use reader::{Layout, Places};
+use reader::Places;
 use table::{assigns_any, mend, read_marked, stays};
 
 // The new command is read wherever the old one was, up to the same place: the table is mended, and refusal 7 tested where the new command
@@ -24,7 +24,7 @@ pub fn read_mended(
     place: usize,
     to: usize,
     old: Old,
-) -> Layout
+) -> Result<Places, Refusal>
     requires { ChangedKnown context w.now places table.old place to old × (read_to w.now old.levels place to ≡ true) }
     ensures { ReadMarked w.now context result table.new }
 {
@@ -37,10 +37,10 @@ pub fn read_mended(
         return read_marked(w, table, context, places, fors);
     }
     if same {
-        return Layout::Found(places);
+        return Ok(places);
     }
     if assigns_any(first, fors.mask) {
         return read_marked(w, table, context, places, fors);
     }
-    Layout::Found(places)
+    Ok(places)
 }

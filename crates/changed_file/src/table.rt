@@ -3,6 +3,7 @@ ghost use Rattle.std.specs.Prelude.{◌/◌, ◌%◌};
 ghost use Rattle.layout.specs.Bytes.{payloads};
 ghost use Rattle.ends.specs.Blocks.{CanBlock};
 ghost use Rattle.scan.specs.ForsMask.{ForsFound};
+ghost use Rattle.scan.specs.Steady.{CanScanFors};
 ghost use Rattle.file.specs.Found.{CallsRight, TableRoom};
 ghost use Rattle.changed_file.specs.Tables.{Marked, StartsKept, Steadied, MayChange, Stays, CanMendTable, TableMended, AssignsAny};
 
@@ -11,10 +12,10 @@ use ends::blocks::fill_blocks;
 use ends::mask::has_bit;
 use ends::mend::mend_ends;
 use ends::{end_at, end_or_zero, fill_ends};
-use reader::{Layout, Places};
+use reader::Places;
 use scan::for_mask::Fors;
 use scan::programs::{fill_masks, procedure_count};
-use scan::steady::{Steadiness, first_unsteady};
+use scan::steady::first_unsteady;
 use words::kinds::{ASSERT, KIND, SKIP, TO_ARRAY, TO_SCALAR};
 
 // The ends of words that refusals 2 to 6 and 16 let pass, and the masks of their procedures.
@@ -26,34 +27,22 @@ pub fn fill_marked(w: &[u32], table: &mut [u32], context: Context, places: Place
     fill_masks(w, table);
 }
 
-// Refusal 7, with the words of each body scanned.
-fn read_by_words(w: &[u32], table: &[u32], context: Context, places: Places, fors: Fors) -> Layout
-    requires { Marked w.now context places table.now × ForsFound w.now fors }
-    ensures { Steadied w.now context places result table.now table.now }
-{
-    let first = first_unsteady(w, table, fors.first, fors.past, false);
-    match first {
-        Steadiness::Steady => Layout::Found(places),
-        Steadiness::At(place) => Layout::Refused(Refusal { number: 7, place }),
-    }
-}
-
-// Refusal 7, with masks of blocks, which are filled first.
-fn read_by_blocks(
+// Refusal 7, by the scan. `blocked`: masks of blocks are filled; else the words of each body are scanned.
+fn read_scanned(
     w: &[u32],
-    table: &mut [u32],
+    table: &[u32],
     context: Context,
     places: Places,
     fors: Fors,
-) -> Layout
-    requires { Marked w.now context places table.old × ForsFound w.now fors }
-    ensures { Steadied w.now context places result table.old table.new }
+    blocked: bool,
+) -> Result<Places, Refusal>
+    requires marked { Marked w.now context places table.now }
+    requires can_scan { CanScanFors w.now table.now fors.first fors.past blocked }
+    ensures { Steadied w.now context places result table.now table.now }
 {
-    fill_blocks(w, table);
-    let first = first_unsteady(w, table, fors.first, fors.past, true);
-    match first {
-        Steadiness::Steady => Layout::Found(places),
-        Steadiness::At(place) => Layout::Refused(Refusal { number: 7, place }),
+    match first_unsteady(w, table, fors.first, fors.past, blocked) {
+        None => Ok(places),
+        Some(place) => Err(Refusal { number: 7, place }),
     }
 }
 
@@ -64,17 +53,18 @@ pub fn read_marked(
     context: Context,
     places: Places,
     fors: Fors,
-) -> Layout
+) -> Result<Places, Refusal>
     requires { Marked w.now context places table.old × ForsFound w.now fors }
     ensures { Steadied w.now context places result table.old table.new }
 {
     if fors.mask == 0 {
-        return Layout::Found(places);
+        return Ok(places);
     }
     if fors.words <= w.len() / 2 {
-        return read_by_words(w, table, context, places, fors);
+        return read_scanned(w, table, context, places, fors, false);
     }
-    read_by_blocks(w, table, context, places, fors)
+    fill_blocks(w, table);
+    read_scanned(w, table, context, places, fors, true)
 }
 
 // Whether what a procedure's command modifies may change where words from a place up to another do. `same`: these assign the same.
