@@ -4,8 +4,8 @@
 --     can-replace, unsteady-put             7 lets the words pass; 7
 --     bad-put, called-put                   1; 2 to 6 and 16
 --     loaded-rooms                          the words that were loaded, in their room
-use mathlib.Core.Path.{◌≡◌, sym, ap, subst, ◌∙◌}
-use Rattle.std.specs.Prelude.{Err}
+use mathlib.Core.Path.{◌≡◌, refl, sym, ap, subst, ◌∙◌}
+use Rattle.std.specs.Prelude.{Ok, Err}
 use mathlib.Core.Bool.{Bool, true, false}
 use mathlib.Core.List.{List}
 use Prim.Native.Nat.{ℕ, ◌/◌, ◌≤◌}
@@ -23,7 +23,7 @@ use Rattle.context.specs.Contexts.{limits_of, Settable, refusal}
 use Rattle.context.specs.declared.Context.{Context}
 use Rattle.context.specs.declared.Refusal.{Refusal}
 use Rattle.reader.specs.declared.Places.{Places}
-use Rattle.reader.specs.declared.Layout.{Layout}
+use Rattle.reader.specs.Program.{Layout}
 use Rattle.file.specs.Found.{CallsRight, Called, TableRoom, CanLoad}
 use Rattle.file.proofs.Found.{found-read}
 use Rattle.file.proofs.Files.{loaded-all}
@@ -60,7 +60,7 @@ module _ {Γ : Context} {bytes : List ℕ} (lent : List ℕ) {words table : List
     steadied : Steadied (words_of bytes) Γ s r filled after
     steadied = subst (λ l. Steadied l Γ s r filled after) c.walk.rooms.loaded t
 
-    pub can-replace : {z : Places} {fors : Fors} → r ≡ Layout.Found z → length after ≡ length table → ForsFound w fors →
+    pub can-replace : {z : Places} {fors : Fors} → r ≡ Ok z → length after ≡ length table → ForsFound w fors →
         CanReplace Γ bytes (length lent) place new words after s both fors
     can-replace {z} {fors} e n f =
         let x = found-read (words_read (limits_of Γ) (words_of bytes)) z (sym e ∙ steadied.layout) in
@@ -90,7 +90,7 @@ module _ {Γ : Context} {bytes : List ℕ} (lent : List ℕ) {words table : List
               };
         }
 
-    pub unsteady-put : {x : Refusal} → r ≡ Layout.Refused x → PutDone (limits_of Γ) bytes lent place new (Err x) bytes lent
+    pub unsteady-put : {x : Refusal} {q : Replaced} → r ≡ Err x → q ≡ Err x → PutDone (limits_of Γ) bytes lent place new q bytes lent
     unsteady-put {x} e =
         unread-put (limits_of Γ) bytes lent place new c.settable c.enough
         (from-words ∙ refused-read (words_read (limits_of Γ) (words_of bytes)) x (sym e ∙ steadied.layout))
@@ -100,14 +100,12 @@ module _ (Γ : Context) {bytes : List ℕ} (lent : List ℕ) (place : ℕ) (new 
     (enough : few_numbers bytes (length lent) ≡ false) where
   pub bad-put : {r : Replaced} → bad_length bytes ≡ true → r ≡ Err (refusal 1 0) →
       PutDone (limits_of Γ) bytes lent place new r bytes lent
-  bad-put h e =
-      subst (λ r. PutDone (limits_of Γ) bytes lent place new r bytes lent) (sym e)
-      (unread-put (limits_of Γ) bytes lent place new settable enough (bad-file (limits_of Γ) bytes h))
+  bad-put h = unread-put (limits_of Γ) bytes lent place new settable enough (bad-file (limits_of Γ) bytes h)
 
-  pub called-put : {table : List ℕ} {r : Layout} {x : Refusal} → bad_length bytes ≡ false → Called (words_of bytes) Γ r table →
-      r ≡ Layout.Refused x → PutDone (limits_of Γ) bytes lent place new (Err x) bytes lent
-  called-put {x = x} good k e =
-      unread-put (limits_of Γ) bytes lent place new settable enough (good-file (limits_of Γ) bytes good ∙ k.refused x e)
+  pub called-put : {table : List ℕ} {x : Refusal} {q : Replaced} → bad_length bytes ≡ false → Called (words_of bytes) Γ (Err x) table →
+      q ≡ Err x → PutDone (limits_of Γ) bytes lent place new q bytes lent
+  called-put {x = x} good k =
+      unread-put (limits_of Γ) bytes lent place new settable enough (good-file (limits_of Γ) bytes good ∙ k.refused x refl)
 
 -- the words that were loaded, in their room
 pub loaded-rooms : {bytes words table after : List ℕ} {n : ℕ} → CanLoad bytes words table → bad_length bytes ≡ false →

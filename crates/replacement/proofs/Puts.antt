@@ -47,7 +47,7 @@ use Rattle.context.specs.declared.Context.{Context}
 use Rattle.context.specs.declared.Refusal.{Refusal}
 use Rattle.reader.specs.File.{places_of}
 use Rattle.reader.specs.declared.Places.{Places}
-use Rattle.reader.specs.declared.Layout.{Layout}
+use Rattle.reader.specs.Program.{Layout}
 use Rattle.file.specs.Found.{CallsRight, TableRoom}
 use Rattle.file.proofs.Found.{found-read}
 use Rattle.splice.specs.Simple.{simple_to}
@@ -77,7 +77,7 @@ pub same-put : {l k : Limits} {bytes lent new left numbers : List ℕ} {place : 
 same-put {bytes = bytes} {lent} {new} {left} {numbers} {place} {r} e d = subst (λ x. PutDone x bytes lent place new r left numbers) e d
 
 -- what was not read
-pub refused-read : (x : Reading File) (y : Refusal) → Layout.Refused y ≡ places_of x → x ≡ fault y.number y.place
+pub refused-read : (x : Reading File) (y : Refusal) → Err y ≡ places_of x → x ≡ fault y.number y.place
 refused-read (read f p) y e = absurd (let z : ◌≡◌ {A = ℕ} 0 1 = cc in omega arith)
 refused-read (fault n p) y e = cc
 
@@ -107,9 +107,9 @@ module _ (limits : Limits) (bytes lent : List ℕ) (place : ℕ) (new : List ℕ
       PutDone limits bytes lent place new r bytes lent
   few-put w h e = lent-put (few-lent limits bytes (length lent) w h) e
 
-  pub unread-put : {n p : ℕ} → within_ranges limits ≡ true → few_numbers bytes (length lent) ≡ false → bytes_read limits bytes ≡ fault n p →
-      PutDone limits bytes lent place new (Err (refusal n p)) bytes lent
-  unread-put w h e = lent-put (enough-lent limits bytes (length lent) w h ∙ e) refl
+  pub unread-put : {n p : ℕ} {r : Replaced} → within_ranges limits ≡ true → few_numbers bytes (length lent) ≡ false →
+      bytes_read limits bytes ≡ fault n p → r ≡ Err (refusal n p) → PutDone limits bytes lent place new r bytes lent
+  unread-put w h e = lent-put (enough-lent limits bytes (length lent) w h ∙ e)
 
   module _ (o : OldRead limits bytes (length lent)) where
     -- what comes of it, by the test of both commands
@@ -249,7 +249,7 @@ module _ (Γ : Context) {bytes : List ℕ} (lent : List ℕ) {place : ℕ} {new 
 -- ---- refusals 2 to 7 and 16 of them are known
 module _ {Γ : Context} {bytes : List ℕ} (lent : List ℕ) {place : ℕ} {new w table : List ℕ} {r : Layout}
     (c : CanSettle Γ bytes (length lent) place new w table r) where
-  pub can-finish : {s : Places} → r ≡ Layout.Found s → CanFinish (limits_of Γ) bytes (length lent) place new w table
+  pub can-finish : {s : Places} → r ≡ Ok s → CanFinish (limits_of Γ) bytes (length lent) place new w table
   can-finish {s} e =
       let t = c.remarked in
       let x = found-read (words_read (limits_of Γ) w) s (sym e ∙ t.layout) in
@@ -264,7 +264,7 @@ module _ {Γ : Context} {bytes : List ℕ} (lent : List ℕ) {place : ℕ} {new 
         masked = t.masked x.file x.end x.was_read;
       }
 
-  pub change-unread : {x : Refusal} {q : Replaced} → r ≡ Layout.Refused x → q ≡ Err (refusal 18 0) →
+  pub change-unread : {x : Refusal} {q : Replaced} → r ≡ Err x → q ≡ Err (refusal 18 0) →
       PutDone (limits_of Γ) bytes lent place new q bytes lent
   change-unread {x} e h =
       let s = c.change.simple in

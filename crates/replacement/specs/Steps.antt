@@ -8,7 +8,7 @@
 --     CanRead       refusals 2 to 6 and 16 let its words pass
 --     CanReplace    so does 7; its words and their table are there, and what is known of its `for`s
 --     CanSettle     the new command is one, and what refusals 2 to 7 and 16 leave of the changed words is known
-use Rattle.std.specs.Prelude.{◌≡◌, Bool, true, false, List, ℕ, ◌+◌, ◌*◌, ◌/◌, ◌%◌, ◌≤◌, length}
+use Rattle.std.specs.Prelude.{◌≡◌, Bool, true, false, List, ℕ, ◌+◌, ◌*◌, ◌/◌, ◌%◌, ◌≤◌, length, Ok}
 use Rattle.rules.specs.Context.{Limits, within_ranges, alone}
 use Rattle.layout.specs.Bytes.{words_of}
 use Rattle.layout.specs.Reading.{read}
@@ -24,7 +24,7 @@ use Rattle.context.specs.Contexts.{limits_of, Settable}
 use Rattle.context.specs.declared.Context.{Context}
 use Rattle.reader.specs.File.{places_of}
 use Rattle.reader.specs.declared.Places.{Places}
-use Rattle.reader.specs.declared.Layout.{Layout}
+use Rattle.reader.specs.Program.{Layout}
 use Rattle.file.specs.Found.{CallsRight}
 use Rattle.splice.specs.Simple.{simple_to}
 use Rattle.splice.specs.SimpleWords.{read_to}
@@ -77,7 +77,7 @@ module _ (Γ : Context) (bytes : List ℕ) (n place : ℕ) (new words table : Li
     pub rooms : Rooms bytes words table
     pub marked : Marked (words_of bytes) Γ s table
     pub masked : MaskedFile (words_of bytes) table (limits_of Γ) old.contents
-    pub was_read : Layout.Found s ≡ places_of (words_read (limits_of Γ) (words_of bytes))
+    pub was_read : Ok s ≡ places_of (words_read (limits_of Γ) (words_of bytes))
     pub fors_of : ForsFound (words_of bytes) fors
     pub new-right : both ≡ true → ChangedRight Γ bytes place new s table
 

@@ -19,12 +19,12 @@ use context::{Context, Refusal};
 use file::read_table;
 use masks::fill;
 use masks::lent::few_numbers;
-use reader::{Layout, Places};
+use reader::Places;
 use replacement::refused;
 use scan::for_mask::{Fors, find_fors};
 use splice::copy::copy;
 use splice::simple::{is_read_to, is_simple_to};
-use splice::walk::walk_first;
+use splice::walk::{Walked, walk_first};
 use words::load::{bad_length, load};
 
 // The changed file was read: masks and file are changed.
@@ -50,7 +50,7 @@ fn settle(
     w: &[u32],
     table: &[u32],
     context: Context,
-    layout: Layout,
+    layout: Result<Places, Refusal>,
     file: &mut [u8],
     masks: &mut [u64],
     place: usize,
@@ -60,8 +60,8 @@ fn settle(
     ensures { PutDone (limits_of context) file.old masks.old place new.now result file.new masks.new }
 {
     match layout {
-        Layout::Found(_) => finish(w, table, context, file, masks, place, new),
-        Layout::Refused(_) => refused(18),
+        Ok(_) => finish(w, table, context, file, masks, place, new),
+        Err(_) => refused(18),
     }
 }
 
@@ -99,15 +99,14 @@ fn replace(
     words: &mut [u32],
     table: &mut [u32],
     context: Context,
-    places: Places,
-    both: bool,
+    walked: Walked,
     fors: Fors,
     file: &mut [u8],
     masks: &mut [u64],
     place: usize,
     new: &[u8],
 ) -> Result<(), Refusal>
-    requires { CanReplace context file.old (length masks.old) place new.now words.old table.old places both fors }
+    requires { CanReplace context file.old (length masks.old) place new.now words.old table.old walked.places walked.both fors }
     ensures { PutDone (limits_of context) file.old masks.old place new.now result file.new masks.new }
 {
     let n = file.len() / 4;
@@ -121,13 +120,13 @@ fn replace(
     if !is_simple_to(&words[..n], table, place, to) {
         return refused(18);
     }
-    let old = old_at(&words[..n], place, context.depth, both, fors);
+    let old = old_at(&words[..n], place, context.depth, walked.both, fors);
     load(new, &mut words[place..]);
     change(
         &words[..n],
         table,
         context,
-        places,
+        walked.places,
         old,
         file,
         masks,
@@ -141,28 +140,20 @@ fn put_called(
     words: &mut [u32],
     table: &mut [u32],
     context: Context,
-    places: Places,
-    both: bool,
+    walked: Walked,
     file: &mut [u8],
     masks: &mut [u64],
     place: usize,
     new: &[u8],
 ) -> Result<(), Refusal>
-    requires { CanRead context file.old (length masks.old) place new.now words.old table.old places both }
+    requires { CanRead context file.old (length masks.old) place new.now words.old table.old walked.places walked.both }
     ensures { PutDone (limits_of context) file.old masks.old place new.now result file.new masks.new }
 {
     let n = file.len() / 4;
-    fill_marked(&words[..n], table, context, places);
+    fill_marked(&words[..n], table, context, walked.places);
     let fors = find_fors(&words[..n], table);
-    let layout = read_marked(&words[..n], table, context, places, fors);
-    match layout {
-        Layout::Found(_) => {
-            replace(
-                words, table, context, places, both, fors, file, masks, place, new,
-            )
-        }
-        Layout::Refused(refusal) => Err(refusal),
-    }
+    read_marked(&words[..n], table, context, walked.places, fors)?;
+    replace(words, table, context, walked, fors, file, masks, place, new)
 }
 
 // Refusals 1, 2, 17, 3 to 7 and 16, and then 18, with room for the file's words and their table.
@@ -185,22 +176,8 @@ fn put_in(
         return refused(1);
     }
     load(file, words);
-    let walked = walk_first(words, table, context, file, place, new);
-    let layout = walked.layout;
-    match layout {
-        Layout::Found(places) => put_called(
-            words,
-            table,
-            context,
-            places,
-            walked.both,
-            file,
-            masks,
-            place,
-            new,
-        ),
-        Layout::Refused(refusal) => Err(refusal),
-    }
+    let walked = walk_first(words, table, context, file, place, new)?;
+    put_called(words, table, context, walked, file, masks, place, new)
 }
 
 // The same in room for so many words and for so many numbers of their table, at most those for 8,192 words.

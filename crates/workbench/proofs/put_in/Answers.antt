@@ -1,7 +1,8 @@
 -- `workbench::put_in` meets its contract: 17, 1, 2 to 6 and 16, and then the rest.
 -- Assumes nothing.
-use mathlib.Core.Path.{sym, ◌∙◌}
+use mathlib.Core.Path.{refl, sym, ◌∙◌}
 use native.Mathlib.Omega.{arith}
+use Rattle.reader.proofs.Walks.{exit}
 use Rattle.replacement.proofs.Puts.{few-put}
 use Rattle.replacement.proofs.PutReads.{bad-put, called-put, loaded-rooms}
 use Rattle.workbench.proofs.put_in.Goals as goal
@@ -14,8 +15,8 @@ returns-then-bad_length c =
     bad-put c.args.context c.args.masks.now _ _ c.requires.1 (sym c.few_numbers.ensures ∙ c.if-few_numbers.false)
     (sym c.bad_length.ensures ∙ c.if-bad_length.true) c.refused-then-bad_length.ensures
 
-pub walk_first-walked-requires : goal.walk_first-walked-requires
-walk_first-walked-requires c =
+pub walk_first-requires : goal.walk_first-requires
+walk_first-requires c =
     let good = sym c.bad_length.ensures ∙ c.if-bad_length.false in
     record { good = good; rooms = loaded-rooms c.requires.0 good c.load.ensures c.words-1.given }
 
@@ -23,7 +24,7 @@ pub put_called-requires : goal.put_called-requires
 put_called-requires c =
     let good = sym c.bad_length.ensures ∙ c.if-bad_length.false in
     let rooms = loaded-rooms c.requires.0 good c.load.ensures c.words-1.given in
-    let first = c.walk_first-walked.ensures in
+    let first = c.in_ok-walked.ensures in
     record {
       settable = c.requires.1;
       enough = sym c.few_numbers.ensures ∙ c.if-few_numbers.false;
@@ -35,11 +36,11 @@ put_called-requires c =
           wide = omega (arith, rooms.wide, c.words-2-1.given, c.table-1.given);
         };
       };
-      right = first.called.right _ c.in-Found.is;
-      new-right = λ b. first.both _ b c.in-Found.is;
+      right = first.called.right _ refl;
+      new-right = first.both _ refl;
     }
 
-pub returns-in-Refused : goal.returns-in-Refused
-returns-in-Refused c =
+pub returns-in_err-walked : goal.returns-in_err-walked
+returns-in_err-walked c =
     called-put c.args.context c.args.masks.now _ _ c.requires.1 (sym c.few_numbers.ensures ∙ c.if-few_numbers.false)
-    (sym c.bad_length.ensures ∙ c.if-bad_length.false) c.walk_first-walked.ensures.called c.in-Refused.is
+    (sym c.bad_length.ensures ∙ c.if-bad_length.false) c.in_err-walked.ensures.called (exit c.from_residual.ensures.1 refl)

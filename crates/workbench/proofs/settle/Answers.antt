@@ -4,7 +4,7 @@ use Rattle.replacement.proofs.Puts.{can-finish, change-unread}
 use Rattle.workbench.proofs.settle.Goals as goal
 
 pub finish-requires : goal.finish-requires
-finish-requires c = can-finish c.args.masks.now c.requires c.in-Found.is
+finish-requires c = can-finish c.args.masks.now c.requires c.in-Ok.is
 
-pub returns-in-Refused : goal.returns-in-Refused
-returns-in-Refused c = change-unread c.args.masks.now c.requires c.in-Refused.is c.refused.ensures
+pub returns-in-Err : goal.returns-in-Err
+returns-in-Err c = change-unread c.args.masks.now c.requires c.in-Err.is c.refused.ensures
