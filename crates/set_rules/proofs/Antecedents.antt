@@ -13,9 +13,9 @@ use Rattle.rules.specs.Condition.{test, ◌then◌, implication, on_one}
 use Rattle.rules.specs.Evidence.{set18}
 use Rattle.rules.specs.Judge.{misfit, childless, set_rule}
 use Rattle.ends.specs.Places.{end_at, WrittenAt}
-use Rattle.implication.specs.Sides.{result_of}
-use Rattle.implication.specs.declared.Condition.{Condition}
-use Rattle.implication.specs.declared.Condition.TheVariants.{Fails}
+use Rattle.implication.specs.Sides.{Condition, result_of}
+use Rattle.std.specs.Prelude.{Err}
+use Rattle.implication.specs.declared.Failure.TheVariants.{Fails}
 use Rattle.goals.specs.Goals.{CanTry, StepOf}
 use Rattle.goals.specs.declared.Goal.TheVariants.{Set}
 use Rattle.ends.proofs.Places.{at_place, node_known}
@@ -28,12 +28,12 @@ use Rattle.set_unions.proofs.Goal.{left_one, right-one, leaf-rule}
 
 module _ {file ends : List ℕ} {Γ : Context} {p q at : ℕ} (can : CanTry file ends Γ 18 (Set p q) at) {j : ℕ}
     (m : j ≡ count_at file p) where
-  pub left-fails : (j ≡ 1 → ⊥) → StepOf file ends Γ (Set p q) at Fails
+  pub left-fails : (j ≡ 1 → ⊥) → StepOf file ends Γ (Set p q) at (Err Fails)
   unfolding set_rule
   left-fails h = leaf-rule can set18 refl λ x y a b. not-one a misfit _ (λ e. h (m ∙ e))
 
   module _ (h : j ≡ 1) {k : ℕ} (n : k ≡ count_at file q) where
-    pub right-fails : (k ≡ 1 → ⊥) → StepOf file ends Γ (Set p q) at Fails
+    pub right-fails : (k ≡ 1 → ⊥) → StepOf file ends Γ (Set p q) at (Err Fails)
     unfolding set_rule on_one
     right-fails g = leaf-rule can set18 refl λ x y a b.
         ap (λ z. set_rule Γ set18 z y) (is_one a can.can.ends_of (sym m ∙ h)).is
@@ -72,7 +72,7 @@ module _ {file ends : List ℕ} {Γ : Context} {p q at : ℕ} (can : CanTry file
               (ap (λ t. test t then implication Γ u.only.antecedent z.only.antecedent) (sym is)
               ∙ d _ _ u.only_at.antecedent-at z.only_at.antecedent-at)
 
-          pub differ_fails : b ≡ false → StepOf file ends Γ (Set p q) at Fails
+          pub differ_fails : b ≡ false → StepOf file ends Γ (Set p q) at (Err Fails)
           differ_fails d = ones λ φ ψ x y. then-fails _ d
 
           pub implied-rule : b ≡ true → {c : Condition} → ImpliesAt file ends Γ (q + 1) (p + 1) c →

@@ -1,5 +1,6 @@
 -- Rules 14 and 15 of sets: from the empty set.
 -- Assumes nothing.
+--     MembersStand, ComesAt                    members at some places, and what they come to
 --     Remains, remains_start .. remains_end    members passed one by one
 --     can-try_each, full-fails, each-rule      rule 14
 --     one-starts, some-fails, many-fails, closed_rule
@@ -23,9 +24,10 @@ use Rattle.ends.specs.Ends.{EndsOf}
 use Rattle.scan.specs.Place.{StartsAt, ClosedAt}
 use Rattle.scan.proofs.Places.{node_starts}
 use Rattle.ends.specs.Places.{end_at, WrittenAt}
-use Rattle.implication.specs.Sides.{result_of, CanImply, Implied}
-use Rattle.implication.specs.declared.Condition.{Condition}
-use Rattle.implication.specs.declared.Condition.TheVariants.{Passes, Fails, TooLarge}
+use Rattle.implication.specs.Sides.{Condition, result_of, CanImply, Implied}
+use Rattle.std.specs.Prelude.{Ok, Err}
+use Rattle.implication.specs.declared.Failure.{Failure}
+use Rattle.implication.specs.declared.Failure.TheVariants.{Fails, TooLarge}
 use Rattle.implication.specs.declared.Side.TheVariants.{One, False}
 use Rattle.goals.specs.Conditions.{condition_of}
 use Rattle.goals.specs.Goals.{CanTry, StepOf}
@@ -33,135 +35,130 @@ use Rattle.goals.specs.declared.Goal.TheVariants.{Set}
 use Rattle.ends.proofs.Places.{node_known, at_place}
 use Rattle.rule_laws.proofs.Trying.{tested}
 use Rattle.sets.specs.Items.{past_member}
-use Rattle.sets.specs.Standing.{CanPass}
+use Rattle.sets.specs.Standing.{MembersAt}
+use Rattle.sets.specs.Members.{member_places}
 use Rattle.sets.specs.Piles.{count_at}
 use Rattle.sets.specs.Trees.{MemberWritten, MembersWritten}
-use Rattle.sets.proofs.Trees.{set-count, set-written}
+use Rattle.sets.proofs.Trees.{set-count, set-written, members-place}
 use Rattle.set_laws.proofs.Sets.{is-empty, not-empty, is_one, not-one}
-use Rattle.set_rules.specs.Conditions.{CanTryEach, EachAt}
+use Rattle.set_rules.specs.Conditions.{CanTryMember, CanTryEach, EachAt}
 use Rattle.set_unions.proofs.Goal.{here, right-one, leaf-rule}
 
--- of the k members at `from` the n members at i are left, and what they come to all come to
-pub record Remains (file ends : List ℕ) (limit k from n i : ℕ) : Type 0 where
-  pub members : Members
-  pub count : length members ≡ n
-  pub members-at : MembersWritten file ends members i
-  pub rest : (r : Condition) → EachAt file ends limit n i r → EachAt file ends limit k from r
+-- members at some places, in order
+abbrev pub MembersStand : List ℕ → List ℕ → Members → List ℕ → Type 0
+MembersStand file ends [] [] = Unit {0}
+MembersStand file ends [] (i ∷ places) = ⊥
+MembersStand file ends (m ∷ l) [] = ⊥
+MembersStand file ends (m ∷ l) (i ∷ places) = MemberWritten file ends m i × MembersStand file ends l places
 
--- the first of some members
-record FirstEmpty (file ends : List ℕ) (l : Members) (i : ℕ) : Type 0 where
-  first : Member
-  others : Members
-  is : l ≡ first ∷ others
-  first-at : MemberWritten file ends first i
-  others-at : MembersWritten file ends others (past_member ends i)
+module _ (file ends : List ℕ) where
+  stand_all : (l : Members) (at : ℕ) → MembersWritten file ends l at → MembersStand file ends l (member_places ends (length l) at)
+  stand_all [] at w = tt
+  stand_all (m ∷ l) at w = (w.0, stand_all l (past_member ends at) w.1)
 
-first_of : {file ends : List ℕ} (l : Members) {n i : ℕ} → length l ≡ n → 0 < n → MembersWritten file ends l i →
-    FirstEmpty file ends l i
-first_of [] e h w = absurd (omega arith)
-first_of (m ∷ l) e h w = record { first = m; others = l; is = refl; first-at = w.0; others-at = w.1 }
+  stand-counted : (l : Members) (n at : ℕ) → length l ≡ n → MembersWritten file ends l at →
+      MembersStand file ends l (member_places ends n at)
+  stand-counted l n at e w = subst (λ n. MembersStand file ends l (member_places ends n at)) e (stand_all l at w)
 
--- the places as the code has them
-stands-to : {file ends : List ℕ} {φ : Expr Boolean} {at to : ℕ} → to ≡ end_at ends at → (a : WrittenAt file ends φ at) →
-    PartStands file (expression_part φ) a.levels at to
-stands-to {file} {φ = φ} {at} t a = subst (λ p. PartStands file (expression_part φ) a.levels at p) (sym t) a.stands
+  -- what the members at some places come to
+  abbrev pub ComesAt : ℕ → List ℕ → Condition → Type 0
+  ComesAt limit places r =
+      (l : Members) → MembersStand file ends l places → (Γ : Context) → Γ.limits.comparisons ≡ limit →
+      result_of r ≡ each_implies_false Γ l
 
-moved : (file ends : List ℕ) (l : Members) {i j : ℕ} → j ≡ i → MembersWritten file ends l i →
-    MembersWritten file ends l j
-moved file ends l e w = subst (MembersWritten file ends l) (sym e) w
+  -- of the k members at `from` those at some places are left, and what they come to all come to
+  pub record Remains (limit k from : ℕ) (places : List ℕ) : Type 0 where
+    pub members : Members
+    pub stand : MembersStand file ends members places
+    pub rest : (r : Condition) → ComesAt limit places r → EachAt file ends limit k from r
 
 -- a condition that does not pass is the result of those that follow too
-pub fails-stay : {c : Condition} → c ≡ Fails → (x : Result) → result_of c ≡ (result_of c then x)
+fails-stay : (f : Failure) (x : Result) → result_of (Err f) ≡ (result_of (Err f) then x)
 unfolding ◌then◌
-fails-stay e x = rw e refl
+fails-stay Fails x = refl
+fails-stay TooLarge x = refl
 
-pub large-stay : {c : Condition} → c ≡ TooLarge → (x : Result) → result_of c ≡ (result_of c then x)
-unfolding ◌then◌
-large-stay e x = rw e refl
-
-passes_then : {c : Condition} → c ≡ Passes → (x : Result) → x ≡ (result_of c then x)
-unfolding ◌then◌
-passes_then e x = rw e refl
-
-none_left : (l : Members) → length l ≡ 0 → (Γ : Context) → passes ≡ each_implies_false Γ l
+none_left : (file ends : List ℕ) (l : Members) → MembersStand file ends l [] → (Γ : Context) → passes ≡ each_implies_false Γ l
 unfolding each_implies_false
-none_left [] e Γ = refl
-none_left (m ∷ l) e Γ = absurd (omega arith)
+none_left file ends [] s Γ = refl
+none_left file ends (m ∷ l) s Γ = absurd s
 
-module _ {file ends : List ℕ} {limit k from : ℕ} where
-  pub remains_start : CanTryEach file ends limit k from → Remains file ends limit k from k from
-  remains_start can =
-      record { members = can.members; count = can.count; members-at = can.members-at; rest = λ r h. h }
+-- the first of members at some places
+module _ (file ends : List ℕ) (limit i : ℕ) (places : List ℕ) where
+  others : (l : Members) → MembersStand file ends l (i ∷ places) → (o : Members) × MembersStand file ends o places
+  others [] s = absurd s
+  others (m ∷ l) s = (l, s.1)
 
-  module _ {n i : ℕ} (x : Remains file ends limit k from n i) where
-    module _ (h : 0 < n) where
-      first_member : FirstEmpty file ends x.members i
-      first_member = first_of x.members x.count h x.members-at
-
-      pub can-pass : EndsOf file ends → CanPass ends i
-      can-pass o = record {
-        first = (node_known o first_member.first-at.antecedent-at).listed;
-        second = (node_known o first_member.first-at.consequent-at).listed;
-      }
-
-      module _ {to : ℕ} (t : to ≡ end_at ends i) where
-        pub can-imply : CanTryEach file ends limit k from → CanImply file (One i to) False limit
-        can-imply can =
-            let a = first_member.first-at.antecedent-at in
+  can-first : (l : Members) → MembersStand file ends l (i ∷ places) → EndsOf file ends → length file ≤ 8192 → limit ≤ 16 →
+      CanTryMember file ends limit i
+  can-first [] s o h f = absurd s
+  can-first (m ∷ l) s o h f =
+      let a = s.0.antecedent-at in
+      record {
+        listed = (node_known o a).listed;
+        can =
             record {
-              φ = first_member.first.antecedent;
+              φ = m.antecedent;
               ψ = truth false;
               levels = a.levels;
               low = a.low;
-              left_stands = stands-to t a;
+              left_stands = a.stands;
               right_stands = refl;
-              size = can.size;
-              few = can.few;
-            }
+              size = h;
+              few = f;
+            };
+      }
 
-        module _ {c : Condition} (imp : Implied file (One i to) False limit c) where
-          -- the result of members whose first is at hand
-          each_first : (l : Members) (Γ : Context) → Γ.limits.comparisons ≡ limit → (z : FirstEmpty file ends l i) →
-              {v : Result} → v ≡ (result_of c then each_implies_false Γ z.others) → v ≡ each_implies_false Γ l
-          unfolding each_implies_false
-          each_first l Γ g z d =
-              let a = z.first-at.antecedent-at in
-              d
-              ∙ ap (λ u. u then each_implies_false Γ z.others)
-              (imp.is z.first.antecedent (truth false) a.levels a.levels (stands-to t a) refl Γ g)
-              ∙ ap (each_implies_false Γ) (sym z.is)
+  module _ {c : Condition} (imp : Implied file (One i (end_at ends i)) False limit c) where
+    -- the result of members whose first is at hand
+    each_first : (m : Member) (l : Members) → MemberWritten file ends m i → (Γ : Context) → Γ.limits.comparisons ≡ limit →
+        {v : Result} → v ≡ (result_of c then each_implies_false Γ l) → v ≡ each_implies_false Γ (m ∷ l)
+    unfolding each_implies_false
+    each_first m l w Γ g d =
+        let a = w.antecedent-at in
+        d ∙ ap (λ u. u then each_implies_false Γ l) (imp.is m.antecedent (truth false) a.levels a.levels a.stands refl Γ g)
 
-          pub remains_stop : ((u : Result) → result_of c ≡ (result_of c then u)) → EachAt file ends limit k from c
-          remains_stop stay =
-              x.rest c
-              (record {
-                is = λ l e w Γ g.
-                    let z = first_of l e h w in
-                    each_first l Γ g z (stay (each_implies_false Γ z.others));
-              })
+    first_stops : ((u : Result) → result_of c ≡ (result_of c then u)) → ComesAt file ends limit (i ∷ places) c
+    first_stops stay [] s Γ g = absurd s
+    first_stops stay (m ∷ l) s Γ g = each_first m l s.0 Γ g (stay (each_implies_false Γ l))
 
-          pub remains_on : {j : ℕ} → c ≡ Passes → j ≡ past_member ends i → Remains file ends limit k from (n - 1) j
-          remains_on {j} p b =
-              let y = first_member in
-              let e = ap length y.is in
-              let f = x.count in
-              record {
-                members = y.others;
-                count = omega arith;
-                members-at = moved file ends y.others b y.others-at;
-                rest = λ r q. x.rest r
-                    (record {
-                      is = λ l e w Γ g.
-                          let z = first_of l e h w in
-                          let d = ap length z.is in
-                          each_first l Γ g z
-                          (q.is z.others (omega arith) (moved file ends z.others b z.others-at) Γ g
-                          ∙ passes_then p (each_implies_false Γ z.others));
-                    });
-              }
+    first_passes : ((u : Result) → u ≡ (result_of c then u)) → (r : Condition) → ComesAt file ends limit places r →
+        ComesAt file ends limit (i ∷ places) r
+    first_passes pass r q [] s Γ g = absurd s
+    first_passes pass r q (m ∷ l) s Γ g = each_first m l s.0 Γ g (q l s.1 Γ g ∙ pass (each_implies_false Γ l))
 
-    pub remains_end : n ≤ 0 → EachAt file ends limit k from Passes
-    remains_end h = x.rest Passes (record { is = λ l e w Γ g. none_left l (omega arith) Γ })
+module _ {file ends : List ℕ} {limit k from : ℕ} where
+  pub remains_start : CanTryEach file ends limit k from → Remains file ends limit k from (member_places ends k from)
+  remains_start can = record {
+    members = can.members;
+    stand = stand-counted file ends can.members k from can.count can.members-at;
+    rest = λ r h. record { is = λ l e w Γ g. h l (stand-counted file ends l k from e w) Γ g };
+  }
+
+  pub members_at : CanTryEach file ends limit k from → MembersAt file ends k from
+  members_at can = subst (λ n. MembersAt file ends n from) can.count (members-place file ends can.members from can.members-at)
+
+  -- the first of those that are left
+  module _ {i : ℕ} {places : List ℕ} (x : Remains file ends limit k from (i ∷ places)) where
+    pub can-try_first : CanTryEach file ends limit k from → CanTryMember file ends limit i
+    can-try_first can = can-first file ends limit i places x.members x.stand can.ends_of can.size can.few
+
+    pub remains_stop : {f : Failure} → Implied file (One i (end_at ends i)) False limit (Err f) → EachAt file ends limit k from (Err f)
+    remains_stop {f} imp = x.rest (Err f) (first_stops file ends limit i places imp (fails-stay f))
+
+    pub remains_on : {u : Unit {0}} → Implied file (One i (end_at ends i)) False limit (Ok u) → Remains file ends limit k from places
+    unfolding ◌then◌
+    remains_on {u} imp =
+        let o = others file ends limit i places x.members x.stand in
+        record { members = o.0; stand = o.1; rest = λ r q. x.rest r (first_passes file ends limit i places imp (λ v. refl) r q) }
+
+  -- by what `?` returns
+  pub remains_exit : {r : Condition} {f : Failure} → (y : Failure) × (r ≡ Err y) × (y ≡ f) → EachAt file ends limit k from (Err f) →
+      EachAt file ends limit k from r
+  remains_exit x e = subst (EachAt file ends limit k from) (sym (x.1 ∙ ap Err x.2)) e
+
+  pub remains_end : Remains file ends limit k from [] → EachAt file ends limit k from (Ok tt)
+  remains_end x = x.rest (Ok tt) (λ l s Γ g. none_left file ends l s Γ)
 
 module _ {file ends : List ℕ} {Γ : Context} {p q at : ℕ} where
   module _ (can : CanTry file ends Γ 14 (Set p q) at) where
@@ -176,7 +173,7 @@ module _ {file ends : List ℕ} {Γ : Context} {p q at : ℕ} where
     }
 
     module _ {j : ℕ} (m : j ≡ count_at file p) where
-      pub full-fails : (j ≡ 0 → ⊥) → StepOf file ends Γ (Set p q) at Fails
+      pub full-fails : (j ≡ 0 → ⊥) → StepOf file ends Γ (Set p q) at (Err Fails)
       unfolding set_rule
       full-fails h = leaf-rule can set14 refl λ x y a b. not-empty a misfit _ (λ e. h (m ∙ e))
 
@@ -188,12 +185,12 @@ module _ {file ends : List ℕ} {Γ : Context} {p q at : ℕ} where
           ∙ ap childless (sym (each.is y (sym (n ∙ set-count b)) (set-written can.can.ends_of b) Γ g))
 
   module _ (can : CanTry file ends Γ 15 (Set p q) at) {j : ℕ} (m : j ≡ count_at file p) where
-    pub some-fails : (j ≡ 0 → ⊥) → StepOf file ends Γ (Set p q) at Fails
+    pub some-fails : (j ≡ 0 → ⊥) → StepOf file ends Γ (Set p q) at (Err Fails)
     unfolding set_rule
     some-fails h = leaf-rule can set15 refl λ x y a b. not-empty a misfit _ (λ e. h (m ∙ e))
 
     module _ (h : j ≡ 0) {k : ℕ} (n : k ≡ count_at file q) where
-      pub many-fails : (k ≡ 1 → ⊥) → StepOf file ends Γ (Set p q) at Fails
+      pub many-fails : (k ≡ 1 → ⊥) → StepOf file ends Γ (Set p q) at (Err Fails)
       unfolding set_rule on_empty
       many-fails g = leaf-rule can set15 refl λ x y a b.
           ap (λ z. set_rule Γ set15 z y) (is-empty a (sym m ∙ h)) ∙ not-one b misfit _ (λ e. g (n ∙ e))

@@ -27,16 +27,16 @@ use Rattle.layout.specs.Bytes.{kind_at}
 use Rattle.layout.specs.Nodes.{expression_node, head_of, parts_of, kind_of}
 use Rattle.ends.specs.Ends.{EndsOf}
 use Rattle.ends.specs.Places.{end_at, WrittenAt, NodesAt, PartKnown}
-use Rattle.implication.specs.declared.Condition.{Condition}
-use Rattle.implication.specs.declared.Condition.TheVariants.{Fails}
+use Rattle.implication.specs.Sides.{Condition}
+use Rattle.std.specs.Prelude.{Err}
+use Rattle.implication.specs.declared.Failure.TheVariants.{Fails}
 use Rattle.goals.specs.Conditions.{condition_of}
 use Rattle.goals.specs.Goals.{CanTry, StepOf}
 use Rattle.goals.specs.declared.Goal.TheVariants.{Set}
 use Rattle.ends.proofs.Places.{node_head, parts_at, at_place, node_inside, node_known}
 use Rattle.rule_laws.proofs.Trying.{tested}
-use Rattle.sets.specs.Trees.{stands-empty, stands_one, HasPile, CanSameSet, SameSet}
-use Rattle.sets.specs.declared.pile.Pile.TheVariants.{Empty, One}
-use Rattle.sets.specs.declared.pile.Piles.{Piles}
+use Rattle.sets.specs.Trees.{stands_one, CanSameSet, SameSet}
+use Rattle.sets.specs.declared.pile.Pile.TheVariants.{One}
 use Rattle.sets.specs.Piles.{count_at}
 use Rattle.set_laws.proofs.Sets.{has-set, is_one, not-one}
 use Rattle.set_rules.specs.Conditions.{has_two, CanOperands, OperandsAt}
@@ -123,16 +123,6 @@ module _ {file ends : List ℕ} {k : Sort} {d : Expr k} {at : ℕ} where
   by-none (split_one h t) f e φ = absurd (f h)
   by-none (split-none h g t) f e φ = t φ
 
-abbrev one_piles : ℕ → ℕ → Piles
-one_piles f a = record { first = One f a; second = Empty; third = Empty }
-
-abbrev two_piles : ℕ → ℕ → ℕ → Piles
-two_piles f a b = record { first = One f a; second = One f b; third = Empty }
-
-has-pair : {file ends : List ℕ} {φ : Expr Boolean} {k : Sort} {d : Expr k} {f at to : ℕ} → WrittenAt file ends φ f →
-    to ≡ at → WrittenAt file ends d at → HasPile file ends (One f to)
-has-pair {φ = φ} {d = d} x i y = record { tree = one φ d; stands = stands_one x (at_place i y) }
-
 module _ {file ends : List ℕ} {p f e : ℕ} (can : CanOperands file ends p f e) where
   pub whole_in : e < length file
   whole_in =
@@ -141,15 +131,14 @@ module _ {file ends : List ℕ} {p f e : ℕ} (can : CanOperands file ends p f e
       let w = i.within in
       omega arith
 
-  pub can-one_same : kind_at file e ≡ 12 → CanSameSet file ends p (one_piles f (e + 1))
+  pub can-one_same : kind_at file e ≡ 12 → CanSameSet file ends p (One f (e + 1) ∷ [])
   can-one_same h =
       let t = by_one (split can.ends_of can.whole-at) h in
       record {
         ends_of = can.ends_of;
         set = can.set;
-        first-pile = has-pair can.antecedent-at refl t.only_at;
-        second-pile = record { tree = _; stands = stands-empty };
-        third-pile = record { tree = _; stands = stands-empty };
+        piles_stand =
+            record { trees = one can.φ t.only ∷ []; stand = (stands_one can.antecedent-at t.only_at, tt) };
       }
 
   module _ (g : kind_at file e ≡ 12 → ⊥) (h : has_two (kind_at file e) ≡ true) where
@@ -159,23 +148,27 @@ module _ {file ends : List ℕ} {p f e : ℕ} (can : CanOperands file ends p f e
     pub first-known : PartKnown file ends (e + 1)
     first-known = node_known can.ends_of both_at.first-at
 
-    pub can-two_same : {next : ℕ} → next ≡ end_at ends (e + 1) → CanSameSet file ends p (two_piles f (e + 1) next)
+    pub can-two_same : {next : ℕ} → next ≡ end_at ends (e + 1) → CanSameSet file ends p (One f (e + 1) ∷ One f next ∷ [])
     can-two_same i = record {
       ends_of = can.ends_of;
       set = can.set;
-      first-pile = has-pair can.antecedent-at refl both_at.first-at;
-      second-pile = has-pair can.antecedent-at i both_at.second_at;
-      third-pile = record { tree = _; stands = stands-empty };
+      piles_stand =
+          record {
+            trees = one can.φ both_at.first ∷ one can.φ both_at.second ∷ [];
+            stand = (
+              stands_one can.antecedent-at both_at.first-at,
+              (stands_one can.antecedent-at (at_place i both_at.second_at), tt),
+            );
+          };
     }
 
 module _ {file ends : List ℕ} {p f e : ℕ} (o : EndsOf file ends) where
-  pub one_split : kind_at file e ≡ 12 → {r : Bool} → SameSet file ends p (one_piles f (e + 1)) r → OperandsAt file ends p f e r
+  pub one_split : kind_at file e ≡ 12 → {r : Bool} → SameSet file ends p (One f (e + 1) ∷ []) r → OperandsAt file ends p f e r
   unfolding on_some
   one_split h same-as = record {
     is = λ Γ l φ d a b c.
         let t = by_one (split o c) h in
-        same-as.does l (one φ t.only) [] [] a (stands_one b t.only_at)
-        stands-empty stands-empty
+        same-as.does l (one φ t.only ∷ []) a (stands_one b t.only_at, tt)
         ∙ ap (λ m. on_some m false (λ x. same l x)) (sym (t.is φ));
   }
 
@@ -187,15 +180,13 @@ module _ {file ends : List ℕ} {p f e : ℕ} (o : EndsOf file ends) where
     }
 
     pub two-split : has_two (kind_at file e) ≡ true → {next : ℕ} → next ≡ end_at ends (e + 1) → {r : Bool} →
-        SameSet file ends p (two_piles f (e + 1) next) r → OperandsAt file ends p f e r
+        SameSet file ends p (One f (e + 1) ∷ One f next ∷ []) r → OperandsAt file ends p f e r
     unfolding on_some
     two-split h i same-as = record {
       is = λ Γ l φ d a b c.
           let t = by_two (split o c) g h in
-          same-as.does l (one φ t.first) (one φ t.second) [] a
-          (stands_one b t.first-at)
-          (stands_one b (at_place i t.second_at))
-          stands-empty
+          same-as.does l (one φ t.first ∷ one φ t.second ∷ []) a
+          (stands_one b t.first-at, (stands_one b (at_place i t.second_at), tt))
           ∙ ap (λ m. on_some m false (λ x. same l x)) (sym (t.is φ));
     }
 
@@ -208,7 +199,7 @@ some_result (some r) l = refl
 
 module _ {file ends : List ℕ} {Γ : Context} {p q at : ℕ} (can : CanTry file ends Γ 19 (Set p q) at) {k : ℕ}
     (n : k ≡ count_at file q) where
-  pub apart-fails : (k ≡ 1 → ⊥) → StepOf file ends Γ (Set p q) at Fails
+  pub apart-fails : (k ≡ 1 → ⊥) → StepOf file ends Γ (Set p q) at (Err Fails)
   unfolding set_rule
   apart-fails g = leaf-rule can set19 refl λ x y a b. not-one b misfit _ (λ e. g (n ∙ e))
 

@@ -3,10 +3,11 @@
 -- Working: `within-at` of proofs/Inclusions, `remains_stop` and `remains_end` of proofs/EmptySets, `one_split`, `two-split`
 -- and `none-split` of proofs/Operands say that the code's answers are those of the rules on trees. Assumes nothing.
 --     CanInclude, WithinAt      rule 13: each of a written set stands in another
---     CanTryEach, EachAt        rule 14: each antecedent implies false
+--     CanTryMember, CanTryEach, EachAt
+--                               rule 14: an antecedent implies false; each does
 --     has_two, CanOperands, OperandsAt
 --                               rule 19: a written set is the same as φ ⇒ each operand of E
-use Rattle.std.specs.Prelude.{◌≡◌, Bool, false, ◌||◌, List, ℕ, ◌≤◌, eqb, length}
+use Rattle.std.specs.Prelude.{◌≡◌, Bool, false, ◌||◌, List, ℕ, ◌<◌, ◌≤◌, eqb, length}
 use Rattle.language.specs.Syntax.{Sort, Boolean, Expr}
 use Rattle.rules.specs.Assertion.{Members}
 use Rattle.rules.specs.Context.{Context}
@@ -14,9 +15,9 @@ use Rattle.rules.specs.Condition.{each_implies_false, on_some}
 use Rattle.rules.specs.Sets.{operands}
 use Rattle.rules.specs.Tests.{within, same}
 use Rattle.ends.specs.Ends.{EndsOf}
-use Rattle.implication.specs.Sides.{result_of}
-use Rattle.implication.specs.declared.Condition.{Condition}
-use Rattle.ends.specs.Places.{WrittenAt, SetAt}
+use Rattle.implication.specs.Sides.{Condition, result_of, CanImply}
+use Rattle.implication.specs.declared.Side.TheVariants.{One, False}
+use Rattle.ends.specs.Places.{end_at, WrittenAt, SetAt}
 use Rattle.sets.specs.Trees.{MembersWritten, HasSet}
 
 -- the kinds of rule 19 that have two operands
@@ -32,6 +33,11 @@ module _ (file ends : List ℕ) where
   pub record WithinAt (q p : ℕ) (r : Bool) : Type 0 where
     pub is : (Γ : Context) (x y : Members) → SetAt file ends Γ x q → SetAt file ends Γ y p →
         r ≡ within x y
+
+  -- a member at i
+  pub record CanTryMember (limit i : ℕ) : Type 0 where
+    pub listed : i < length ends
+    pub can : CanImply file (One i (end_at ends i)) False limit
 
   -- the n members at `at`
   pub record CanTryEach (limit n at : ℕ) : Type 0 where

@@ -1,11 +1,10 @@
-ghost use Rattle.context.specs.Contexts.{context_in};
-ghost use Rattle.goals.specs.Goals.{CanTry, StepOf};
+ghost use Rattle.goals.specs.Files.{CanTryIn, StepIn};
 ghost use Rattle.goals.specs.declared.Goal.TheVariants.{Set};
 ghost use Rattle.set_rules.specs.Conditions.{CanInclude, WithinAt};
 
-use context::Context;
-use goals::condition;
-use implication::Condition;
+use goals::ensure;
+use goals::file::File;
+use implication::Failure;
 use sets::item::View;
 use sets::member::seen_in;
 use sets::pile::count;
@@ -21,16 +20,9 @@ fn is_within(w: &[u32], ends: &[u32], q: usize, p: usize) -> bool
 }
 
 // Rule 13. Each of Q stands in P.
-pub fn rule_13(
-    w: &[u32],
-    ends: &[u32],
-    context: Context,
-    at: usize,
-    p: usize,
-    q: usize,
-) -> Condition
-    requires { CanTry w.now ends.now (context_in context w.now) 13 (Set p q) «at» }
-    ensures { StepOf w.now ends.now (context_in context w.now) (Set p q) «at» result }
+pub fn rule_13(file: &File, at: usize, p: usize, q: usize) -> Result<(), Failure>
+    requires { CanTryIn file.now 13 (Set p q) «at» }
+    ensures { StepIn file.now (Set p q) «at» result }
 {
-    condition(is_within(w, ends, q, p))
+    ensure(is_within(file.words, file.ends, q, p))
 }

@@ -1,14 +1,13 @@
 ghost use Rattle.std.specs.Prelude.{◌≡◌};
-ghost use Rattle.context.specs.Contexts.{context_in};
-ghost use Rattle.goals.specs.Goals.{CanTry, StepOf};
+ghost use Rattle.goals.specs.Files.{CanTryIn, StepIn};
 ghost use Rattle.goals.specs.declared.Goal.TheVariants.{Set};
 ghost use Rattle.set_rules.specs.Conditions.{has_two, CanOperands, OperandsAt};
 
-use context::Context;
 use ends::{end_at, end_or_zero};
-use goals::condition;
-use implication::Condition;
-use sets::pile::{Pile, Piles, count};
+use goals::ensure;
+use goals::file::File;
+use implication::Failure;
+use sets::pile::{Pile, count};
 use sets::set::same_set;
 use words::kinds::{AND, COMPARISON, KIND, NOT, OPERATOR, OR};
 
@@ -34,41 +33,23 @@ fn are_operands(w: &[u32], ends: &[u32], p: usize, f: usize, e: usize) -> bool
     let kind = w[e] / KIND;
     let first = Pile::One(f, e + 1);
     if kind == NOT {
-        let piles = Piles {
-            first,
-            second: Pile::Empty,
-            third: Pile::Empty,
-        };
-        return same_set(w, ends, p, piles);
+        return same_set(w, ends, p, &[first]);
     }
     if !has_two(kind) {
         return false;
     }
     let next = end_at(ends, e + 1);
-    let piles = Piles {
-        first,
-        second: Pile::One(f, next),
-        third: Pile::Empty,
-    };
-    same_set(w, ends, p, piles)
+    let piles = [first, Pile::One(f, next)];
+    same_set(w, ends, p, &piles)
 }
 
 // Rule 19. Q one member φ ⇒ E, E of kind 3, 8, 10, 11 or 12; P same as φ ⇒ each operand.
-pub fn rule_19(
-    w: &[u32],
-    ends: &[u32],
-    context: Context,
-    at: usize,
-    p: usize,
-    q: usize,
-) -> Condition
-    requires { CanTry w.now ends.now (context_in context w.now) 19 (Set p q) «at» }
-    ensures { StepOf w.now ends.now (context_in context w.now) (Set p q) «at» result }
+pub fn rule_19(file: &File, at: usize, p: usize, q: usize) -> Result<(), Failure>
+    requires { CanTryIn file.now 19 (Set p q) «at» }
+    ensures { StepIn file.now (Set p q) «at» result }
 {
-    if count(w, q) != 1 {
-        return Condition::Fails;
-    }
+    ensure(count(file.words, q) == 1)?;
     let f = q + 1;
-    let e = end_or_zero(ends, f);
-    condition(are_operands(w, ends, p, f, e))
+    let e = end_or_zero(file.ends, f);
+    ensure(are_operands(file.words, file.ends, p, f, e))
 }

@@ -14,8 +14,7 @@ use Rattle.rules.specs.Assertion.{Members}
 use Rattle.rules.specs.Context.{Context}
 use Rattle.rules.specs.Evidence.{Rule, implication, done}
 use Rattle.rules.specs.Judge.{accepted, childless, set_rule}
-use Rattle.implication.specs.Sides.{result_of}
-use Rattle.implication.specs.declared.Condition.{Condition}
+use Rattle.implication.specs.Sides.{Condition, result_of}
 use Rattle.goals.specs.Children.{of_rule, set_children}
 use Rattle.goals.specs.Goals.{TreeGoal, GoalStands, set-stands, ChildrenOf, CanTry, StepOf}
 use Rattle.goals.specs.declared.Goal.TheVariants.{Set}

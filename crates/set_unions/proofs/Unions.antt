@@ -8,7 +8,7 @@
 --     is-17                                      the other rule that has children
 use mathlib.Core.Path.{◌≡◌, refl, sym, ap, subst, ◌∙◌}
 use mathlib.Core.Bool.{Bool, true, false}
-use mathlib.Core.List.{List, [], ◌++◌, append-nil}
+use mathlib.Core.List.{List, [], ◌∷◌, ◌++◌, append-nil}
 use Prim.Native.Nat.{ℕ, zero, suc, ◌+◌, ◌<◌}
 use borrow.Author.Tests.{ne_eqb}
 use lib.ListN.{length}
@@ -20,9 +20,9 @@ use Rattle.rules.specs.Tests.{same}
 use Rattle.rules.specs.Evidence.{row, Parts, child, members, done, ◌&◌, set16, set17}
 use Rattle.rules.specs.Judge.{set_rule, judge}
 use Rattle.ends.specs.Places.{end_at, SetAt}
-use Rattle.implication.specs.Sides.{result_of}
-use Rattle.implication.specs.declared.Condition.{Condition}
-use Rattle.implication.specs.declared.Condition.TheVariants.{Fails}
+use Rattle.implication.specs.Sides.{Condition, result_of}
+use Rattle.std.specs.Prelude.{Err}
+use Rattle.implication.specs.declared.Failure.TheVariants.{Fails}
 use Rattle.goals.specs.Children.{of_rule, set_children}
 use Rattle.goals.specs.Conditions.{condition_of}
 use Rattle.goals.specs.Goals.{CanTry, StepOf, set-stands}
@@ -32,11 +32,10 @@ use Rattle.goals.proofs.Evidence.{Placed}
 use Rattle.goals.proofs.Comes.{comes, two-children, then-passes, then-fails, SetComes, set-rule}
 use Rattle.rule_laws.proofs.Trying.{parts-of, up-to, tested, only-rule}
 use Rattle.sets.specs.Rules.{CanThree, SameUnion}
-use Rattle.sets.specs.Trees.{HasSet, stands-empty, stands-written, stands-without, CanSameSet, SameSet}
+use Rattle.sets.specs.Trees.{HasSet, stands-written, stands-without, CanSameSet, SameSet}
 use Rattle.sets.specs.declared.item.View.TheVariants.{AsWritten}
-use Rattle.sets.specs.declared.pile.Pile.TheVariants.{Empty, Without}
+use Rattle.sets.specs.declared.pile.Pile.TheVariants.{Without}
 use Rattle.sets.specs.declared.pile.Pile.TheVariants as pile
-use Rattle.sets.specs.declared.pile.Piles.{Piles}
 use Rattle.set_laws.proofs.Sets.{has-set}
 use Rattle.set_unions.specs.Unions.{CanRestUnion, RestAt}
 use Rattle.set_unions.proofs.Goal.{here}
@@ -104,7 +103,7 @@ module _ {file ends : List ℕ} {Γ : Context} {p q at b c : ℕ} where
             (up-to (set-stands t-at t'-at l-at) last))
 
     module _ {u : Bool} (first : SameUnion file ends p (at + 1) c u) where
-      pub first-fails : u ≡ false → StepOf file ends Γ (Set p q) at Fails
+      pub first-fails : u ≡ false → StepOf file ends Γ (Set p q) at (Err Fails)
       first-fails n = united λ x y s s' t t' px qy s-at s'-at t-at t'-at.
           sym (then-fails _ (sym (first.does x s t px s-at t-at)
           ∙ n))
@@ -148,24 +147,23 @@ module _ {file ends : List ℕ} {Γ : Context} {p q at b c : ℕ} where
             (two-children (set-stands s-at s'-at k-at)
             (up-to (set-stands t-at qy l-at) last))
 
--- T without S', and S
-abbrev rest_piles : ℕ → ℕ → ℕ → Piles
-rest_piles t leave s = record { first = Without t leave; second = pile.Set s AsWritten; third = Empty }
-
 module _ {file ends : List ℕ} {p t leave s : ℕ} where
-  pub can-rest_same : CanRestUnion file ends p t leave s → CanSameSet file ends p (rest_piles t leave s)
+  pub can-rest_same : CanRestUnion file ends p t leave s →
+      CanSameSet file ends p (Without t leave ∷ pile.Set s AsWritten ∷ [])
   can-rest_same can = record {
     ends_of = can.ends_of;
     set = can.set;
-    first-pile = record { tree = _; stands = stands-without can.most.there can.left_out.there };
-    second-pile = record { tree = _; stands = stands-written can.added.there };
-    third-pile = record { tree = _; stands = stands-empty };
+    piles_stand =
+        record {
+          trees = _ ∷ _ ∷ [];
+          stand = (stands-without can.most.there can.left_out.there, (stands-written can.added.there, tt));
+        };
   }
 
-  pub rest_at : {r : Bool} → SameSet file ends p (rest_piles t leave s) r → RestAt file ends p t leave s r
+  pub rest_at : {r : Bool} → SameSet file ends p (Without t leave ∷ pile.Set s AsWritten ∷ []) r → RestAt file ends p t leave s r
   rest_at h = record {
     is = λ l x y z a b c d.
-        h.does l (without x y) z [] a (stands-without b c) (stands-written d) stands-empty
+        h.does l (without x y ∷ z ∷ []) a (stands-without b c, (stands-written d, tt))
         ∙ ap (λ v. same l (without x y ++ v)) (append-nil z);
   }
 

@@ -1,39 +1,34 @@
 ghost use Rattle.std.specs.Prelude.{◌≡◌, ◌<◌};
-ghost use Rattle.context.specs.Contexts.{context_in};
 ghost use Rattle.goals.specs.Children.{set_child};
-ghost use Rattle.goals.specs.Goals.{CanTry, StepOf};
+ghost use Rattle.goals.specs.Files.{CanTryIn, StepIn};
 ghost use Rattle.goals.specs.declared.Goal.TheVariants.{Set};
 ghost use Rattle.set_unions.specs.Unions.{CanRestUnion, RestAt};
 
-use context::Context;
 use ends::end_or_zero;
-use goals::{Goal, condition};
-use implication::Condition;
+use goals::file::File;
+use goals::{Goal, ensure};
+use implication::Failure;
 use sets::item::View;
-use sets::pile::{Pile, Piles};
+use sets::pile::Pile;
 use sets::rule::same_union;
 use sets::set::same_set;
 
 // Rule 16. Carries S, S', T, T'; P same as S ∪ T, Q as S' ∪ T'.
 pub fn rule_16(
-    w: &[u32],
-    ends: &[u32],
-    context: Context,
+    file: &File,
     at: usize,
     p: usize,
     q: usize,
-) -> Condition
-    requires { CanTry w.now ends.now (context_in context w.now) 16 (Set p q) «at» }
-    ensures { StepOf w.now ends.now (context_in context w.now) (Set p q) «at» result }
+) -> Result<(), Failure>
+    requires { CanTryIn file.now 16 (Set p q) «at» }
+    ensures { StepIn file.now (Set p q) «at» result }
 {
     let s = at + 1;
-    let s2 = end_or_zero(ends, s);
-    let t = end_or_zero(ends, s2);
-    let t2 = end_or_zero(ends, t);
-    if !same_union(w, ends, p, s, t) {
-        return Condition::Fails;
-    }
-    condition(same_union(w, ends, q, s2, t2))
+    let s2 = end_or_zero(file.ends, s);
+    let t = end_or_zero(file.ends, s2);
+    let t2 = end_or_zero(file.ends, t);
+    ensure(same_union(file.words, file.ends, p, s, t))?;
+    ensure(same_union(file.words, file.ends, q, s2, t2))
 }
 
 // Its children: (S, S'), (T, T').
@@ -57,30 +52,24 @@ fn is_rest_union(w: &[u32], ends: &[u32], p: usize, t: usize, leave: usize, s: u
     requires { CanRestUnion w.now ends.now p t leave s }
     ensures { RestAt w.now ends.now p t leave s result }
 {
-    let piles = Piles {
-        first: Pile::Without(t, leave),
-        second: Pile::Set(s, View::AsWritten),
-        third: Pile::Empty,
-    };
-    same_set(w, ends, p, piles)
+    let piles = [Pile::Without(t, leave), Pile::Set(s, View::AsWritten)];
+    same_set(w, ends, p, &piles)
 }
 
 // Rule 17. Carries S, S', T; P same as (T without S') ∪ S.
 pub fn rule_17(
-    w: &[u32],
-    ends: &[u32],
-    context: Context,
+    file: &File,
     at: usize,
     p: usize,
     q: usize,
-) -> Condition
-    requires { CanTry w.now ends.now (context_in context w.now) 17 (Set p q) «at» }
-    ensures { StepOf w.now ends.now (context_in context w.now) (Set p q) «at» result }
+) -> Result<(), Failure>
+    requires { CanTryIn file.now 17 (Set p q) «at» }
+    ensures { StepIn file.now (Set p q) «at» result }
 {
     let s = at + 1;
-    let s2 = end_or_zero(ends, s);
-    let t = end_or_zero(ends, s2);
-    condition(is_rest_union(w, ends, p, t, s2, s))
+    let s2 = end_or_zero(file.ends, s);
+    let t = end_or_zero(file.ends, s2);
+    ensure(is_rest_union(file.words, file.ends, p, t, s2, s))
 }
 
 // Its children: (S, S'), (T, Q).

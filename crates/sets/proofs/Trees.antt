@@ -60,7 +60,7 @@ module _ {file ends : List ℕ} where
   member-place x =
       record { antecedent = record { tree = _; there = x.antecedent-at }; consequent = written-any x.consequent-at }
 
-members-place : (file ends : List ℕ) (p : Members) (at : ℕ) → MembersWritten file ends p at →
+pub members-place : (file ends : List ℕ) (p : Members) (at : ℕ) → MembersWritten file ends p at →
     MembersAt file ends (length p) at
 unfolding MembersAt
 members-place file ends [] at m = tt

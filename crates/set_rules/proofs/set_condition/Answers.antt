@@ -5,11 +5,11 @@ use native.Mathlib.Omega.{arith}
 use Rattle.rule_laws.proofs.Trying.{step-head, can-try, last-rule}
 use Rattle.set_rules.proofs.set_condition.Goals as goal
 
-pub offset_bounds-w-at : goal.offset_bounds-w-at
-offset_bounds-w-at c = omega (arith, step-head c.requires)
+pub offset_bounds-file-at : goal.offset_bounds-file-at
+offset_bounds-file-at c = omega (arith, step-head c.requires)
 
-pub bounds-w-at : goal.bounds-w-at
-bounds-w-at c = step-head c.requires
+pub bounds-file-at : goal.bounds-file-at
+bounds-file-at c = step-head c.requires
 
 pub rule_13-requires : goal.rule_13-requires
 rule_13-requires c = can-try c.requires (omega arith)

@@ -1,11 +1,11 @@
--- `set_rules::empty::each_implies_false` meets its contract. The invariant: what the members that are
--- left come to, all come to.
+-- `set_rules::empty::each_implies_false` meets its contract. The invariant: what the members that are left come to, all come to.
 -- Assumes nothing.
+use Rattle.sets.specs.Members.{places_left}
 use Rattle.set_rules.proofs.EmptySets.{Remains}
 use Rattle.set_rules.proofs.empty.each_implies_false.Given as goal
 
-abbrev pub invariant-loop-n : goal.invariant-loop-n
-invariant-loop-n l = Remains l.w l.ends l.limit l.initial.n l.initial.i l.n l.i
-
-abbrev pub decreases-loop-n : goal.decreases-loop-n
-decreases-loop-n l = l.n
+abbrev pub invariant-loop-i : goal.invariant-loop-i
+invariant-loop-i l =
+    goal.iterator-loop-i.can_next l.i-iterator
+    × goal.iterator-loop-i.is_finite l.i-iterator
+    × Remains l.file.words.now l.file.ends.now l.file.context.comparisons l.k l.from (places_left l.i-iterator)

@@ -9,4 +9,4 @@ is_within-requires c = can-include c.requires
 pub returns : goal.returns
 returns c =
     within-rule c.requires c.is_within.ensures
-    c.condition.ensures
+    c.ensure.ensures

@@ -1,6 +1,8 @@
 -- `set_rules::operand::rule_19` meets its contract.
 -- Assumes nothing.
 use native.Mathlib.Omega.{arith}
+use Rattle.std.proofs.lemmas.Result.{err_from_is_err_and}
+use Rattle.goals.proofs.Ensured.{is-equal, exits-unequal}
 use Rattle.set_unions.proofs.Goal.{right-in, low-right}
 use Rattle.set_rules.proofs.Operands.{can-split, apart-fails, split-rule}
 use Rattle.set_rules.proofs.operand.rule_19.Goals as goal
@@ -8,16 +10,18 @@ use Rattle.set_rules.proofs.operand.rule_19.Goals as goal
 pub count-requires : goal.count-requires
 count-requires c = right-in c.requires
 
-pub returns-then-count-ne1 : goal.returns-then-count-ne1
-returns-then-count-ne1 c = apart-fails c.requires c.count.ensures c.if-count-ne1.true
+pub returns-in_err-ensure : goal.returns-in_err-ensure
+returns-in_err-ensure c =
+    exits-unequal (err_from_is_err_and _ c.from_residual.ensures.1) c.in_err-ensure.ensures
+    (apart-fails c.requires c.count.ensures)
 
 pub overflow_add-f : goal.overflow_add-f
 overflow_add-f c = let i = low-right c.requires in omega arith
 
 pub are_operands-requires : goal.are_operands-requires
-are_operands-requires c = can-split c.requires c.count.ensures c.if-count-ne1.false c.end_or_zero-e.ensures
+are_operands-requires c = can-split c.requires c.count.ensures (is-equal c.in_ok-ensure.ensures) c.end_or_zero-e.ensures
 
 pub returns : goal.returns
 returns c =
-    split-rule c.requires c.count.ensures c.if-count-ne1.false c.end_or_zero-e.ensures c.are_operands.ensures
-    c.condition.ensures
+    split-rule c.requires c.count.ensures (is-equal c.in_ok-ensure.ensures) c.end_or_zero-e.ensures c.are_operands.ensures
+    c.ensure-2.ensures

@@ -16,4 +16,4 @@ is_rest_union-requires c =
 pub returns : goal.returns
 returns c =
     rest-rule c.requires c.end_or_zero-s2.ensures c.end_or_zero-t.ensures c.is_rest_union.ensures
-    c.condition.ensures
+    c.ensure.ensures
