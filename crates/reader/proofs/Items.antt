@@ -1,30 +1,34 @@
 -- Evidence is read by the table of rules, item by item.
 -- Assumes nothing.
 --     item-walk, parts-walk                              the layout's readers of an item and of items, as walks
---     Reached                                            where the loop over a row's digits stands
+--     Reached                                            where the loop over a row stands
 --     items-start, items-next, items-stop, items-done    as the loop has them
 --     rule-none, rule-some                               the word that is due has no rule; it has one
 use mathlib.Core.Path.{◌≡◌, refl, sym, ◌∙◌, ap}
-use mathlib.Core.List.{List, [], ◌∷◌}
-use mathlib.Core.Option.{Option}
-use Prim.Native.Nat.{ℕ, ◌-◌, ◌/◌, ◌%◌, ◌≤◌}
+use mathlib.Core.List.{List, ◌∷◌}
+use mathlib.Core.Option.{Option, none, some}
+use Prim.Native.Nat.{ℕ, ◌+◌, ◌-◌, ◌<◌, ◌≤◌}
 use native.Mathlib.Omega.{arith}
+use native.Mathlib.Numerals.{add-one}
+use lib.ListN.{length, get_or, drop, drop_of_length-le}
+use lib.Seq.{drop-cons}
 use Rattle.std.specs.Prelude.{Ok, Err}
-use Rattle.std.specs.Result.{IsErrAnd}
 use Rattle.rules.specs.Context.{Context}
 use Rattle.rules.specs.Evidence as tree
 use Rattle.rules.specs.Evidence.{Judgement, Item, assertion_item, command_item, members_item, child_item, Row, ◌&◌}
 use Rattle.layout.specs.Bytes.{word_count}
 use Rattle.layout.specs.Reading.{on_option}
 use Rattle.layout.specs.ReadEvidence.{item_reader, parts_reader, evidence}
-use Rattle.words.specs.Rows.{item_of, packed_items, rule_due, row_due}
-use Rattle.words.proofs.RowItems.{item-first, digit-rest, no_item, row-none, row-some}
+use Rattle.words.specs.Rows.{item_meant, items_meant, rule_due, row_due}
+use Rattle.words.specs.declared.rows.Item as code
+use Rattle.words.specs.declared.rows.Item.TheVariants.{Assertion}
+use Rattle.words.proofs.RowItems.{row-none, row-some}
 use Rattle.context.specs.Contexts.{refusal}
 use Rattle.context.specs.declared.Refusal.{Refusal}
 use Rattle.reader.specs.Walk.{Walk, walk_of, onward, due_of}
-use Rattle.reader.specs.Items.{item_walk, ItemsRead}
+use Rattle.reader.specs.Items.{item_walk, items_walk}
 use Rattle.reader.specs.declared.FirstWord.{FirstWord}
-use Rattle.reader.proofs.Walks.{onto, alone, exit, on, off, rule_reader, evidence-goes, arm, none-arm}
+use Rattle.reader.proofs.Walks.{onto, alone, on, off, rule_reader, evidence-goes, arm, none-arm}
 use Rattle.reader.proofs.Forward.{item-left}
 
 module _ (Γ : Context) (file : List ℕ) (d : ℕ) where
@@ -34,78 +38,56 @@ module _ (Γ : Context) (file : List ℕ) (d : ℕ) where
   item-walk members_item p = alone tree.members _ p
   item-walk (child_item j) p = alone tree.child _ p
 
-  -- the items l, from p on
-  abbrev items_walk : List Item → ℕ → Walk
-  items_walk l p = walk_of (parts_reader Γ file d (evidence Γ file d) l p)
-
   parts-walk : (x : Item) (l : List Item) (p : ℕ) →
-      onward (item_walk Γ file d x p) (λ q. items_walk l q) ≡ items_walk (x ∷ l) p
+      onward (item_walk Γ file d x p) (λ q. items_walk Γ file d l q) ≡ items_walk Γ file d (x ∷ l) p
   parts-walk x l p = onto _ _ _ refl (item-walk x p ∙ alone ◌&◌ _ p)
 
-  -- the first digit of a row is its first item, and the others are the rest
-  row_step : {rest : ℕ} (p : ℕ) (m : List Item) → rest ≡ packed_items m → (rest ≡ 0 → ⊥) →
-      (l : List Item) × (rest / 8 ≡ packed_items l)
-      × (onward (item_walk Γ file d (item_of (rest % 8)) p) (λ q. items_walk l q) ≡ items_walk m p)
-  row_step p [] e h = absurd (h e)
-  row_step p (x ∷ m) e h = (
-    m,
-    ap (λ n. n / 8) e ∙ digit-rest x m,
-    ap (λ (y : Item). onward (item_walk Γ file d y p) (λ q. items_walk m q)) (ap (λ n. item_of (n % 8)) e ∙ item-first x m)
-        ∙ parts-walk x m p,
-  )
-
-  -- the items of `row` from `at` on are read up to p, and the digits of `rest` are left
-  pub record Reached (row at rest p : ℕ) : Type 0 where
+  -- i of the items `row` from `at` on are read, up to p
+  pub record Reached (row : List code.Item) (at i p : ℕ) : Type 0 where
     pub left : word_count file - p ≤ word_count file - at
-    pub items : (l : List Item) → row ≡ packed_items l →
-        (m : List Item) × (rest ≡ packed_items m) × (items_walk m p ≡ items_walk l at)
+    pub items : items_walk Γ file d (items_meant (drop i row)) p ≡ items_walk Γ file d (items_meant row) at
 
-  pub items-start : (row at : ℕ) → Reached row at row at
-  items-start row at = record { left = omega arith; items = λ l e. (l, e, refl) }
+  pub items-start : (row : List code.Item) (at : ℕ) → Reached row at 0 at
+  items-start row at = record { left = omega arith; items = refl }
 
-  module _ {row at rest p : ℕ} (h : Reached row at rest p) where
-    pub items-done : rest ≡ 0 → ItemsRead Γ file d row at (Ok p)
-    items-done z = record {
-      items = λ l e.
-          let m = h.items l e in
-          ap (λ k. items_walk k p) (sym (no_item m.0 (sym m.1 ∙ z))) ∙ m.2;
-    }
+  module _ {row : List code.Item} {at i p : ℕ} (h : Reached row at i p) where
+    pub items-done : length row ≤ i → Ok p ≡ items_walk Γ file d (items_meant row) at
+    items-done z = ap (λ l. items_walk Γ file d (items_meant l) p) (sym (drop_of_length-le row z)) ∙ h.items
 
-    -- what was returned for the first item
-    module _ (n : rest ≡ 0 → ⊥) where
-      pub items-stop : {x : Refusal} {r : Walk} → Err x ≡ item_walk Γ file d (item_of (rest % 8)) p → IsErrAnd r (λ y. y ≡ x) →
-          ItemsRead Γ file d row at r
-      items-stop e f = record {
-        items = λ l k.
-            let m = h.items l k in
-            let s = row_step p m.0 m.1 n in
-            exit f (off (λ q. items_walk s.0 q) e ∙ s.2 ∙ m.2);
-      }
+    -- what was returned for the item at i
+    module _ (n : i < length row) where
+      abbrev x : code.Item
+      x = get_or row i Assertion
 
-      pub items-next : {q : ℕ} → Ok q ≡ item_walk Γ file d (item_of (rest % 8)) p → Reached row at (rest / 8) q
+      step : onward (item_walk Γ file d (item_meant x) p) (λ q. items_walk Γ file d (items_meant (drop (i + 1) row)) q)
+          ≡ items_walk Γ file d (items_meant row) at
+      step =
+          let e : drop i row ≡ x ∷ drop (i + 1) row = rw add-one (drop-cons row i Assertion n) in
+          parts-walk (item_meant x) (items_meant (drop (i + 1) row)) p
+          ∙ ap (λ l. items_walk Γ file d (items_meant l) p) (sym e) ∙ h.items
+
+      pub items-stop : {y : Refusal} → Err y ≡ item_walk Γ file d (item_meant x) p → Err y ≡ items_walk Γ file d (items_meant row) at
+      items-stop e = off (λ q. items_walk Γ file d (items_meant (drop (i + 1) row)) q) e ∙ step
+
+      pub items-next : {q : ℕ} → Ok q ≡ item_walk Γ file d (item_meant x) p → Reached row at (i + 1) q
       items-next {q} e = record {
-        left = let i = item-left file d p Γ (item_of (rest % 8)) e in omega (arith, h.left);
-        items = λ l k.
-            let m = h.items l k in
-            let s = row_step p m.0 m.1 n in (
-              s.0,
-              s.1,
-              on (λ q. items_walk s.0 q) e refl ∙ s.2 ∙ m.2,
-            );
+        left = let l = item-left file d p Γ (item_meant x) e in omega (arith, h.left);
+        items = on (λ q. items_walk Γ file d (items_meant (drop (i + 1) row)) q) e refl ∙ step;
       }
 
 -- ---- as the code has them: f is the word that is due, `row` its row
-module _ (Γ : Context) (file : List ℕ) (d : ℕ) (j : Judgement) (at : ℕ) {f : FirstWord} (due : Ok f ≡ due_of file d at)
-    {row : ℕ} (e : row ≡ row_due j f.kind f.payload) where
-  pub rule-none : row ≡ 7 → Err (refusal 5 at) ≡ walk_of (evidence Γ file d j at)
+module _ (Γ : Context) (file : List ℕ) (d : ℕ) (j : Judgement) (at : ℕ) {f : FirstWord} (due : Ok f ≡ due_of file d at) where
+  pub rule-none : none ≡ row_due j f.kind f.payload → Err (refusal 5 at) ≡ walk_of (evidence Γ file d j at)
   unfolding row_due
   rule-none h =
       none-arm (evidence-goes file Γ d j at) due refl
-      (ap (λ (o : Option (Row j)). on_option o (rule_reader file Γ j at f.below)) (row-none (rule_due j f.kind f.payload) (sym e ∙ h)))
+      (ap (λ (o : Option (Row j)). on_option o (rule_reader file Γ j at f.below)) (row-none (rule_due j f.kind f.payload) h))
 
-  pub rule-some : {x : Walk} → (row ≡ 7 → ⊥) → ItemsRead Γ file f.below row f.next x → x ≡ walk_of (evidence Γ file d j at)
+  pub rule-some : {l : List Item} {x : Walk} → some l ≡ row_due j f.kind f.payload → x ≡ items_walk Γ file f.below l f.next →
+      x ≡ walk_of (evidence Γ file d j at)
   unfolding row_due
-  rule-some h i =
-      let s = row-some (rule_due j f.kind f.payload) (λ z. h (e ∙ z)) in
+  rule-some {l} e h =
+      let s = row-some (rule_due j f.kind f.payload) e in
       arm (evidence-goes file Γ d j at) due refl s.1
-      (i.items s.0.after (e ∙ s.2) ∙ alone _ (parts_reader Γ file f.below (evidence Γ file f.below) s.0.after) f.next)
+      (h ∙ ap (λ m. items_walk Γ file f.below m f.next) s.2
+      ∙ alone _ (parts_reader Γ file f.below (evidence Γ file f.below) s.0.after) f.next)

@@ -1,14 +1,13 @@
 -- What stands after an evidence word, item by item (document 01, "Rules").
 -- Working: `item-walk` and `parts-walk` of proofs/Items say that the layout's readers walk so. Assumes nothing.
 --     item_walk     an item
---     ItemsRead    the items of a row, one after the other
-use Rattle.std.specs.Prelude.{◌≡◌, List, ℕ}
+--     items_walk    the items of a row, one after the other
+use Rattle.std.specs.Prelude.{List, ℕ}
 use Rattle.language.specs.Syntax.{Boolean}
 use Rattle.rules.specs.Context.{Context}
 use Rattle.rules.specs.Evidence.{Item, assertion_item, command_item, members_item, child_item}
 use Rattle.layout.specs.Read.{expression, command, set}
 use Rattle.layout.specs.ReadEvidence.{parts_reader, evidence}
-use Rattle.words.specs.Rows.{packed_items}
 use Rattle.reader.specs.Walk.{Walk, walk_of}
 
 abbrev pub item_walk : Context → List ℕ → ℕ → Item → ℕ → Walk
@@ -17,5 +16,5 @@ item_walk Γ file d command_item p = walk_of (command Γ file d p)
 item_walk Γ file d members_item p = walk_of (set Γ file d p)
 item_walk Γ file d (child_item j) p = walk_of (evidence Γ file d j p)
 
-pub record ItemsRead (Γ : Context) (file : List ℕ) (d row at : ℕ) (r : Walk) : Type 0 where
-  pub items : (l : List Item) → row ≡ packed_items l → r ≡ walk_of (parts_reader Γ file d (evidence Γ file d) l at)
+abbrev pub items_walk : Context → List ℕ → ℕ → List Item → ℕ → Walk
+items_walk Γ file d l p = walk_of (parts_reader Γ file d (evidence Γ file d) l p)

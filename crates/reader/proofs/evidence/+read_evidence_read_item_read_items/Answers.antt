@@ -1,6 +1,6 @@
 -- Reading evidence, its items and an item meet their contracts: evidence goes by the row of the word that is due, and the
--- loop by the row's digits. The words left and the levels left both fall: the measure is their sum, three times; one more for
--- an item, two more for all items. In the loop, what is left of the row falls.
+-- loop by the row's items. The words left and the levels left both fall: the measure is their sum, three times; one more for
+-- an item, two more for all items.
 -- Assumes nothing.
 use native.Mathlib.Omega.{arith}
 use mathlib.Core.Path.{◌∙◌}
@@ -8,7 +8,7 @@ use Rattle.words.specs.Rows.{judgement_meant}
 use Rattle.context.specs.Contexts.{context_of}
 use Rattle.reader.proofs.Walks.{room, evidence-goes, exit, stop}
 use Rattle.reader.proofs.Contexts.{command-walk}
-use Rattle.reader.proofs.Items.{items-start, items-next, items-stop, items-done, rule-none, rule-some}
+use Rattle.reader.proofs.Items.{items-next, items-stop, items-done, rule-none, rule-some}
 use Rattle.reader.proofs.evidence.+read_evidence_read_item_read_items.Goals as goal
 
 pub read_evidence-read_items-requires : goal.read_evidence-read_items-requires
@@ -20,31 +20,26 @@ read_evidence-returns-in_err-first t c =
     exit c.from_residual.ensures.1
     (stop (evidence-goes a.w.now (context_of a.context) a.left (judgement_meant a.judgement) a.at) c.in_err-first.ensures)
 
-pub read_evidence-returns-then-row-eq-NO_RULE : goal.read_evidence-returns-then-row-eq-NO_RULE
-read_evidence-returns-then-row-eq-NO_RULE t c =
+pub read_evidence-returns-in_default : goal.read_evidence-returns-in_default
+read_evidence-returns-in_default t c =
     let a = c.args in
-    rule-none (context_of a.context) a.w.now a.left (judgement_meant a.judgement) a.at
-    c.in_ok-first.ensures c.evidence_row-row.ensures c.if-row-eq-NO_RULE.true
+    rule-none (context_of a.context) a.w.now a.left (judgement_meant a.judgement) a.at c.in_ok-first.ensures c.in_default.ensures
 
 pub read_evidence-returns : goal.read_evidence-returns
 read_evidence-returns t c =
     let a = c.args in
     rule-some (context_of a.context) a.w.now a.left (judgement_meant a.judgement) a.at
-    c.in_ok-first.ensures c.evidence_row-row.ensures
-    c.if-row-eq-NO_RULE.false c.read_items.ensures
+    c.in_ok-first.ensures c.in-Some.ensures c.read_items.ensures
 
-pub read_item-returns-in-2 : goal.read_item-returns-in-2
-read_item-returns-in-2 t c = rw c.in-2.is (c.read_command.ensures ∙ command-walk _ _ _ _)
-
-pub read_items-loop-rest-init : goal.read_items-loop-rest-init
-read_items-loop-rest-init t c = items-start _ _ _ _ _
+pub read_item-returns-in-Command : goal.read_item-returns-in-Command
+read_item-returns-in-Command t c = rw c.in-Command.is (c.read_command.ensures ∙ command-walk _ _ _ _)
 
 pub read_items-returns-in_err-p : goal.read_items-returns-in_err-p
 read_items-returns-in_err-p t c =
-    items-stop _ _ _ c.loop-rest.invariant c.loop-rest-test.true c.in_err-p.ensures c.from_residual.ensures.1
+    exit c.from_residual.ensures.1 (items-stop _ _ _ c.loop-item.invariant c.loop-item-test.true c.in_err-p.ensures)
 
-pub read_items-loop-rest-preserved : goal.read_items-loop-rest-preserved
-read_items-loop-rest-preserved t c = items-next _ _ _ c.loop-rest.invariant c.loop-rest-test.true c.in_ok-p.ensures
+pub read_items-loop-item-preserved : goal.read_items-loop-item-preserved
+read_items-loop-item-preserved t c = items-next _ _ _ c.loop-item.invariant c.loop-item-test.true c.in_ok-p.ensures
 
 pub read_items-returns : goal.read_items-returns
-read_items-returns t c = items-done _ _ _ c.loop-rest.invariant c.loop-rest-test.false
+read_items-returns t c = items-done _ _ _ c.loop-item.invariant c.loop-item-test.false

@@ -1,6 +1,6 @@
 -- Reading evidence, its items and an item meet their contracts: evidence goes by the row of the word that is due, and the
 -- loop by the row's digits. The words left and the levels left both fall: the measure is their sum, three times; one more for
--- an item, two more for all items. In the loop, what is left of the row falls.
+-- an item, two more for all items.
 -- Assumes nothing.
 use Rattle.context.specs.Contexts.{context_of}
 use Rattle.layout.specs.Bytes.{word_count}
@@ -17,8 +17,5 @@ decreases-read_item l = 3 * (word_count l.w.now - l.at + l.left) + 1
 abbrev pub decreases-read_items : goal.decreases-read_items
 decreases-read_items l = 3 * (word_count l.w.now - l.at + l.left) + 2
 
-abbrev pub invariant-read_items-loop-rest : goal.invariant-read_items-loop-rest
-invariant-read_items-loop-rest l = Reached (context_of l.context) l.w l.left l.row l.at l.rest l.p
-
-abbrev pub decreases-read_items-loop-rest : goal.decreases-read_items-loop-rest
-decreases-read_items-loop-rest l = l.rest
+abbrev pub invariant-read_items-loop-item : goal.invariant-read_items-loop-item
+invariant-read_items-loop-item l = Reached (context_of l.context) l.w l.left l.row l.at l.item-index l.p
