@@ -1,10 +1,8 @@
 -- Masks stored from the last word to the first.
 -- Assumes nothing.
 --     Filling                          the masks of the words from a place on are stored
---     filling_none, filling_more, filling_all
---                                      before the first turn; after a turn; after the last
---     can-mask                         what a turn asks for
-use mathlib.Core.Path.{◌≡◌, refl, sym, ap, subst, ◌∙◌}
+--     filling_more                     after a turn
+use mathlib.Core.Path.{◌≡◌, sym, ap, subst, ◌∙◌}
 use mathlib.Core.List.{List}
 use mathlib.Core.Logic.{inl, inr}
 use Prim.Native.Nat.{ℕ, ◌-◌, ◌<◌, ◌≤◌}
@@ -12,7 +10,7 @@ use native.Mathlib.Omega.{arith}
 use native.Mathlib.Nat.{eq-or-lt_of_le}
 use lib.ListN.{length, get_or, set, length-set}
 use lib.Seq.{get_or-set_same, get_or-set_other}
-use Rattle.masks.specs.Filled.{RangeMarks, CanMask, CanStore, Filled}
+use Rattle.masks.specs.Filled.{RangeMarks, CanStore}
 
 module _ (file ends before : List ℕ) where
   pub record Filling (masks : List ℕ) (i : ℕ) : Type 0 where
@@ -22,32 +20,7 @@ module _ (file ends before : List ℕ) where
     pub small : (at : ℕ) → i ≤ at → at < length file → get_or masks at 0 < 18446744073709551616
     pub kept : (at : ℕ) → length file ≤ at → get_or masks at 0 ≡ get_or before at 0
 
-  pub filling_none : Filling before (length file)
-  filling_none = record {
-    inside = omega arith;
-    same_length = refl;
-    marks = λ at h k. absurd (omega arith);
-    small = λ at h k. absurd (omega arith);
-    kept = λ at h. refl;
-  }
-
-  pub filling_all : {masks : List ℕ} {i : ℕ} → i ≤ 0 → Filling masks i → Filled file ends before masks
-  filling_all h f = record {
-    same_length = f.same_length;
-    marks = λ at l. f.marks at (omega arith) l;
-    small = λ at l. f.small at (omega arith) l;
-    kept = f.kept;
-  }
-
   module _ (can : CanStore file ends before) {masks : List ℕ} {i : ℕ} (more : 0 < i) (f : Filling masks i) where
-    pub can-mask : CanMask file ends masks (i - 1)
-    can-mask = record {
-      listed = can.listed;
-      inside = omega (arith, f.inside);
-      room = omega (arith, can.room, f.same_length);
-      later = λ j l h. f.marks j (omega arith) h;
-    }
-
     -- at the place of this turn, and after it
     here-or_later : (P : ℕ → Type 0) {v : ℕ} → P v → (at : ℕ) → i - 1 ≤ at → at < length file →
         (i ≤ at → P (get_or masks at 0)) → P (get_or (set masks (i - 1) v) at 0)

@@ -55,9 +55,9 @@ module _ (file ends : List ℕ) where
         go : {k p : ℕ} → end_at ends at ≡ at + k → k ≡ suc p → suc at + p ≡ end_at ends at
         go h i = omega arith
 
-    pub joining_more : {left next mask v : ℕ} → 0 < left → next < length file → Joining at left next mask → v ≡ end_at ends next →
-        Joining at (left - 1) v (bit_or mask (get_or masks next 0))
-    joining_more {left} {next} {mask} {v} l i j e =
+    pub joining_more : {n k next mask v : ℕ} → k < n → next < length file → Joining at (n - k) next mask → v ≡ end_at ends next →
+        Joining at (n - (k + 1)) v (bit_or mask (get_or masks next 0))
+    joining_more {n} {k} {next} {mask} {v} l i j e =
         let p = part_end can.listed i in
         let o = j.onward in
         let q : next ≡ at + 1 + (next - (at + 1)) = omega arith in
@@ -70,7 +70,7 @@ module _ (file ends : List ℕ) where
               subst (λ k. Marks (called_mask file ends) file k (at + 1) (bit_or mask (get_or masks next 0))) r
               (marks-join file j.marks
               (subst (λ s. Marks (called_mask file ends) file (end_at ends next - next) s (get_or masks next 0)) q m));
-          rest = ap (follow ends (length file) (left - 1)) e ∙ sym (follow-on ends (length file) left next l i) ∙ j.rest;
+          rest = ap (follow ends (length file) (n - (k + 1))) e ∙ sym (follow-on ends (length file) n k next l i) ∙ j.rest;
         }
 
   pub joining_stop : {at left next mask : ℕ} → length file ≤ next → Joining at left next mask → RangeMarks file ends (at + 1) at mask

@@ -1,5 +1,4 @@
 -- What each command of a file modifies, stored.
---     Asked      a command's mask
 --     Joined     the masks of a word's parts together
 --     Filling    masks stored from the last word to the first
 --     Numbers    a number by its bits
@@ -9,7 +8,6 @@
 --     FewNumbers    refusal 17
 --     LentNumbers    what is claimed of the lent numbers
 --     Raised     the masks under raised limits
-pub mod Asked
 pub mod Joined
 pub mod Filling
 pub mod Numbers

@@ -10,6 +10,7 @@ ghost use Rattle.layout.specs.Bytes.{payloads};
 ghost use Rattle.masks.specs.Filled.{OtherKind, RangeMarks, CanMask, CanStore, Filled, CanAsk};
 
 use ends::mask::mark;
+use ends::procedures::masks_at;
 use ends::{end_at, parts};
 use scan::range::modified;
 use words::kinds::{CALL, FOR, KIND, SKIP};
@@ -19,17 +20,14 @@ fn parts_mask(w: &[u32], ends: &[u32], masks: &[u64], at: usize) -> u64
     requires { CanMask w.now ends.now masks.now «at» }
     ensures { RangeMarks w.now ends.now («at» + 1) «at» result }
 {
-    let n = w.len();
-    let mut left = parts(w[at]);
     let mut next = at + 1;
-    let mut mask: u64 = 0;
-    while 0 < left {
-        if n <= next {
+    let mut mask = 0;
+    for _ in 0..parts(w[at]) {
+        if w.len() <= next {
             return mask;
         }
-        mask = mask | masks[next];
+        mask |= masks[next];
         next = end_at(ends, next);
-        left -= 1;
     }
     mask
 }
@@ -38,14 +36,7 @@ fn parts_mask(w: &[u32], ends: &[u32], masks: &[u64], at: usize) -> u64
 fn starts_command(x: u32) -> bool
     ensures { result ≡ false → OtherKind (x / payloads) }
 {
-    let kind = x / KIND;
-    if kind < SKIP {
-        return false;
-    }
-    if kind <= FOR {
-        return true;
-    }
-    kind == CALL
+    matches!(x / KIND, SKIP..=FOR | CALL)
 }
 
 // The masks of all words, from the last to the first. What stands behind them is kept.
@@ -53,11 +44,8 @@ pub fn fill(w: &[u32], ends: &[u32], masks: &mut [u64])
     requires { CanStore w.now ends.now masks.old }
     ensures { Filled w.now ends.now masks.old masks.new }
 {
-    let n = w.len();
-    let procedures = n + 2 * (n / 32) + 17;
-    let mut i = n;
-    while 0 < i {
-        i -= 1;
+    let procedures = masks_at(w);
+    for i in (0..w.len()).rev() {
         if !starts_command(w[i]) {
             masks[i] = 0;
             continue;
@@ -72,9 +60,8 @@ pub fn modified_at(w: &[u32], ends: &[u32], masks: &[u64], c: usize) -> u64
     requires { CanAsk w.now ends.now masks.now c }
     ensures { Modified w.now ends.now c (end_at ends.now c) result }
 {
-    if c < masks.len() {
-        return masks[c];
+    match masks.get(c) {
+        Some(mask) => *mask,
+        None => modified(w, ends, c, end_at(ends, c)),
     }
-    let past = end_at(ends, c);
-    modified(w, ends, c, past)
 }
