@@ -1,9 +1,9 @@
 -- A scan that passes words until it comes to some of a kind.
 -- Assumes nothing.
---     passed_none, passed-more, passed-four, passed-eight
---                     no words; those of one scan and the next; four; eight
+--     passed_none, passed-more, passed-next
+--                     no words; those of one scan and the next; one more that was tested
 --     first-passed    a scan for the first place that passes a test goes past them, where only words of the kind pass it
-use mathlib.Core.Path.{◌≡◌, refl, sym, ap, subst, ◌∙◌}
+use mathlib.Core.Path.{◌≡◌, refl, sym, ap, ◌∙◌}
 use mathlib.Core.Bool.{Bool, true, false, ◌||◌}
 use mathlib.Core.List.{List}
 use mathlib.Core.Logic.{inl, inr}
@@ -41,27 +41,10 @@ module _ {file : List ℕ} {kind : ℕ} where
     none = λ i l m k. let same : i ≡ at = omega arith in eqb-false (kind_at file at) kind e (ap (kind_at file) (sym same) ∙ k);
   }
 
-  pub passed-four : (at : ℕ) → at + 4 ≤ length file →
-      (((eqb (kind_at file at) kind || eqb (kind_at file (at + 1)) kind) || eqb (kind_at file (at + 2)) kind)
-      || eqb (kind_at file (at + 3)) kind) ≡ false →
-      Passed file kind at (at + 4)
-  passed-four at h e =
-      let a = neither _ _ e in
-      let b = neither _ _ a.0 in
-      let c = neither _ _ b.0 in
-      let one : (i j : ℕ) → i + 1 ≡ j → i < length file → eqb (kind_at file i) kind ≡ false → Passed file kind i j =
-      λ i j s l k. subst (Passed file kind i) s (passed-one l k) in
-      passed-more (one at (at + 1) refl (omega arith) c.0)
-      (passed-more (one (at + 1) (at + 2) (omega arith) (omega arith) c.1)
-      (passed-more (one (at + 2) (at + 3) (omega arith) (omega arith) b.1)
-      (one (at + 3) (at + 4) (omega arith) (omega arith) a.1)))
-
-  pub passed-eight : (at : ℕ) {a b : Bool} → (a ≡ false → Passed file kind at (at + 4)) →
-      (b ≡ false → Passed file kind (at + 4) (at + 4 + 4)) → (a || b) ≡ false → Passed file kind at (at + 8)
-  passed-eight at f g e =
-      let s : at + 4 + 4 ≡ at + 8 = omega arith in
-      let h = neither _ _ e in
-      subst (Passed file kind at) s (passed-more (f h.0) (g h.1))
+  -- past the words from `at` on, and one more
+  pub passed-next : {at p : ℕ} {b : Bool} → p < length file → (b ≡ false → Passed file kind at p) →
+      (b || eqb (kind_at file p) kind) ≡ false → Passed file kind at (p + 1)
+  passed-next h f e = let k = neither _ _ e in passed-more (f k.0) (passed-one h k.1)
 
 -- no word of another kind passes the test
 module _ (file : List ℕ) {kind : ℕ} (t : ℕ → Bool) (other : (i : ℕ) → (kind_at file i ≡ kind → ⊥) → t i ≡ false) where

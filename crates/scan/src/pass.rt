@@ -4,26 +4,16 @@ ghost use Rattle.scan.specs.Pass.{Passed};
 
 use words::kinds::KIND;
 
-// Whether one of the four words from a place on has the kind. No test stands between them, so that they can be tested at once.
-fn kind_in_four(w: &[u32], at: usize, kind: u32) -> bool
-    requires { «at» + 4 ≤ length w.now }
-    ensures { result ≡ false → Passed w.now kind «at» («at» + 4) }
-{
-    let first = w[at] / KIND == kind;
-    let second = w[at + 1] / KIND == kind;
-    let third = w[at + 2] / KIND == kind;
-    let fourth = w[at + 3] / KIND == kind;
-    first | second | third | fourth
-}
-
-// The same of eight.
+// Whether one of the eight words from a place on has the kind. The loop does not stop at the first, so that all can be tested at once.
 fn kind_in_eight(w: &[u32], at: usize, kind: u32) -> bool
     requires { «at» + 8 ≤ length w.now }
     ensures { result ≡ false → Passed w.now kind «at» («at» + 8) }
 {
-    let first = kind_in_four(w, at, kind);
-    let second = kind_in_four(w, at + 4, kind);
-    first | second
+    let mut found = false;
+    for i in at..at + 8 {
+        found |= w[i] / KIND == kind;
+    }
+    found
 }
 
 // A place from the given one on, before which no word has the kind: where eight words with such a one begin, or where fewer than eight are
