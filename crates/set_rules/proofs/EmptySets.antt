@@ -8,23 +8,21 @@
 use mathlib.Core.Path.{◌≡◌, refl, sym, ap, ap₂, subst, ◌∙◌}
 use mathlib.Core.Bool.{Bool, false}
 use mathlib.Core.List.{List, [], ◌∷◌}
-use Prim.Native.Nat.{ℕ, ◌+◌, ◌-◌, ◌<◌, ◌≤◌}
+use Prim.Native.Nat.{ℕ, ◌+◌, ◌≤◌}
 use native.Mathlib.Omega.{arith}
 use lib.ListN.{length}
-use Rattle.language.specs.Syntax.{Boolean, Expr, truth}
+use Rattle.language.specs.Syntax.{truth}
 use Rattle.rules.specs.Assertion.{Member, Members}
 use Rattle.rules.specs.Context.{Context}
 use Rattle.rules.specs.Condition.{Result, passes, ◌then◌, each_implies_false, on_empty, on_one}
 use Rattle.rules.specs.Evidence.{set14, set15}
 use Rattle.rules.specs.Judge.{misfit, childless, set_rule}
-use Rattle.layout.specs.EvidenceWords.{expression_part}
 use Rattle.layout.specs.Nodes.{expression_node}
-use Rattle.layout.specs.Standing.{PartStands}
 use Rattle.ends.specs.Ends.{EndsOf}
 use Rattle.scan.specs.Place.{StartsAt, ClosedAt}
 use Rattle.scan.proofs.Places.{node_starts}
-use Rattle.ends.specs.Places.{end_at, WrittenAt}
-use Rattle.implication.specs.Sides.{Condition, result_of, CanImply, Implied}
+use Rattle.ends.specs.Places.{end_at}
+use Rattle.implication.specs.Sides.{Condition, result_of, Implied}
 use Rattle.std.specs.Prelude.{Ok, Err}
 use Rattle.implication.specs.declared.Failure.{Failure}
 use Rattle.implication.specs.declared.Failure.TheVariants.{Fails, TooLarge}

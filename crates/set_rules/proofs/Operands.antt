@@ -1,6 +1,5 @@
 -- The operands of a written expression, by the kind of its first word (document 01, rule 19 of sets).
 -- Assumes nothing.
---     two-known, two-unknown                    the kinds with two operands
 --     TwoAt, OneAt, Split, split                an expression's operands at their places
 --     can-one_same, can-two_same, first-known   what the code asks for
 --     one_split, two-split, none-split          the written set compared with φ ⇒ each operand
@@ -11,7 +10,6 @@ use mathlib.Core.List.{List, [], ◌∷◌}
 use mathlib.Core.Option.{Option, none, some}
 use Prim.Native.Nat.{ℕ, ◌+◌, ◌<◌}
 use native.Mathlib.Omega.{arith}
-use borrow.Author.Tests.{ne_eqb}
 use lib.ListN.{length}
 use Rattle.laws.proofs.Bools.{clash}
 use Rattle.language.specs.Syntax.{Sort, Boolean, Expr, constant, scalar, operation, select, compare, truth, and, or}
@@ -41,14 +39,6 @@ use Rattle.sets.specs.Piles.{count_at}
 use Rattle.set_laws.proofs.Sets.{has-set, is_one, not-one}
 use Rattle.set_rules.specs.Conditions.{has_two, CanOperands, OperandsAt}
 use Rattle.set_unions.proofs.Goal.{here, right-one, leaf-rule}
-
--- the kinds in code
-pub two-known : {k n : ℕ} → k ≡ n → has_two n ≡ true → true ≡ has_two k
-two-known e h = sym (ap has_two e ∙ h)
-
-pub two-unknown : (k : ℕ) → (k ≡ 3 → ⊥) → (k ≡ 8 → ⊥) → (k ≡ 10 → ⊥) → (k ≡ 11 → ⊥) → false ≡ has_two k
-unfolding has_two
-two-unknown k a b c d = rw (ne_eqb k 3 a, ne_eqb k 8 b, ne_eqb k 10 c, ne_eqb k 11 d)
 
 module _ (file ends : List ℕ) {k : Sort} (d : Expr k) (at : ℕ) where
   pub record TwoAt : Type 0 where

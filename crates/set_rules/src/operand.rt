@@ -12,16 +12,11 @@ use sets::set::same_set;
 use words::kinds::{AND, COMPARISON, KIND, NOT, OPERATOR, OR};
 
 // The kinds 3, 8, 10 and 11 have two operands that rule 19 may take.
+#[tactic(auto, unfolding(crate::specs::Conditions::has_two))]
 fn has_two(kind: u32) -> bool
     ensures { result ≡ has_two kind }
 {
-    match kind {
-        OPERATOR => true,
-        COMPARISON => true,
-        AND => true,
-        OR => true,
-        _ => false,
-    }
+    matches!(kind, OPERATOR | COMPARISON | AND | OR)
 }
 
 // Whether the written set at p is the same as φ ⇒ each operand of E, φ at f and E at e, of kind 3, 8, 10, 11

@@ -14,12 +14,7 @@ use sets::rule::same_union;
 use sets::set::same_set;
 
 // Rule 16. Carries S, S', T, T'; P same as S ∪ T, Q as S' ∪ T'.
-pub fn rule_16(
-    file: &File,
-    at: usize,
-    p: usize,
-    q: usize,
-) -> Result<(), Failure>
+pub fn rule_16(file: &File, at: usize, p: usize, q: usize) -> Result<(), Failure>
     requires { CanTryIn file.now 16 (Set p q) «at» }
     ensures { StepIn file.now (Set p q) «at» result }
 {
@@ -57,12 +52,7 @@ fn is_rest_union(w: &[u32], ends: &[u32], p: usize, t: usize, leave: usize, s: u
 }
 
 // Rule 17. Carries S, S', T; P same as (T without S') ∪ S.
-pub fn rule_17(
-    file: &File,
-    at: usize,
-    p: usize,
-    q: usize,
-) -> Result<(), Failure>
+pub fn rule_17(file: &File, at: usize, p: usize, q: usize) -> Result<(), Failure>
     requires { CanTryIn file.now 17 (Set p q) «at» }
     ensures { StepIn file.now (Set p q) «at» result }
 {
