@@ -13,7 +13,7 @@ use matching::cursor::Put;
 use matching::part::same_parts;
 
 // How a member of a written set is seen: as it stands; φ made φ ∧ B, or φ ∧ ¬B, B at a place; with words put for a word.
-#[derive(Clone, Copy)]
+#[derive(Clone, Copy, Debug, PartialEq, Eq)]
 pub enum View {
     AsWritten,
     Under(usize),
@@ -22,7 +22,7 @@ pub enum View {
 }
 
 // A member φ ⇒ E as the rules form it: φ and E, each compared in its own way.
-#[derive(Clone, Copy)]
+#[derive(Clone, Copy, Debug, PartialEq, Eq)]
 pub struct FormedMember {
     pub antecedent: Antecedent,
     pub consequent: Consequent,

@@ -4,7 +4,7 @@ ghost use Rattle.sets.specs.Members.{CanPassAll, places_left, StartsAt};
 use crate::item::past_member;
 
 // The places of so many members that stand one after the other.
-#[derive(Clone, Copy)]
+#[derive(Clone, Copy, Debug)]
 pub struct Members<'a> {
     ends: &'a [u32],
     left: usize,

@@ -11,7 +11,7 @@ use words::kinds::KIND;
 
 // A set that a rule makes: one member by the places of its antecedent and its consequent; the written set at a place, seen
 // as a view says; the written set at a place without the members of another.
-#[derive(Clone, Copy)]
+#[derive(Clone, Copy, Debug, PartialEq, Eq)]
 pub enum Pile {
     One(usize, usize),
     Set(usize, View),
