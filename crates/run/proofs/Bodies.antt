@@ -3,7 +3,7 @@
 --     command-end_is, part_end, moved-command         where a part ends; what stands behind a command
 --     placed                                          a part at a place by another name
 --     Later, Body                                     a part within the room, after what has it; a command
---     at_head, again                                  the command by its first word; with other progress
+--     at_head                                         the command by its first word
 --     assert-can, scalar-can, array-can, if_can, while-can    what is worked out
 --     sequence-first, sequence-second, if_then, if-else       what is run
 --     for-small, loop-next, loop-body, loop-counts, by_kind   of a loop
@@ -23,9 +23,8 @@ use Rattle.words.specs.declared.CommandWord.TheVariants.{Sequence, Assert, Assig
 use Rattle.words.specs.declared.CommandWord.TheVariants.{For, Call}
 use Rattle.heads.specs.Stands.{PartAt, command_at, resolved_part, start_place, Runnable, ExpressionStands, CommandStands}
 use Rattle.heads.proofs.Parts.{expression-inside, resolved-inside, unresolved, runnable, command-parts}
-use Rattle.evaluate.specs.Evaluated.{number}
 use Rattle.evaluate.proofs.Places.{end_is, moved}
-use Rattle.run.specs.Places.{CanRun, CanRunAt}
+use Rattle.run.specs.Places.{CanRunAt}
 use Rattle.run.specs.Turns.{loop_word, body_place, CountsIn}
 use Rattle.run.specs.declared.Loop.{Loop}
 use Rattle.run.specs.declared.Loop.TheVariants.{Test, Count}
@@ -79,116 +78,110 @@ module _ {w ends : List ℕ} {at : ℕ} where
       }
 
   -- with its first word v as the code has decoded it
-  pub at_head : {s : List ℕ} {v h : CommandWord} → CanRun w ends s at → v ≡ command_at w at → v ≡ h →
-      CanRunAt w ends s at h
-  at_head c e f = record { can = c; head = sym e ∙ f }
+  pub at_head : {v h : CommandWord} → CommandStands w ends at → v ≡ command_at w at → v ≡ h → CanRunAt w ends at h
+  at_head c e f = record { command = c; head = sym e ∙ f }
 
-  -- with other progress
-  pub again : {s s' : List ℕ} {h : CommandWord} → CanRunAt w ends s at h → number s' ≡ 0 → CanRunAt w ends s' at h
-  again c e = record { can = record { command = c.can.command; running = e }; head = c.head }
+  pub assert-can : CanRunAt w ends at Assert → ExpressionStands w ends syntax.Boolean (at + 1)
+  assert-can x =
+      let t = command-parts x.command.tree x.command.there x.head in
+      can-evaluate t.first t.first-at
 
-  module _ {s : List ℕ} where
-    pub assert-can : CanRunAt w ends s at Assert → ExpressionStands w ends syntax.Boolean (at + 1)
-    assert-can x =
-        let t = command-parts x.can.command.tree x.can.command.there x.head in
-        can-evaluate t.first t.first-at
+  pub scalar-can : {z : ℕ} → CanRunAt w ends at (AssignScalar z) →
+      ExpressionStands w ends syntax.Arithmetic (at + 1) × (z < 32)
+  scalar-can x =
+      let t = command-parts x.command.tree x.command.there x.head in
+      let h = t.1 in
+      (can-evaluate t.0.first t.0.first-at, omega arith)
 
-    pub scalar-can : {z : ℕ} → CanRunAt w ends s at (AssignScalar z) →
-        ExpressionStands w ends syntax.Arithmetic (at + 1) × (z < 32)
-    scalar-can x =
-        let t = command-parts x.can.command.tree x.can.command.there x.head in
-        let h = t.1 in
-        (can-evaluate t.0.first t.0.first-at, omega arith)
+  pub array-can : {a : ℕ} → CanRunAt w ends at (AssignArray a) →
+      ExpressionStands w ends syntax.Array (at + 1) × (a < 32)
+  array-can x =
+      let t = command-parts x.command.tree x.command.there x.head in
+      let h = t.1 in
+      (can-evaluate t.0.first t.0.first-at, omega arith)
 
-    pub array-can : {a : ℕ} → CanRunAt w ends s at (AssignArray a) →
-        ExpressionStands w ends syntax.Array (at + 1) × (a < 32)
-    array-can x =
-        let t = command-parts x.can.command.tree x.can.command.there x.head in
-        let h = t.1 in
-        (can-evaluate t.0.first t.0.first-at, omega arith)
+  pub sequence-first : CanRunAt w ends at Sequence → Body w ends at (at + 1)
+  sequence-first x =
+      let t = command-parts x.command.tree x.command.there x.head in
+      body x.command.there t.first t.first-at (omega arith)
 
-    pub sequence-first : CanRunAt w ends s at Sequence → Body w ends at (at + 1)
-    sequence-first x =
-        let t = command-parts x.can.command.tree x.can.command.there x.head in
-        body x.can.command.there t.first t.first-at (omega arith)
+  pub sequence-second : CanRunAt w ends at Sequence → {q : ℕ} → q ≡ get_or ends (at + 1) 0 → Body w ends at q
+  sequence-second x e =
+      let t = command-parts x.command.tree x.command.there x.head in
+      let i = resolved-inside x.command.there.context t.first t.first-at in
+      let same = command-end_is x.command.there.context t.first t.first-at in
+      body x.command.there t.second (moved-command x.command.there.context t.first e t.first-at t.second_at) (omega arith)
 
-    pub sequence-second : CanRunAt w ends s at Sequence → {q : ℕ} → q ≡ get_or ends (at + 1) 0 → Body w ends at q
-    sequence-second x e =
-        let t = command-parts x.can.command.tree x.can.command.there x.head in
-        let i = resolved-inside x.can.command.there.context t.first t.first-at in
-        let same = command-end_is x.can.command.there.context t.first t.first-at in
-        body x.can.command.there t.second (moved-command x.can.command.there.context t.first e t.first-at t.second_at) (omega arith)
+  pub if_can : CanRunAt w ends at If → ExpressionStands w ends syntax.Boolean (at + 1) × Later w ends at (at + 1)
+  if_can x =
+      let t = command-parts x.command.tree x.command.there x.head in
+      (can-evaluate t.first t.first-at, later-expression t.first t.first-at (omega arith))
 
-    pub if_can : CanRunAt w ends s at If → ExpressionStands w ends syntax.Boolean (at + 1) × Later w ends at (at + 1)
-    if_can x =
-        let t = command-parts x.can.command.tree x.can.command.there x.head in
-        (can-evaluate t.first t.first-at, later-expression t.first t.first-at (omega arith))
+  pub if_then : CanRunAt w ends at If → {q : ℕ} → q ≡ get_or ends (at + 1) 0 → Body w ends at q
+  if_then x e =
+      let t = command-parts x.command.tree x.command.there x.head in
+      let i = expression-inside t.first t.first-at in
+      let same = end_is t.first t.first-at in
+      body x.command.there t.second (moved t.first e t.first-at t.second_at) (omega arith)
 
-    pub if_then : CanRunAt w ends s at If → {q : ℕ} → q ≡ get_or ends (at + 1) 0 → Body w ends at q
-    if_then x e =
-        let t = command-parts x.can.command.tree x.can.command.there x.head in
-        let i = expression-inside t.first t.first-at in
-        let same = end_is t.first t.first-at in
-        body x.can.command.there t.second (moved t.first e t.first-at t.second_at) (omega arith)
+  pub if-else : CanRunAt w ends at If → {q r : ℕ} → q ≡ get_or ends (at + 1) 0 → r ≡ get_or ends q 0 → Body w ends at r
+  if-else x e f =
+      let t = command-parts x.command.tree x.command.there x.head in
+      let second = moved t.first e t.first-at t.second_at in
+      let i = expression-inside t.first t.first-at in
+      let j = resolved-inside x.command.there.context t.second second in
+      let same = end_is t.first t.first-at in
+      let last = command-end_is x.command.there.context t.second second in
+      body x.command.there t.third (moved-command x.command.there.context t.second f second t.third_at) (omega arith)
 
-    pub if-else : CanRunAt w ends s at If → {q r : ℕ} → q ≡ get_or ends (at + 1) 0 → r ≡ get_or ends q 0 → Body w ends at r
-    if-else x e f =
-        let t = command-parts x.can.command.tree x.can.command.there x.head in
-        let second = moved t.first e t.first-at t.second_at in
-        let i = expression-inside t.first t.first-at in
-        let j = resolved-inside x.can.command.there.context t.second second in
-        let same = end_is t.first t.first-at in
-        let last = command-end_is x.can.command.there.context t.second second in
-        body x.can.command.there t.third (moved-command x.can.command.there.context t.second f second t.third_at) (omega arith)
+  pub while-can : CanRunAt w ends at While → ExpressionStands w ends syntax.Boolean (at + 1)
+  while-can x =
+      let t = command-parts x.command.tree x.command.there x.head in
+      can-evaluate t.first t.first-at
 
-    pub while-can : CanRunAt w ends s at While → ExpressionStands w ends syntax.Boolean (at + 1)
-    while-can x =
-        let t = command-parts x.can.command.tree x.can.command.there x.head in
-        can-evaluate t.first t.first-at
+  pub for-small : {q r : ℕ} → CanRunAt w ends at (For q r) → (q < 32) × (r < 32)
+  for-small x =
+      let t = command-parts x.command.tree x.command.there x.head in
+      let h = t.1.0 in
+      let k = t.1.1 in
+      (omega arith, omega arith)
 
-    pub for-small : {q r : ℕ} → CanRunAt w ends s at (For q r) → (q < 32) × (r < 32)
-    for-small x =
-        let t = command-parts x.can.command.tree x.can.command.there x.head in
-        let h = t.1.0 in
-        let k = t.1.1 in
-        (omega arith, omega arith)
+  -- of a loop
+  pub loop-next : (kind : Loop) → CanRunAt w ends at (loop_word kind) → at + 1 < length ends
+  loop-next Test x =
+      let t = command-parts x.command.tree x.command.there x.head in
+      (later-expression t.first t.first-at (omega arith)).listed
+  loop-next (Count q r) x =
+      let t = command-parts x.command.tree x.command.there x.head in
+      (body x.command.there t.0.first t.0.first-at (omega arith)).place.listed
 
-    -- of a loop
-    pub loop-next : (kind : Loop) → CanRunAt w ends s at (loop_word kind) → at + 1 < length ends
-    loop-next Test x =
-        let t = command-parts x.can.command.tree x.can.command.there x.head in
-        (later-expression t.first t.first-at (omega arith)).listed
-    loop-next (Count q r) x =
-        let t = command-parts x.can.command.tree x.can.command.there x.head in
-        (body x.can.command.there t.0.first t.0.first-at (omega arith)).place.listed
+  pub loop-body : (kind : Loop) → CanRunAt w ends at (loop_word kind) → {q : ℕ} → q ≡ body_place ends at kind →
+      Body w ends at q
+  loop-body Test x e =
+      let t = command-parts x.command.tree x.command.there x.head in
+      let i = expression-inside t.first t.first-at in
+      let same = end_is t.first t.first-at in
+      body x.command.there t.second (moved t.first e t.first-at t.second_at) (omega arith)
+  loop-body (Count z r) x e =
+      let t = command-parts x.command.tree x.command.there x.head in
+      body x.command.there t.0.first (placed (sym e) t.0.first-at) (omega arith)
 
-    pub loop-body : (kind : Loop) → CanRunAt w ends s at (loop_word kind) → {q : ℕ} → q ≡ body_place ends at kind →
-        Body w ends at q
-    loop-body Test x e =
-        let t = command-parts x.can.command.tree x.can.command.there x.head in
-        let i = expression-inside t.first t.first-at in
-        let same = end_is t.first t.first-at in
-        body x.can.command.there t.second (moved t.first e t.first-at t.second_at) (omega arith)
-    loop-body (Count z r) x e =
-        let t = command-parts x.can.command.tree x.can.command.there x.head in
-        body x.can.command.there t.0.first (placed (sym e) t.0.first-at) (omega arith)
+  pub loop-counts : (kind : Loop) → CanRunAt w ends at (loop_word kind) → CountsIn kind
+  loop-counts Test x = tt
+  loop-counts (Count q r) x = (for-small x).0
 
-    pub loop-counts : (kind : Loop) → CanRunAt w ends s at (loop_word kind) → CountsIn kind
-    loop-counts Test x = tt
-    loop-counts (Count q r) x = (for-small x).0
-
-    -- of a call
-    pub call-body : {n : ℕ} → CanRunAt w ends s at (Call n) → {q : ℕ} → q ≡ get_or ends (start_place w n) 0 → CommandStands w ends q
-    call-body {n} x e =
-        let t = command-parts x.can.command.tree x.can.command.there x.head in
-        let b = x.can.command.there.bodies.known n t.procedure t.listed in
-        record {
-          tree = t.procedure.body;
-          past = b.past;
-          there = runnable x.can.command.there t.procedure.body (placed (sym (e ∙ b.start)) b.there);
-        }
+  -- of a call
+  pub call-body : {n : ℕ} → CanRunAt w ends at (Call n) → {q : ℕ} → q ≡ get_or ends (start_place w n) 0 → CommandStands w ends q
+  call-body {n} x e =
+      let t = command-parts x.command.tree x.command.there x.head in
+      let b = x.command.there.bodies.known n t.procedure t.listed in
+      record {
+        tree = t.procedure.body;
+        past = b.past;
+        there = runnable x.command.there t.procedure.body (placed (sym (e ∙ b.start)) b.there);
+      }
 
 -- a loop whose kind is known
-pub by_kind : {w ends s : List ℕ} {at : ℕ} {kind k : Loop} → CanRunAt w ends s at (loop_word kind) → kind ≡ k →
-    CanRunAt w ends s at (loop_word k)
-by_kind {w} {ends} {s} {at} x e = subst (λ k. CanRunAt w ends s at (loop_word k)) e x
+pub by_kind : {w ends : List ℕ} {at : ℕ} {kind k : Loop} → CanRunAt w ends at (loop_word kind) → kind ≡ k →
+    CanRunAt w ends at (loop_word k)
+by_kind {w} {ends} {at} x e = subst (λ k. CanRunAt w ends at (loop_word k)) e x

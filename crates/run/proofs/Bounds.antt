@@ -4,15 +4,14 @@
 --     CallsWithin, calls-within       the bodies that a command calls end at a place or before it
 --     run-bounded                     a run is bounded
 --     command-bounded, body-bounded   the same of a command that can be run, and of the body of a loop
---     run-within, stores-within       the steps left after a run, and after a scalar was given a value
+--     run-within                      the steps left after a run
 use mathlib.Core.Path.{◌≡◌, sym, subst}
 use mathlib.Core.Bool.{Bool, true, false, cond}
-use mathlib.Core.List.{List, [], ◌++◌}
+use mathlib.Core.List.{List, ◌++◌}
 use mathlib.Core.Option.{some}
 use Prim.Native.Nat.{ℕ, zero, suc, ◌+◌, ◌<◌, ◌≤◌}
 use native.Mathlib.Omega.{arith}
-use lib.IntN.{ℤ}
-use lib.ListN.{length, length-append, set}
+use lib.ListN.{length, length-append}
 use Rattle.language.specs.Syntax as syntax
 use Rattle.language.specs.Syntax.{Expr, scalar, compare, at_most, Assignment, to_scalar, to_array}
 use Rattle.language.specs.Syntax.{skip, sequence, assert, assign, if_else, while, for, call}
@@ -20,13 +19,11 @@ use Rattle.language.specs.Runs.{start, increment}
 use Rattle.rules.specs.Words.{words, command_words}
 use Rattle.rules.specs.Context.{Procedure, Context, item_at}
 use Rattle.rules.specs.Resolved.{Resolved}
-use Rattle.execution.specs.Lent.{Lent, lent, store_of}
+use Rattle.execution.specs.Lent.{Lent, store_of}
 use Rattle.execution.specs.Evaluate.{Evaluation, worked, stops, evaluate}
 use Rattle.execution.specs.Run.{End, ended, stopped, on_ended, step, given, assigns, turns, run}
 use Rattle.heads.specs.Stands.{PartAt, resolved_part, Runnable, CommandStands}
 use Rattle.heads.proofs.Parts.{resolved-inside}
-use Rattle.evaluate.specs.Evaluated.{number, answer}
-use Rattle.run.specs.Steps.{steps_left, stop_place, end_by, StoresScalar}
 use Rattle.run.specs.Places.{RunsAs}
 use Rattle.run.specs.Turns.{loop_body}
 use Rattle.run.proofs.Bodies.{part_end}
@@ -183,22 +180,8 @@ module _ {w ends : List ℕ} where
     pub body-bounded : (n : ℕ) (m : Lent) → Bounded 8192 n (loop_body x.body_at c at n m)
     body-bounded n m = body-before 8192 x.body_at c at n m (in_room x.context c x.there) called-within
 
-left-bounded : (b k p n l : ℕ) (m : Lent) → Bounded b l (end_by k p n m) → n ≤ l
-left-bounded b zero p n l m h = h
-left-bounded b (suc k) p n l m h = h.0
-
 -- the steps left after a run of the command that stands there
-pub run-within : {w ends s s' : List ℕ} {at : ℕ} {m m' : Lent} → CommandStands w ends at → RunsAs w ends at m s s' m' →
-    steps_left s' ≤ steps_left s
-run-within {s = s} {s' = s'} {m = m} {m' = m'} x f =
-    left-bounded 8192 (number s') (stop_place s') (steps_left s') (steps_left s) m'
-    (subst (Bounded 8192 (steps_left s)) (sym (f.is x.tree x.past x.there))
-    (command-bounded x.tree x.there (steps_left s) m))
-
-pub stores-within : {ss after : List ℤ} {x : ℕ} {v : ℤ} {at : ℕ} {s s' : List ℕ} → StoresScalar ss x v at s s' after →
-    steps_left s' ≤ steps_left s
-stores-within {ss} {after} {x} {v} {at} {s} {s'} g =
-    left-bounded (at + 1) (number s') (stop_place s') (steps_left s') (steps_left s) (lent after [])
-    (subst (Bounded (at + 1) (steps_left s)) (sym (g.is []))
-    (step-bounded (at + 1) at (steps_left s) (lent ss []) (answer v (number s)) (λ z l. ended l (lent (set ss x z) []))
-    (omega arith) (λ z l h. omega arith)))
+pub run-within : {w ends : List ℕ} {at n l : ℕ} {m m' : Lent} → CommandStands w ends at →
+    RunsAs w ends at m n (ended l m') → l ≤ n
+run-within {n = n} {m = m} x f =
+    subst (Bounded 8192 n) (sym (f.is x.tree x.past x.there)) (command-bounded x.tree x.there n m)

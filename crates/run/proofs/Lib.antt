@@ -4,10 +4,8 @@
 --     Bounds      the steps left never grow
 --     Turns       turns one after the other
 --     Commands    what comes of the parts of a command
---     Calls       the same of a call, and the steps left
 pub mod Steps
 pub mod Bodies
 pub mod Bounds
 pub mod Turns
 pub mod Commands
-pub mod Calls

@@ -1,52 +1,59 @@
 -- Turns one after the other, by one turn and what follows it.
 -- Assumes nothing.
---     turns-again, turns-over             the definition's turns, where one more is due, and where none is
---     turn-less                           a turn takes a step
---     LoopGoing                           what a loop has done so far
---     falls                               the steps left fall
---     going_none, going_on, going_over    its turns
-use mathlib.Core.Path.{◌≡◌, refl, sym, ap, ◌∙◌}
+--     turns-again, turns-over, turns-stopped    the definition's turns, where one more is due, where none is, and where one stops
+--     LoopGoing                                 what a loop has done so far
+--     going_none, going_on, going_falls         its turns, and that the steps left fall
+--     going_over, going_refused, going_stopped  what it comes to
+use mathlib.Core.Path.{◌≡◌, refl, sym, ap, subst, ◌∙◌}
 use mathlib.Core.Bool.{Bool, true, false}
 use mathlib.Core.List.{List}
 use Prim.Native.Nat.{ℕ, zero, suc, ◌<◌, ◌≤◌}
 use native.Mathlib.Omega.{arith}
+use Rattle.std.specs.Prelude.{Result, Ok, Err}
 use Rattle.language.specs.Syntax as syntax
 use Rattle.language.specs.Syntax.{Expr}
 use Rattle.execution.specs.Lent.{Lent, store_of}
 use Rattle.execution.specs.Evaluate.{Evaluation, worked, stops, evaluate}
 use Rattle.execution.specs.Run as definition
 use Rattle.execution.specs.Run.{ended, stopped, on_ended, step, turns}
+use Rattle.context.specs.declared.Refusal.{Refusal}
 use Rattle.heads.specs.Stands.{Runnable, CommandStands}
-use Rattle.evaluate.specs.Evaluated.{number}
-use Rattle.run.specs.Steps.{steps_left}
-use Rattle.run.specs.Turns.{loop_test, loop_body, Turned, again, over, turned_at, go_on, turn_by, turn_of, TurnsAs}
-use Rattle.run.specs.Turns.{TurnAs}
+use Rattle.run.specs.Steps.{after_step, Stepped}
+use Rattle.run.specs.Turns.{loop_test, loop_body, TestsLoop, TurnsAs, PassAs}
+use Rattle.run.proofs.Steps.{step_less}
 use Rattle.run.proofs.Bounds.{Bounded, body-bounded}
 
-never : {A : Type 0} → ◌≡◌ {A = ℕ} 0 1 → A
-never z = absurd (omega arith)
-
--- what follows a turn
-abbrev after_turn : Turned → (ℕ → Lent → definition.End) → definition.End
-after_turn (again n m) f = f n m
-after_turn (over e) f = e
-
-go_on_lem : (e : definition.End) (f : ℕ → Lent → definition.End) → on_ended e f ≡ after_turn (go_on e) f
-go_on_lem (ended n m) f = refl
-go_on_lem (stopped k p n m) f = refl
-
 module _ (b : Expr syntax.Boolean) (body : ℕ → Lent → definition.End) (at : ℕ) where
-  turn_step : (k n : ℕ) (m : Lent) (o : Evaluation Bool) →
-      (step at n m o λ v l. elim v [ true ↦ on_ended (body l m) (turns k b body at) | false ↦ ended l m ])
-      ≡ after_turn (turn_by at n o m body) (turns k b body at)
-  turn_step k zero m o = refl
-  turn_step k (suc n) m (worked true) = go_on_lem (body n m) (turns k b body at)
-  turn_step k (suc n) m (worked false) = refl
-  turn_step k (suc n) m (stops j) = refl
+  -- what follows the test
+  abbrev go : ℕ → Lent → Bool → ℕ → definition.End
+  go k m v l = elim v [ true ↦ on_ended (body l m) (turns k b body at) | false ↦ ended l m ]
 
-  turn_is : (k n : ℕ) (m : Lent) → turns (suc k) b body at n m ≡ after_turn (turn_of b body at n m) (turns k b body at)
+  -- a step of the test is a step of the loop
+  pub turn-is : {r : Result Bool Refusal} (n : ℕ) (m : Lent) {l : ℕ} → Stepped at n (evaluate b (store_of m)) r l → (k : ℕ) → n ≡ suc k →
+      after_step r l m (go k m) ≡ turns n b body at n m
   unfolding turns
-  turn_is k n m = turn_step k n m (evaluate b (store_of m))
+  turn-is n m g k e = g.is m (go k m) ∙ sym (ap (λ j. turns j b body at n m) e)
+
+  none-taken : {A : Type 0} {l : ℕ} {v : Bool} (m : Lent) → Stepped at 0 (evaluate b (store_of m)) (Ok v) l → A
+  none-taken m g = let h = step_less g in absurd (omega arith)
+
+  pub turns-over : (n : ℕ) (m : Lent) {l : ℕ} {v : Bool} → Stepped at n (evaluate b (store_of m)) (Ok v) l → v ≡ false →
+      ended l m ≡ turns n b body at n m
+  turns-over zero m g e = none-taken m g
+  turns-over (suc n) m {l} g e = ap (λ v. go n m v l) (sym e) ∙ turn-is (suc n) m g n refl
+
+  pub turns-stopped : (n : ℕ) (m : Lent) {l : ℕ} {r : Refusal} → Stepped at n (evaluate b (store_of m)) (Err r) l →
+      stopped r.number r.place l m ≡ turns n b body at n m
+  unfolding turns
+  turns-stopped zero m g = g.is m (λ v l. ended l m)
+  turns-stopped (suc n) m g = turn-is (suc n) m g n refl
+
+  -- the body stops
+  pub body-stopped : (n : ℕ) (m : Lent) {l k p j : ℕ} {v : Bool} {m' : Lent} → Stepped at n (evaluate b (store_of m)) (Ok v) l →
+      v ≡ true → stopped k p j m' ≡ body l m → stopped k p j m' ≡ turns n b body at n m
+  body-stopped zero m g e h = none-taken m g
+  body-stopped (suc n) m {l} g e h =
+      ap (λ x. on_ended x (turns n b body at)) h ∙ ap (λ v. go n m v l) (sym e) ∙ turn-is (suc n) m g n refl
 
   module _ (past : ℕ) (bounded : (n : ℕ) (m : Lent) → Bounded past n (body n m)) where
     same_after : (k j l : ℕ) (e : definition.End) → Bounded past l e → l ≤ k → l ≤ j →
@@ -76,66 +83,70 @@ module _ (b : Expr syntax.Boolean) (body : ℕ → Lent → definition.End) (at 
     turns_same (suc k) (suc j) n m x y =
         same_step k j n m (evaluate b (store_of m)) x y (λ i l p q. turns_same k j i l p q)
 
-    less-after : (l : ℕ) (e : definition.End) → Bounded past l e → {n : ℕ} {m : Lent} → again n m ≡ go_on e → n ≤ l
-    less-after l (ended i x) h {n} e = let q : n ≡ i = cc in omega arith
-    less-after l (stopped k p i x) h e = never (cc)
+    pub less-after : {l k : ℕ} (m : Lent) {m' : Lent} → ended k m' ≡ body l m → k ≤ l
+    less-after {l} m e = subst (Bounded past l) (sym e) (bounded l m)
 
-    less_by : (n : ℕ) (m : Lent) (o : Evaluation Bool) {l : ℕ} {m' : Lent} → again l m' ≡ turn_by at n o m body →
-        l < n
-    less_by zero m o e = never (cc)
-    less_by (suc n) m (worked true) e = let h = less-after n (body n m) (bounded n m) e in omega arith
-    less_by (suc n) m (worked false) e = never (cc)
-    less_by (suc n) m (stops j) e = never (cc)
+    pub turns-again : (n : ℕ) (m : Lent) {l k : ℕ} {v : Bool} {m' : Lent} → Stepped at n (evaluate b (store_of m)) (Ok v) l →
+        v ≡ true → ended k m' ≡ body l m → turns n b body at n m ≡ turns k b body at k m'
+    turns-again zero m g e h = none-taken m g
+    turns-again (suc n) m {l} {k} {m' = m'} g e h =
+        let x = less-after m h in
+        let y = step_less g in
+        sym (ap (λ v. go n m v l) (sym e) ∙ turn-is (suc n) m g n refl)
+        ∙ ap (λ x. on_ended x (turns n b body at)) (sym h)
+        ∙ turns_same n k k m' (omega arith) (omega arith)
 
-    pub turn-less : (n : ℕ) (m : Lent) {l : ℕ} {m' : Lent} → again l m' ≡ turn_of b body at n m → l < n
-    turn-less n m e = less_by n m (evaluate b (store_of m)) e
-
-    pub turns-again : (n : ℕ) (m : Lent) {l : ℕ} {m' : Lent} → again l m' ≡ turn_of b body at n m →
-        turns n b body at n m ≡ turns l b body at l m'
-    turns-again zero m e = let h = turn-less zero m e in absurd (omega arith)
-    turns-again (suc n) m {l} {m'} e =
-        let h = turn-less (suc n) m e in
-        turn_is n (suc n) m ∙ ap (λ x. after_turn x (turns n b body at)) (sym e)
-        ∙ turns_same n l l m' (omega arith) (omega arith)
-
-  pub turns-over : (n : ℕ) (m : Lent) {x : definition.End} → over x ≡ turn_of b body at n m → x ≡ turns n b body at n m
-  unfolding turns
-  turns-over zero m e = cc
-  turns-over (suc n) m e = ap (λ y. after_turn y (turns n b body at)) e ∙ sym (turn_is n (suc n) m)
-
--- from m₀ with the progress s₀, a loop has come to m with the progress s, and nothing stopped it
-pub record LoopGoing (w ends : List ℕ) (at : ℕ) (m₀ : Lent) (s₀ : List ℕ) (m : Lent) (s : List ℕ) : Type 0 where
-  pub running : number s ≡ 0
-  pub within : steps_left s ≤ steps_left s₀
+-- from m₀ with n₀ steps left, a loop has come to m with n
+pub record LoopGoing (w ends : List ℕ) (at : ℕ) (m₀ : Lent) (n₀ : ℕ) (m : Lent) (n : ℕ) : Type 0 where
+  pub within : n ≤ n₀
   pub same : (c : syntax.Command) (p : ℕ) (x : Runnable w ends c at p) →
-      turns (steps_left s₀) (loop_test c) (loop_body x.body_at c at) at (steps_left s₀) m₀
-      ≡ turns (steps_left s) (loop_test c) (loop_body x.body_at c at) at (steps_left s) m
+      turns n₀ (loop_test c) (loop_body x.body_at c at) at n₀ m₀ ≡ turns n (loop_test c) (loop_body x.body_at c at) at n m
 
-pub going_none : (w ends : List ℕ) (at : ℕ) (m : Lent) (s : List ℕ) → number s ≡ 0 → LoopGoing w ends at m s m s
-going_none w ends at m s e = record { running = e; within = omega arith; same = λ c p x. refl }
+pub going_none : (w ends : List ℕ) (at : ℕ) (m : Lent) (n : ℕ) → LoopGoing w ends at m n m n
+going_none w ends at m n = record { within = omega arith; same = λ c p x. refl }
 
-module _ {w ends : List ℕ} {at : ℕ} {m m' : Lent} {s s' : List ℕ} {r : Bool} where
-  pub falls : CommandStands w ends at → TurnAs w ends at m s r s' m' → r ≡ true → steps_left s' < steps_left s
-  falls x f e =
-      let c = x.tree in
-      turn-less (loop_test c) (loop_body x.there.body_at c at) at 8192 (body-bounded c x.there) (steps_left s) m
-      (ap (λ y. turned_at y s' m') (sym e) ∙ f.is c x.past x.there)
+module _ {w ends : List ℕ} {at : ℕ} {m₀ : Lent} {n₀ : ℕ} {m : Lent} {n : ℕ} (g : LoopGoing w ends at m₀ n₀ m n)
+    {o : Evaluation Bool} (t : TestsLoop w ends at m o) where
+  tests-by : {r : Result Bool Refusal} {l : ℕ} → Stepped at n o r l → (c : syntax.Command) (p : ℕ) (x : Runnable w ends c at p) →
+      Stepped at n (evaluate (loop_test c) (store_of m)) r l
+  tests-by {r} {l} s c p x = subst (λ y. Stepped at n y r l) (t.is c p x) s
 
-  module _ {m₀ : Lent} {s₀ : List ℕ} (g : LoopGoing w ends at m₀ s₀ m s) (f : TurnAs w ends at m s r s' m') where
-    pub going_on : CommandStands w ends at → r ≡ true → LoopGoing w ends at m₀ s₀ m' s'
-    going_on y e = record {
-      running = f.running e;
-      within = omega (arith, g.within, falls y f e);
-      same = λ c p x.
-          g.same c p x
-          ∙ turns-again (loop_test c) (loop_body x.body_at c at) at 8192 (body-bounded c x) (steps_left s) m
-          (ap (λ y. turned_at y s' m') (sym e) ∙ f.is c p x);
-    }
+  pub going_refused : {r : Refusal} {l : ℕ} → Stepped at n o (Err r) l →
+      TurnsAs w ends at m₀ n₀ (stopped r.number r.place l m)
+  going_refused s = record {
+    is = λ c p x.
+        turns-stopped (loop_test c) (loop_body x.body_at c at) at n m (tests-by s c p x) ∙ sym (g.same c p x);
+  }
 
-    pub going_over : r ≡ false → TurnsAs w ends at m₀ s₀ s' m'
+  module _ {v : Bool} {l : ℕ} (s : Stepped at n o (Ok v) l) where
+    pub going_over : v ≡ false → TurnsAs w ends at m₀ n₀ (ended l m)
     going_over e = record {
       is = λ c p x.
-          turns-over (loop_test c) (loop_body x.body_at c at) at (steps_left s) m
-          (ap (λ y. turned_at y s' m') (sym e) ∙ f.is c p x)
+          turns-over (loop_test c) (loop_body x.body_at c at) at n m (tests-by s c p x) e ∙ sym (g.same c p x);
+    }
+
+    pub going_stopped : {k p j : ℕ} {m' : Lent} → v ≡ true → PassAs w ends at m l (stopped k p j m') →
+        TurnsAs w ends at m₀ n₀ (stopped k p j m')
+    going_stopped e f = record {
+      is = λ c p x.
+          body-stopped (loop_test c) (loop_body x.body_at c at) at n m (tests-by s c p x) e (f.is c p x)
           ∙ sym (g.same c p x);
     }
+
+    module _ {k : ℕ} {m' : Lent} (y : CommandStands w ends at) (e : v ≡ true) (f : PassAs w ends at m l (ended k m')) where
+      pub going_falls : k < n
+      going_falls =
+          let c = y.tree in
+          let i = less-after (loop_test c) (loop_body y.there.body_at c at) at 8192 (body-bounded c y.there) m
+          (f.is c y.past y.there) in
+          let j = step_less s in
+          omega arith
+
+      pub going_on : LoopGoing w ends at m₀ n₀ m' k
+      going_on = record {
+        within = omega (arith, g.within, going_falls);
+        same = λ c p x.
+            g.same c p x
+            ∙ turns-again (loop_test c) (loop_body x.body_at c at) at 8192 (body-bounded c x) n m (tests-by s c p x) e
+            (f.is c p x);
+      }

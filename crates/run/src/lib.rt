@@ -1,6 +1,6 @@
-// Commands run in a lent store on a budget of steps (document 01, "Runner" and "Judging order" 12 to 15; document 02, request [3]).
+// Commands run in a lent store on a budget of steps (document 01, "Runner" and "Judging order" 12 to 15; document 02, requests [1] and [3]).
 // A while and a `for` are loops here too, so that turns use no stack; calls nest no deeper than the programs of the file do, each in
-// those that call it. How a run ends, and with how many steps left, is in its progress.
+// those that call it. A run hands back the refusal that stops it, and leaves behind how many steps are left.
 #![tactic(auto)]
 
 pub mod step; // step.rt: what one step does

@@ -1,17 +1,16 @@
 // The parts of a turn of a while and of a `for`: the test, the body's place, and what follows the body.
 ghost use Rattle.std.specs.Prelude.{◌≡◌, ◌+◌, ◌<◌, length};
 ghost use Rattle.execution.specs.Lent.{lent};
+ghost use Rattle.arithmetic.specs.Worked.{outcome};
 ghost use Rattle.run.specs.Places.{CanRunAt};
-ghost use Rattle.run.specs.Turns.{loop_word, body_place, CountsIn, CanIncrement, TestsLoop, Increments, EndsPass};
+ghost use Rattle.run.specs.Turns.{loop_word, body_place, CountsIn, TestsLoop, Increments, EndsPass};
 
 use super::Loop;
-use super::step::store_scalar;
-use arithmetic::{at_most, sum};
+use super::step::take_step;
+use arithmetic::{Stop, at_most, sum};
+use context::Refusal;
 use ends::end_at;
-use evaluate::Progress;
 use evaluate::boolean::eval_boolean;
-use evaluate::stop::settle;
-use evaluate::store::value_at;
 
 // Whether a turn is due.
 pub fn loop_test(
@@ -21,19 +20,13 @@ pub fn loop_test(
     kind: Loop,
     scalars: &[i64; 32],
     values: &[i64; 2048],
-    progress: &mut Progress,
-) -> bool
-    requires { CanRunAt w.now ends.now progress.old «at» (loop_word kind) }
-    ensures { TestsLoop w.now ends.now «at»
-        (lent scalars.now values.now) progress.old result progress.new }
+) -> Result<bool, Stop>
+    requires { CanRunAt w.now ends.now «at» (loop_word kind) }
+    ensures { TestsLoop w.now ends.now «at» (lent scalars.now values.now) (outcome result) }
 {
     match kind {
-        Loop::Test => eval_boolean(w, ends, at + 1, scalars, values, progress),
-        Loop::Count(q, m) => {
-            let count = value_at(scalars, q as usize);
-            let bound = value_at(scalars, m as usize);
-            at_most(count, bound)
-        }
+        Loop::Test => eval_boolean(w, ends, at + 1, scalars, values),
+        Loop::Count(q, m) => Ok(at_most(scalars[q as usize], scalars[m as usize])),
     }
 }
 
@@ -48,26 +41,26 @@ pub fn body_at(ends: &[u32], at: usize, kind: Loop) -> usize
 }
 
 // After the body: a `for` increments its scalar, which is one step.
-pub fn end_pass(scalars: &mut [i64; 32], at: usize, kind: Loop, progress: &mut Progress)
-    requires { («at» < 8192) × CountsIn kind }
-    ensures { EndsPass scalars.old «at» kind progress.old progress.new
-        scalars.new }
+pub fn end_pass(
+    scalars: &mut [i64; 32],
+    at: usize,
+    kind: Loop,
+    left: &mut u32,
+) -> Result<(), Refusal>
+    requires { CountsIn kind }
+    ensures { EndsPass scalars.old «at» kind left.old result left.new scalars.new }
 {
     match kind {
-        Loop::Test => {}
-        Loop::Count(q, _) => {
-            if progress[0] == 0 {
-                increment(scalars, q as usize, at, progress);
-            }
-        }
+        Loop::Test => Ok(()),
+        Loop::Count(q, _) => increment(scalars, q as usize, at, left),
     }
 }
 
-fn increment(scalars: &mut [i64; 32], q: usize, at: usize, progress: &mut Progress)
-    requires { CanIncrement q «at» progress.old }
-    ensures { Increments scalars.old q «at» progress.old progress.new
-        scalars.new }
+fn increment(scalars: &mut [i64; 32], q: usize, at: usize, left: &mut u32) -> Result<(), Refusal>
+    requires { q < 32 }
+    ensures { Increments scalars.old q «at» left.old result left.new scalars.new }
 {
-    let next = settle(sum(value_at(scalars, q), 1), progress);
-    store_scalar(scalars, q, next, progress, at);
+    let next = take_step(left, at, sum(scalars[q], 1))?;
+    scalars[q] = next;
+    Ok(())
 }
