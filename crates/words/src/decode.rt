@@ -28,7 +28,7 @@ pub fn payload(word: u32) -> u32
 pub fn constant_of(payload: u32) -> i64
     ensures { result ≡ constant_of payload }
 {
-    let p = payload as i64;
+    let p = i64::from(payload);
     if payload < 33554432 { p } else { p - 67108864 }
 }
 
@@ -65,153 +65,61 @@ fn truth_word(payload: u32) -> BooleanWord
 }
 
 // Kinds 1 to 4. A reader that is due a word of one group asks for that group alone.
+#[tactic(auto, unfolding(crate::specs::Decode::arithmetic_of))]
 pub fn arithmetic_word(kind: u32, payload: u32) -> ArithmeticWord
     ensures { result ≡ arithmetic_of kind payload }
 {
     match kind {
         CONSTANT => ArithmeticWord::Constant(constant_of(payload)),
-        SCALAR => {
-            if payload <= 31 {
-                ArithmeticWord::Scalar(payload)
-            } else {
-                ArithmeticWord::Other
-            }
-        }
+        SCALAR if payload <= 31 => ArithmeticWord::Scalar(payload),
         OPERATOR => operator_word(payload),
-        SELECT => {
-            if payload == 0 {
-                ArithmeticWord::Select
-            } else {
-                ArithmeticWord::Other
-            }
-        }
+        SELECT if payload == 0 => ArithmeticWord::Select,
         _ => ArithmeticWord::Other,
     }
 }
 
 // Kinds 8 to 12.
+#[tactic(auto, unfolding(crate::specs::Decode::boolean_of))]
 pub fn boolean_word(kind: u32, payload: u32) -> BooleanWord
     ensures { result ≡ boolean_of kind payload }
 {
     match kind {
         COMPARISON => comparison_word(payload),
         TRUTH => truth_word(payload),
-        AND => {
-            if payload == 0 {
-                BooleanWord::And
-            } else {
-                BooleanWord::Other
-            }
-        }
-        OR => {
-            if payload == 0 {
-                BooleanWord::Or
-            } else {
-                BooleanWord::Other
-            }
-        }
-        NOT => {
-            if payload == 0 {
-                BooleanWord::Not
-            } else {
-                BooleanWord::Other
-            }
-        }
+        AND if payload == 0 => BooleanWord::And,
+        OR if payload == 0 => BooleanWord::Or,
+        NOT if payload == 0 => BooleanWord::Not,
         _ => BooleanWord::Other,
     }
 }
 
 // Kinds 16 to 18.
+#[tactic(auto, unfolding(crate::specs::Decode::array_of))]
 pub fn array_word(kind: u32, payload: u32) -> ArrayWord
     ensures { result ≡ array_of kind payload }
 {
     match kind {
-        ARRAY => {
-            if payload <= 31 {
-                ArrayWord::Identifier(payload)
-            } else {
-                ArrayWord::Other
-            }
-        }
-        ZEROS => {
-            if payload == 0 {
-                ArrayWord::Zeros
-            } else {
-                ArrayWord::Other
-            }
-        }
-        UPDATE => {
-            if payload == 0 {
-                ArrayWord::Update
-            } else {
-                ArrayWord::Other
-            }
-        }
+        ARRAY if payload <= 31 => ArrayWord::Identifier(payload),
+        ZEROS if payload == 0 => ArrayWord::Zeros,
+        UPDATE if payload == 0 => ArrayWord::Update,
         _ => ArrayWord::Other,
     }
 }
 
 // Kinds 24 to 31 and 38.
+#[tactic(auto, unfolding(crate::specs::Decode::command_of))]
 pub fn command_word(kind: u32, payload: u32) -> CommandWord
     ensures { result ≡ command_of kind payload }
 {
     match kind {
-        SKIP => {
-            if payload == 0 {
-                CommandWord::Skip
-            } else {
-                CommandWord::Other
-            }
-        }
-        SEQUENCE => {
-            if payload == 0 {
-                CommandWord::Sequence
-            } else {
-                CommandWord::Other
-            }
-        }
-        ASSERT => {
-            if payload == 0 {
-                CommandWord::Assert
-            } else {
-                CommandWord::Other
-            }
-        }
-        TO_SCALAR => {
-            if payload <= 31 {
-                CommandWord::AssignScalar(payload)
-            } else {
-                CommandWord::Other
-            }
-        }
-        TO_ARRAY => {
-            if payload <= 31 {
-                CommandWord::AssignArray(payload)
-            } else {
-                CommandWord::Other
-            }
-        }
-        IF => {
-            if payload == 0 {
-                CommandWord::If
-            } else {
-                CommandWord::Other
-            }
-        }
-        WHILE => {
-            if payload == 0 {
-                CommandWord::While
-            } else {
-                CommandWord::Other
-            }
-        }
-        FOR => {
-            if payload <= 1023 {
-                CommandWord::For(payload % 32, payload / 32)
-            } else {
-                CommandWord::Other
-            }
-        }
+        SKIP if payload == 0 => CommandWord::Skip,
+        SEQUENCE if payload == 0 => CommandWord::Sequence,
+        ASSERT if payload == 0 => CommandWord::Assert,
+        TO_SCALAR if payload <= 31 => CommandWord::AssignScalar(payload),
+        TO_ARRAY if payload <= 31 => CommandWord::AssignArray(payload),
+        IF if payload == 0 => CommandWord::If,
+        WHILE if payload == 0 => CommandWord::While,
+        FOR if payload <= 1023 => CommandWord::For(payload % 32, payload / 32),
         CALL => CommandWord::Call(payload),
         _ => CommandWord::Other,
     }
