@@ -1,5 +1,5 @@
 -- The places of members that stand one after the other.
--- Working: `seen-places` of proofs/Members says that they are those of the members that are compared. Assumes nothing.
+-- Working: `seen-places` of proofs/Steps says that they are those of the members that are compared. Assumes nothing.
 --     member_places, places_left    the places of so many members; of those that an iterator has left
 --     StartsAt                      an iterator has so many members left, from a place on
 --     CanPassAll                    their places are in the list of ends
