@@ -15,6 +15,8 @@ use lib.IntN.{ℤ, pos, ◌+ℤ◌}
 use lib.Signed.{le_z}
 use lib.ListN.{length, get_or, set}
 use lib.Seq.{paste}
+use mir.Syntax.{w64}
+use mir.Val.{SFits, to_z, of_z}
 use Rattle.std.specs.Prelude.{Result, Ok, Err, IsErrAnd}
 use Rattle.language.specs.Syntax as syntax
 use Rattle.language.specs.Runs.{start, increment}
@@ -31,6 +33,7 @@ use Rattle.heads.specs.Stands.{command_at, start_place, resolved_part}
 use Rattle.heads.proofs.Parts.{runnable, command-parts}
 use Rattle.arithmetic.specs.Worked.{outcome, checked}
 use Rattle.arithmetic.specs.declared.Stop.{Stop}
+use Rattle.arithmetic.proofs.Signed.{back}
 use Rattle.evaluate.specs.Evaluated.{filled, Evaluates, Fills}
 use Rattle.evaluate.proofs.Places.{end_is}
 use Rattle.evaluate.proofs.Results.{after_both}
@@ -64,12 +67,12 @@ module _ {w ends : List ℕ} {at : ℕ} {m : Lent} {n : ℕ} where
       TurnsAs w ends at m n (stopped e.number e.place l m') → TurnsAs w ends at m n (end_of r l m')
   turns-passed r e {l} {m'} h f = record { is = λ c p x. refused r e l m' h ∙ f.is c p x }
 
-started : {A : Type 0} {a : A} {at n l : ℕ} (ss vs : List ℤ) (q : ℕ) {s : Result A Refusal} → Stepped at n (worked a) s l →
-    after_step s l (lent ss vs) (λ z k. ended k (lent (set ss q (pos 1)) vs)) ≡ assigns (start q) at n (lent ss vs)
+started : {at n l : ℕ} (ss vs : List ℤ) (q : ℕ) {s : Result ℤ Refusal} → Stepped at n (worked (pos 1)) s l →
+    after_step s l (lent ss vs) (λ z k. ended k (lent (set ss q z) vs)) ≡ assigns (start q) at n (lent ss vs)
 unfolding evaluate
-started {a = a} {at} {n} ss vs q g =
-    g.is (lent ss vs) (λ z k. ended k (lent (set ss q (pos 1)) vs))
-    ∙ given-step at n (lent ss vs) (worked a) (λ z. lent (set ss q (pos 1)) vs)
+started {at} {n} ss vs q g =
+    g.is (lent ss vs) (λ z k. ended k (lent (set ss q z) vs))
+    ∙ given-step at n (lent ss vs) (worked (pos 1)) (λ z. lent (set ss q z) vs)
 
 module _ {w ends : List ℕ} {at n l : ℕ} where
   pub skip_runs : {A : Type 0} (a : A) {m : Lent} {r : Result A Refusal} → command_at w at ≡ Skip → Stepped at n (worked a) r l →
@@ -131,22 +134,23 @@ module _ {w ends : List ℕ} {at n l : ℕ} where
     }
 
   -- the start of a `for`
-  module _ {A : Type 0} {a : A} {ss vs : List ℤ} {q r : ℕ} (h : command_at w at ≡ For q r) where
-    pub for-ended : {e : definition.End} → Stepped at n (worked a) (Ok a) l →
-        TurnsAs w ends at (lent (set ss q (pos 1)) vs) l e → RunsAs w ends at (lent ss vs) n e
+  module _ {ss vs : List ℤ} {q r : ℕ} (h : command_at w at ≡ For q r) where
+    pub for-ended : {e : definition.End} {v : ℤ} → SFits w64 v → Stepped at n (worked (pos 1)) (Ok v) l →
+        TurnsAs w ends at (lent (set ss q (to_z w64 (of_z w64 v))) vs) l e → RunsAs w ends at (lent ss vs) n e
     unfolding run
-    for-ended g f = record {
+    for-ended {v = v} k g f = record {
       is = λ c p x.
           let t = (command-parts c x h).0 in
           let go : ℕ → Lent → definition.End = λ l m. turns l (loop_test (syntax.for q r t.first))
           (loop_body x.body_at (syntax.for q r t.first) at) at l m in
           f.is c p x
-          ∙ ap (λ y. turns l (loop_test y) (loop_body x.body_at y at) at l (lent (set ss q (pos 1)) vs)) t.is
+          ∙ ap (λ y. turns l (loop_test y) (loop_body x.body_at y at) at l (lent (set ss q (to_z w64 (of_z w64 v))) vs)) t.is
+          ∙ ap (λ z. go l (lent (set ss q z) vs)) (back k)
           ∙ ap (λ y. on_ended y go) (started ss vs q g)
           ∙ sym (ap (λ y. run x.body_at y at n (lent ss vs)) t.is);
     }
 
-    pub for-stopped : {d : Refusal} → Stepped at n (worked a) (Err d) l →
+    pub for-stopped : {d : Refusal} → Stepped at n (worked (pos 1)) (Err d) l →
         RunsAs w ends at (lent ss vs) n (stopped d.number d.place l (lent ss vs))
     unfolding run
     for-stopped g = record {

@@ -121,8 +121,7 @@ fn run_for(
     ensures { RunsAs w.now ends.now «at» (lent scalars.old values.old)
         left.old (end_of result left.new (lent scalars.new values.new)) }
 {
-    take_step(left, at, Ok(()))?;
-    scalars[q as usize] = 1;
+    scalars[q as usize] = take_step(left, at, Ok(1))?;
     run_turns(w, ends, at, Loop::Count(q, m), scalars, values, left)
 }
 

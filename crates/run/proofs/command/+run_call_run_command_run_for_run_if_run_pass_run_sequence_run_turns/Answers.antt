@@ -3,6 +3,7 @@
 -- grow and of which a call takes one, and then the words left from the command on, five times, so that the functions for
 -- parts of a command come between it and its own parts; a loop's is the steps left.
 -- Assumes nothing.
+use borrow.Author.Rules.{rules}
 use mathlib.Core.Path.{sym, ◌∙◌}
 use native.Mathlib.Omega.{arith}
 use Rattle.heads.proofs.Parts.{command-early, command-allowed, command-parts}
@@ -47,10 +48,10 @@ pub run_command-returns-in-While : goal.run_command-returns-in-While
 run_command-returns-in-While t c =
     while-runs (sym c.command_head-head.ensures ∙ c.in-While.is) c.run_turns.ensures
 
-pub run_for-returns-in_err-take_step : goal.run_for-returns-in_err-take_step
-run_for-returns-in_err-take_step t c =
-    passed _ c.in_err-take_step.field-0.0 c.from_residual.ensures.1
-    (for-stopped c.requires.head c.in_err-take_step.ensures)
+pub run_for-returns-in_err-scalars : goal.run_for-returns-in_err-scalars
+run_for-returns-in_err-scalars t c =
+    passed _ c.in_err-scalars.field-0.0 c.from_residual.ensures.1
+    (for-stopped c.requires.head c.in_err-scalars.ensures)
 
 pub run_for-bounds-scalars-q : goal.run_for-bounds-scalars-q
 run_for-bounds-scalars-q t c =
@@ -58,12 +59,12 @@ run_for-bounds-scalars-q t c =
 
 pub run_for-run_turns-requires : goal.run_for-run_turns-requires
 run_for-run_turns-requires t c =
-    let m = c.decreases in let g = step_less c.in_ok-take_step.ensures in
+    let m = c.decreases in let g = step_less c.in_ok-scalars.ensures in
     (omega arith, c.requires)
 
 pub run_for-returns : goal.run_for-returns
 run_for-returns t c =
-    for-ended c.requires.head c.in_ok-take_step.ensures c.run_turns.ensures
+    for-ended c.requires.head (search rules) c.in_ok-scalars.ensures c.run_turns.ensures
 
 pub run_if-overflow_add-at : goal.run_if-overflow_add-at
 run_if-overflow_add-at t c =
