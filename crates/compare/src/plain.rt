@@ -8,7 +8,7 @@ ghost use Rattle.compare.specs.declared.plain.Change.TheVariants.{Unchanged};
 use crate::start::{left_other, other_of, plain_start, start_from};
 use ends::end_at;
 use matching::cursor::Put;
-use matching::expression::match_expression;
+use matching::expression::match_boolean;
 use matching::part::{came_to_end, same_parts};
 use words::kinds::{COMPARISON, KIND, NOT, TRUTH};
 
@@ -27,7 +27,7 @@ fn same_changed(w: &[u32], ends: &[u32], f: usize, g: usize, change: Change) -> 
     match change {
         Change::Unchanged => same_parts(w, ends, f, g),
         Change::Replaced(put) => {
-            let end = match_expression(w, ends, f, g, put);
+            let end = match_boolean(w, ends, f, g, put);
             came_to_end(ends, end, f)
         }
     }

@@ -2,21 +2,22 @@
 -- Assumes nothing.
 --     exchanged-append                                         one list after the other
 --     any-first, any-listed                                    its place is in the file, in the list of ends
---     Walked, walked-head, walked-on, walked-all, walked-lost  after its first word and some of its operands
+--     Walked, walked-head, walked-on, walked-all               after its first word and some of its operands
+--     walked-lost, head-lost                                   one of them, or the first word, doesn't stand there
 --     can-operand                                              an operand can be matched, and lies further on
+--     can-sort                                                 the whole can, by the function for its sort
 use mathlib.Core.Path.{◌≡◌, refl, sym, ap, subst, ◌∙◌}
 use mathlib.Core.List.{List, [], ◌∷◌, ◌++◌, append_assoc, append-nil}
 use Prim.Native.Nat.{ℕ, zero, suc, ◌+◌, ◌-◌, ◌<◌, ◌≤◌}
 use native.Mathlib.Omega.{arith}
 use lib.ListN.{length, get_or}
 use Rattle.std.specs.Prelude.{Option, Some, None}
-use Rattle.layout.specs.Bytes.{kind_at, payload_at}
-use Rattle.layout.specs.Nodes.{count_of}
+use Rattle.language.specs.Syntax.{Sort}
 use Rattle.ends.specs.Ends.{EndsOf}
 use Rattle.matching.specs.Matching.{between, matched, put_for, exchanged}
 use Rattle.ends.specs.Places.{end_at}
 use Rattle.ends.proofs.Places.{node_known}
-use Rattle.matching.specs.Places.{AnyAt, Chained, CanMatchAny, Matched}
+use Rattle.matching.specs.Places.{ExpressionAt, AnyAt, Chained, CanMatch, CanMatchAny, Matched}
 use Rattle.matching.specs.declared.cursor.Put.{Put}
 use Rattle.matching.proofs.Ranges.{between_none, between_first, between_join}
 use Rattle.matching.proofs.Matching.{matched-lost, matched-append}
@@ -86,14 +87,27 @@ module _ {file : List ℕ} {put : Put} where
   }
 
   module _ {ends : List ℕ} where
-    pub walked-head : {at b n : ℕ} {m : Option ℕ} → EndsOf file ends → AnyAt file ends b →
-        m ≡ matched file (Some at) (put_for file put (get_or file b 0)) →
-        n ≡ count_of (kind_at file b) (payload_at file b) → Walked file ends put at b m (b + 1) n
-    walked-head {at} {b} {n} o x h e = record {
-      past = omega arith;
-      left = operands file ends b n o x e;
-      so-far = after-word (any-first x) h;
+    -- what did not stand is not made good by what follows
+    pub walked-lost : {at b p n : ℕ} {r : Option ℕ} → AnyAt file ends b → Walked file ends put at b None p n → r ≡ None →
+        Matched file ends (Some at) b put r
+    walked-lost {at} {b} {p} {n} y x e = record {
+      is =
+          e ∙ (then x.so-far
+          (record {
+            is = matched-lost file (exchanged file put (between file p (end_at ends b)));
+            order = further file ends n p (end_at ends b) x.left;
+            within = (any-inside y).within;
+          })).is;
     }
+
+    pub walked-head : (n : ℕ) {at b : ℕ} {m : Option ℕ} → b < length file → m ≡ matched file (Some at) (put_for file put (get_or file b 0)) →
+        Chained file ends n (b + 1) (end_at ends b) → Walked file ends put at b m (b + 1) n
+    walked-head n i h c = record { past = omega arith; left = c; so-far = after-word i h }
+
+    -- the first word doesn't stand there
+    pub head-lost : {at b : ℕ} {r : Option ℕ} → EndsOf file ends → AnyAt file ends b →
+        None ≡ matched file (Some at) (put_for file put (get_or file b 0)) → r ≡ None → Matched file ends (Some at) b put r
+    head-lost {b = b} o x h e = walked-lost x (walked-head _ (any-first x) h (operands file ends b _ o x refl)) e
 
     pub walked-on : {at b e p q n : ℕ} {r : Option ℕ} → Walked file ends put at b (Some e) p (suc n) → Matched file ends (Some e) p put r →
         q ≡ end_at ends p → Walked file ends put at b r q n
@@ -112,41 +126,28 @@ module _ {file : List ℕ} {put : Put} where
     walked-all {at} {b} {p} {m} x =
         record { is = subst (λ p. m ≡ matched file (Some at) (exchanged file put (between file b p))) x.left x.so-far.is }
 
-    -- what did not stand is not made good by what follows
-    pub walked-lost : {at b p n : ℕ} {r : Option ℕ} → AnyAt file ends b → Walked file ends put at b None p n → r ≡ None →
-        Matched file ends (Some at) b put r
-    walked-lost {at} {b} {p} {n} y x e = record {
-      is =
-          e ∙ (then x.so-far
-          (record {
-            is = matched-lost file (exchanged file put (between file p (end_at ends b)));
-            order = further file ends n p (end_at ends b) x.left;
-            within = (any-inside y).within;
-          })).is;
-    }
-
 -- an operand's place is in the list of ends too
 pub any-listed : {file ends : List ℕ} {at : ℕ} → EndsOf file ends → AnyAt file ends at → at < length ends
 any-listed o x = (node_known o x.expression.there).listed
 
-pub left-some : {file ends : List ℕ} {put : Put} {at b p e i : ℕ} {m : Option ℕ} → Walked file ends put at b m p (e - i) →
-    i < e → Walked file ends put at b m p (suc (e - (i + 1)))
-left-some {file} {ends} {put} {at} {b} {p} {e} {i} {m} x h =
-    let n : e - i ≡ suc (e - (i + 1)) = omega arith in
-    subst (λ n. Walked file ends put at b m p n) n x
+-- the words left from a place on, twice, so that a function's own number lies between those of its operands
+abbrev pub left : List ℕ → ℕ → ℕ
+left file b = (length file - b) + (length file - b)
 
-pub none-left : {file ends : List ℕ} {put : Put} {at b p e i : ℕ} {m : Option ℕ} → Walked file ends put at b m p (e - i) →
-    e ≤ i → Walked file ends put at b m p 0
-none-left {file} {ends} {put} {at} {b} {p} {e} {i} {m} x h =
-    let n : e - i ≡ 0 = omega arith in
-    subst (λ n. Walked file ends put at b m p n) n x
+pub any-of : {file ends : List ℕ} {k : Sort} {b : ℕ} {put : Put} → CanMatch file ends k b put → AnyAt file ends b
+any-of p = record { sort = _; expression = p.expression }
 
--- an operand can be matched, and lies further on
-pub can-operand : {file ends : List ℕ} {put : Put} {at b p n t : ℕ} {m : Option ℕ} → CanMatchAny file ends b put →
-    Walked file ends put at b m p (suc n) → length file - b ≡ t → (length file - p < t) × CanMatchAny file ends p put
+-- what a call on an operand asks for: it can be matched, and lies further on
+pub can-operand : {file ends : List ℕ} {put : Put} {k : Sort} {at b p n t : ℕ} {m : Option ℕ} → CanMatch file ends k b put →
+    Walked file ends put at b m p (suc n) → left file b ≡ t → (left file p + 1 < t) × CanMatchAny file ends p put
 can-operand c x e =
     let i = any-inside x.left.0 in
     let s = i.start in
     let l = i.within in
     let h = x.past in
     (omega arith, record { ends_of = c.ends_of; any = x.left.0; inside = c.inside })
+
+-- the function for the sort is called at the same place
+pub can-sort : {file ends : List ℕ} {put : Put} {t b : ℕ} {k : Sort} → left file b + 1 ≡ t → CanMatchAny file ends b put →
+    ExpressionAt file ends k b → (left file b < t) × CanMatch file ends k b put
+can-sort e p x = (omega arith, record { ends_of = p.ends_of; expression = x; inside = p.inside })

@@ -1,10 +1,10 @@
--- What the function that walks an expression asks for and promises.
+-- What the functions that walk an expression ask for and promise.
 -- Working: `written-any` of proofs/Operands says that a written expression stands so; `replaces` of proofs/Replaced ties
 -- what is matched to the rules' `replace`. Assumes nothing.
 --     part                            the numbers of what starts at a place, up to its end in the list of ends
 --     ExpressionAt, AnyAt, Chained    an expression of a sort; one of any sort; so many of them, one after the other
---     CanMatchAny                     what the function asks for
---     Matched                         what it promises: the place past its numbers, with others in the place of a word
+--     CanMatch, CanMatchAny           what the functions ask for
+--     Matched                         what they promise: the place past its numbers, with others in the place of a word
 use Rattle.std.specs.Prelude.{◌≡◌, Option, List, ℕ, zero, suc, ◌≤◌, length}
 use Rattle.language.specs.Syntax.{Sort, Expr}
 use Rattle.ends.specs.Ends.{EndsOf}
@@ -27,6 +27,11 @@ module _ (file ends : List ℕ) where
   abbrev pub Chained : ℕ → ℕ → ℕ → Type 0
   Chained zero at p = at ≡ p
   Chained (suc n) at p = AnyAt at × Chained n (end_at ends at) p
+
+  pub record CanMatch (k : Sort) (at : ℕ) (put : Put) : Type 0 where
+    pub ends_of : EndsOf file ends
+    pub expression : ExpressionAt k at
+    pub inside : put.to ≤ length file
 
   pub record CanMatchAny (at : ℕ) (put : Put) : Type 0 where
     pub ends_of : EndsOf file ends

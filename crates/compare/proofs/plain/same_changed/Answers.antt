@@ -10,12 +10,12 @@ same_parts-requires c =
     let p = c.requires in
     (boolean-known p.ends_of p.first, boolean-known p.ends_of p.second)
 
-pub match_expression-end-requires : goal.match_expression-end-requires
-match_expression-end-requires c =
+pub match_boolean-end-requires : goal.match_boolean-end-requires
+match_boolean-end-requires c =
     let p = c.requires in
     record {
       ends_of = p.ends_of;
-      any = record { sort = _; expression = p.second };
+      expression = p.second;
       inside = put-inside (of-replaced p.change-at c.in-Replaced.is).stands;
     }
 
@@ -33,4 +33,4 @@ pub returns-in-Replaced : goal.returns-in-Replaced
 returns-in-Replaced c =
     let p = c.requires in
     replaced-words p.first p.second c.in-Replaced.is (of-replaced p.change-at c.in-Replaced.is)
-    (came-to _ _ _ (boolean-known p.ends_of p.first) _ _ c.match_expression-end.ensures.is c.came_to_end.ensures)
+    (came-to _ _ _ (boolean-known p.ends_of p.first) _ _ c.match_boolean-end.ensures.is c.came_to_end.ensures)
