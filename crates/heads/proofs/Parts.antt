@@ -9,9 +9,7 @@
 --     expression-starts, command-starts                              as callers have them: there is a word
 --     expression-early, command-early                                at a place below 8192
 --     arithmetic-allowed, boolean-allowed, command-allowed           the word there is of its group
---     settled                                                        a word of a group is settled by its kind
 use mathlib.Core.Path.{◌≡◌, refl, sym, ap, ap₂, subst, ◌∙◌}
-use mathlib.Core.Bool.{Bool, true, false, cond}
 use mathlib.Core.List.{List, [], ◌∷◌}
 use mathlib.Core.Option.{some}
 use Prim.Native.Nat.{ℕ, ◌+◌, ◌/◌, ◌%◌, ◌<◌, ◌≤◌}
@@ -331,13 +329,3 @@ module _ {w ends : List ℕ} where
 
     pub command-allowed : CommandStands w ends at → OfGroup command_of command.Other w at
     command-allowed x = record { inside = command-starts x; of-group = λ e. command-parts x.tree x.there e }
-
-by-test : {A : Type 0} (of : ℕ → ℕ → A) {k p : ℕ} (n : ℕ) (b : Bool) {v o : A} → k ≡ n → of n p ≡ cond b v o →
-    (of k p ≡ o → ⊥) → v ≡ of k p
-by-test of {k} {p} n true e f h = sym f ∙ ap (λ x. of x p) (sym e)
-by-test of {k} {p} n false e f h = absurd (h (ap (λ x. of x p) e ∙ f))
-
--- a word of a group is settled by its kind n, which the code found: b is the test of its payload
-pub settled : {A : Type 0} {of : ℕ → ℕ → A} {o : A} {w : List ℕ} {at k : ℕ} → OfGroup of o w at → k ≡ kind_at w at → (n : ℕ) → k ≡ n →
-    (b : Bool) (v : A) → of n (payload_at w at) ≡ cond b v o → v ≡ of (kind_at w at) (payload_at w at)
-settled {of = of} x found n is b v f = by-test of n b (sym found ∙ is) f x.of-group

@@ -13,14 +13,14 @@ use words::kinds::{
 use words::{ArithmeticWord, ArrayWord, BooleanWord, CommandWord, Comparison, Operator};
 
 // The word is allowed, so its kind settles the form: but for an operator's, no payload is tested for being allowed.
+#[tactic(auto, unfolding(words::specs::Decode::arithmetic_of))]
 pub fn arithmetic_head(w: &[u32], at: usize) -> ArithmeticWord
     requires { OfGroup arithmetic_of ArithmeticWord.Other w.now «at» }
     ensures { result ≡ arithmetic_at w.now «at» }
 {
     let word = w[at];
-    let k = kind(word);
     let p = payload(word);
-    match k {
+    match kind(word) {
         CONSTANT => ArithmeticWord::Constant(constant_of(p)),
         SCALAR => ArithmeticWord::Scalar(p),
         OPERATOR => match p {
@@ -35,14 +35,14 @@ pub fn arithmetic_head(w: &[u32], at: usize) -> ArithmeticWord
 }
 
 // As for arithmetic.
+#[tactic(auto, unfolding(words::specs::Decode::boolean_of))]
 pub fn boolean_head(w: &[u32], at: usize) -> BooleanWord
     requires { OfGroup boolean_of BooleanWord.Other w.now «at» }
     ensures { result ≡ boolean_at w.now «at» }
 {
     let word = w[at];
-    let k = kind(word);
     let p = payload(word);
-    match k {
+    match kind(word) {
         COMPARISON => match p {
             0 => BooleanWord::Compare(Comparison::Equal),
             1 => BooleanWord::Compare(Comparison::Less),
@@ -68,14 +68,14 @@ pub fn array_head(w: &[u32], at: usize) -> ArrayWord
 }
 
 // As for arithmetic.
+#[tactic(auto, unfolding(words::specs::Decode::command_of))]
 pub fn command_head(w: &[u32], at: usize) -> CommandWord
     requires { OfGroup command_of CommandWord.Other w.now «at» }
     ensures { result ≡ command_at w.now «at» }
 {
     let word = w[at];
-    let k = kind(word);
     let p = payload(word);
-    match k {
+    match kind(word) {
         SKIP => CommandWord::Skip,
         SEQUENCE => CommandWord::Sequence,
         ASSERT => CommandWord::Assert,
