@@ -8,11 +8,10 @@ use mathlib.Core.Path.{◌≡◌, sym, ap, subst, ◌∙◌}
 use mathlib.Core.Bool.{Bool, true, false, false≢true, true≢false}
 use mathlib.Core.List.{List}
 use mathlib.Core.Logic.{⊎_elim}
-use Prim.Native.Nat.{ℕ, ◌+◌, ◌*◌, ◌-◌, ◌^◌, ◌<◌, ◌≤◌}
+use Prim.Native.Nat.{ℕ, suc, ◌+◌, ◌*◌, ◌-◌, ◌^◌, ◌<◌, ◌≤◌}
 use native.Mathlib.Omega.{arith}
 use Rattle.truth_table.specs.Formula.{Formula, value, bit, numbered, Small, word, Block, Spelled, Gives, Every}
-use Rattle.truth_table.specs.Formula.{GivesFour, Full}
-use Rattle.truth_table.specs.declared.Four.{Four}
+use Rattle.truth_table.specs.Formula.{FourBlocks, GivesFour, Full}
 use Rattle.truth_table.proofs.Bits.{below, bit-ones, some-zero, num, num-true, num-false, word_fits, word-bit}
 
 module _ {b : ℕ} {tb : List ℕ} (B : Block b tb) (f : Formula) {x : ℕ} (s : Small f) (e : x ≡ word tb f) where
@@ -66,22 +65,16 @@ module _ {p : List ℕ} {n : ℕ} where
     }
 
 -- ---- four blocks
-module _ {p : List ℕ} {n b : ℕ} {ta tb tc td : List ℕ} {x : Four} {r : Bool}
-    (A : Block b ta) (B : Block (b + 1) tb) (C : Block (b + 2) tc) (D : Block (b + 3) td)
-    (g : GivesFour p n ta tb tc td x) (f : Full x r) where
+module _ {p : List ℕ} {n b : ℕ} {t : List (List ℕ)} {x : List ℕ} {r : Bool}
+    (B : FourBlocks b t) (g : GivesFour p n t x) (f : Full x r) where
   pub four_more : r ≡ true → UpTo p n b → UpTo p n (b + 4)
-  four_more e u =
-      let h = f.all e in
-      to (omega arith) (upto-more D g.d h.3
-      (to (omega arith) (upto-more C g.c h.2
-      (to (omega arith) (upto-more B g.b h.1 (upto-more A g.a h.0 u))))))
+  four_more e u = to (omega arith) (next 3 (omega arith) (next 2 (omega arith) (next 1 (omega arith) (next 0 (omega arith) (to (omega arith) u)))))
     where
       to : {i j : ℕ} → i ≡ j → UpTo p n i → UpTo p n j
       to e v = subst (UpTo p n) e v
 
+      next : (j : ℕ) → j < 4 → UpTo p n (b + j) → UpTo p n (b + suc j)
+      next j l v = to (omega arith) (upto-more (B.each j l) (g.each j l) (f.all e j l) v)
+
   pub four_stuck : {c : ℕ} → r ≡ false → Every p n c false
-  four_stuck e =
-      ⊎_elim (λ h. upto-stuck A g.a h)
-      (λ k. ⊎_elim (λ h. upto-stuck B g.b h)
-      (λ k. ⊎_elim (λ h. upto-stuck C g.c h) (λ h. upto-stuck D g.d h) k) k)
-      (f.some e)
+  four_stuck e = let s = f.some e in upto-stuck (B.each s.0 s.1) (g.each s.0 s.1) s.2

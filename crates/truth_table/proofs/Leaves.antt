@@ -3,7 +3,7 @@
 -- Assumes nothing.
 --     start                                      the words before the block's number is looked at
 --     LeavesFilled, filled_start, filled_more    the words below leaf i are those of the block
---     filled_block                               all are
+--     filled_block, filled_lane                  all are; one row more
 use mathlib.Core.Path.{◌≡◌, refl, sym, ap, ap₂, ◌∙◌}
 use mathlib.Core.Bool.{Bool, true, ◌&&◌}
 use mathlib.Core.List.{List, [], ◌∷◌}
@@ -16,7 +16,8 @@ use lib.Dec.{eqb, ltb}
 use lib.ListN.{length, get_or, set, length-set}
 use lib.Seq.{get_or-set_same, get_or-set_other}
 use Rattle.laws.proofs.Bools.{and_left, and_right}
-use Rattle.truth_table.specs.Formula.{bit, Block, spread_of}
+use Rattle.truth_table.specs.Formula.{bit, lane, Block, spread_of}
+use Rattle.truth_table.proofs.Lanes.{lane-set}
 use Rattle.truth_table.proofs.Bits.{below, bit-low, bit-zero, bit-ones}
 
 abbrev start : List ℕ
@@ -108,10 +109,10 @@ pub record LeavesFilled (b : ℕ) (t : List ℕ) (rest i : ℕ) : Type 0 where
   first : (k : ℕ) → k < 6 → get_or t k 0 ≡ get_or start k 0
   last : (k : ℕ) → 16 ≤ k → get_or t k 0 ≡ get_or start k 0
 
-pub filled_start : (b : ℕ) → LeavesFilled b start b 6
-filled_start b = record {
+pub filled_start : (b rest : ℕ) → rest ≡ b → LeavesFilled b start rest 6
+filled_start b rest e = record {
   size = refl;
-  ahead = λ m. ap (bit b) (same m);
+  ahead = λ m. ap₂ bit e (same m);
   done = λ k l h. absurd (omega arith);
   first = λ k l. refl;
   last = λ k l. refl;
@@ -166,3 +167,9 @@ filled_block {b} {t} {rest} {i} h F = record {
       (below k 16))
       (below k 6);
 }
+
+-- one row more, in one lane
+pub filled_lane : (j : ℕ) (t : List (List ℕ)) (row : List ℕ) {b rest i : ℕ} → 6 ≤ i → i < 16 →
+    LeavesFilled b (lane j t) rest i → get_or row j 0 ≡ spread_of (rest % 2) →
+    LeavesFilled b (lane j (set t i row)) (rest / 2) (i + 1)
+filled_lane j t row {i = i} l h F e = rw (lane-set j t i row) (filled_more l h F e)

@@ -6,13 +6,13 @@
 --     spell, depth, Small           the bytes of a formula; its depth; each leaf has one of 16 numbers
 --     Spelled, IsFormula            bytes are a formula; and one for which the stack has room
 --     word, Block                   the word of a formula from those of its leaves; those of 64 assignments
---     CanWork                       four stacks have room for it
+--     lane, FourBlocks              the words of one block among four; those of four blocks
+--     CanWork                       a stack has room for it
 --     Ones, Full                    a word of ones; four of them
 --     Gives, GivesFour              the words that a formula gives
 --     Settles, Every                whether every assignment makes a formula true
-use Rattle.std.specs.Prelude.{◌≡◌, Bool, true, false, not, ◌&&◌, ◌||◌, List, [], ◌∷◌, ◌⊎◌, ℕ, zero, suc, ◌+◌, ◌*◌, ◌-◌, ◌/◌, ◌%◌, ◌^◌, ◌<◌, ◌≤◌, max, eqb, length, get_or, take}
+use Rattle.std.specs.Prelude.{◌≡◌, Bool, true, false, not, ◌&&◌, ◌||◌, List, [], ◌∷◌, ℕ, zero, suc, ◌+◌, ◌*◌, ◌-◌, ◌/◌, ◌%◌, ◌^◌, ◌<◌, ◌≤◌, max, eqb, length, get_or, take, map}
 use Rattle.std.specs.Int.Bits.{bit_and, bit_or}
-use Rattle.truth_table.specs.declared.Four.{Four}
 
 pub data Formula : Type 0 where
   leaf : ℕ → Formula
@@ -75,12 +75,13 @@ pub record IsFormula (p : List ℕ) (n room : ℕ) : Type 0 where
   pub within : n ≤ length p
   pub low : depth formula ≤ room
 
--- the bytes are a formula for which the four stacks have room
-pub record CanWork (p : List ℕ) (n : ℕ) (sa sb sc sd : List ℕ) : Type 0 where
-  pub formula : IsFormula p n (length sa)
-  pub b : length sb ≡ length sa
-  pub c : length sc ≡ length sa
-  pub d : length sd ≡ length sa
+-- a word of each row: those of one block
+abbrev pub lane : ℕ → List (List ℕ) → List ℕ
+lane j t = map (λ x. get_or x j 0) t
+
+-- the bytes are a formula for which the stack has room
+pub record CanWork (p : List ℕ) (n : ℕ) (stack : List (List ℕ)) : Type 0 where
+  pub formula : IsFormula p n (length stack)
 
 -- the word that a formula gives where leaf i has the word tb[i]
 unfoldable pub word : List ℕ → Formula → ℕ
@@ -97,6 +98,10 @@ pub record Block (b : ℕ) (tb : List ℕ) : Type 0 where
   pub all : get_or tb 17 0 ≡ 2 ^ 64 - 1
   pub fits : (i : ℕ) → get_or tb i 0 < 2 ^ 64
 
+-- the rows of four blocks from b on
+pub record FourBlocks (b : ℕ) (t : List (List ℕ)) : Type 0 where
+  pub each : (j : ℕ) → j < 4 → Block (b + j) (lane j t)
+
 abbrev pub spread_of : ℕ → ℕ
 spread_of zero = 0
 spread_of (suc n) = 2 ^ 64 - 1
@@ -105,18 +110,15 @@ spread_of (suc n) = 2 ^ 64 - 1
 abbrev pub Ones : ℕ → Type 0
 Ones x = x ≡ 2 ^ 64 - 1
 
-pub record Full (x : Four) (r : Bool) : Type 0 where
-  pub all : r ≡ true → Ones x.a × Ones x.b × Ones x.c × Ones x.d
-  pub some : r ≡ false → (Ones x.a → ⊥) ⊎ ((Ones x.b → ⊥) ⊎ ((Ones x.c → ⊥) ⊎ (Ones x.d → ⊥)))
+pub record Full (x : List ℕ) (r : Bool) : Type 0 where
+  pub all : r ≡ true → (j : ℕ) → j < 4 → Ones (get_or x j 0)
+  pub some : r ≡ false → (j : ℕ) × (j < 4) × (Ones (get_or x j 0) → ⊥)
 
 pub record Gives (p : List ℕ) (n : ℕ) (tb : List ℕ) (r : ℕ) : Type 0 where
   pub gives : (f : Formula) → Spelled p n f → r ≡ word tb f
 
-pub record GivesFour (p : List ℕ) (n : ℕ) (ta tb tc td : List ℕ) (r : Four) : Type 0 where
-  pub a : Gives p n ta r.a
-  pub b : Gives p n tb r.b
-  pub c : Gives p n tc r.c
-  pub d : Gives p n td r.d
+pub record GivesFour (p : List ℕ) (n : ℕ) (t : List (List ℕ)) (r : List ℕ) : Type 0 where
+  pub each : (j : ℕ) → j < 4 → Gives p n (lane j t) (get_or r j 0)
 
 -- whether every assignment makes f true: those below n were tried, and one that fails is any number
 pub record Settles (n : ℕ) (f : Formula) (r : Bool) : Type 0 where

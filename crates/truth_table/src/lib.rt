@@ -1,8 +1,8 @@
 // Formulas over at most 16 leaves, tried at 64 assignments in a word and four words a pass (document 01, "Implies").
 #![tactic(auto)]
 
-ghost use Rattle.std.specs.Prelude.{◌≡◌, ◌%◌, ◌≤◌};
-ghost use Rattle.truth_table.specs.Formula.{IsFormula, CanWork, Block, Full, GivesFour, Every, spread_of};
+ghost use Rattle.std.specs.Prelude.{◌≡◌, ◌%◌, ◌≤◌, IsTrue, ◌↔◌};
+ghost use Rattle.truth_table.specs.Formula.{IsFormula, CanWork, FourBlocks, Full, GivesFour, Every, spread_of};
 
 // The bytes of a formula above those of its leaves.
 pub const FALSE: u8 = 16;
@@ -22,151 +22,100 @@ fn spread(x: usize) -> u64
     if x % 2 == 0 { 0 } else { 18446744073709551615 }
 }
 
-// The words of the leaves in block b of 64 assignments, then those of false and true.
-fn fill(b: usize) -> [u64; 18]
-    ensures { Block b result }
+// The words of the leaves in four blocks of 64 assignments from block b on, then those of false and true: a row for each
+// leaf, a lane for each block.
+fn fill(b: usize) -> [[u64; 4]; 18]
+    requires { b ≤ 1024 }
+    ensures { FourBlocks b result }
 {
-    let mut t: [u64; 18] = [
-        12297829382473034410,
-        14757395258967641292,
-        17361641481138401520,
-        18374966859414961920,
-        18446462603027742720,
-        18446744069414584320,
-        0,
-        0,
-        0,
-        0,
-        0,
-        0,
-        0,
-        0,
-        0,
-        0,
-        0,
-        18446744073709551615,
+    let mut t: [[u64; 4]; 18] = [
+        [12297829382473034410; 4],
+        [14757395258967641292; 4],
+        [17361641481138401520; 4],
+        [18374966859414961920; 4],
+        [18446462603027742720; 4],
+        [18446744069414584320; 4],
+        [0; 4],
+        [0; 4],
+        [0; 4],
+        [0; 4],
+        [0; 4],
+        [0; 4],
+        [0; 4],
+        [0; 4],
+        [0; 4],
+        [0; 4],
+        [0; 4],
+        [18446744073709551615; 4],
     ];
-    let mut rest = b;
-    let mut i: usize = 6;
-    while i < 16 {
-        t[i] = spread(rest);
-        rest = rest / 2;
-        i += 1;
+    let mut rest = [b, b + 1, b + 2, b + 3];
+    for i in 6..16 {
+        t[i] = [
+            spread(rest[0]),
+            spread(rest[1]),
+            spread(rest[2]),
+            spread(rest[3]),
+        ];
+        rest = [rest[0] / 2, rest[1] / 2, rest[2] / 2, rest[3] / 2];
     }
     t
 }
 
-// The words of four blocks.
-#[derive(Clone, Copy)]
-struct Four {
-    a: u64,
-    b: u64,
-    c: u64,
-    d: u64,
-}
-
 // Whether each of the four words is all ones.
-fn full(x: Four) -> bool
+fn full(x: [u64; 4]) -> bool
     ensures { Full x result }
 {
-    if x.a != 18446744073709551615 {
-        return false;
-    }
-    if x.b != 18446744073709551615 {
-        return false;
-    }
-    if x.c != 18446744073709551615 {
-        return false;
-    }
-    x.d == 18446744073709551615
+    x.iter().all(|word| *word == 18446744073709551615)
 }
 
 // The words that the formula of the first len bytes gives in four blocks at once, from its last byte to its first.
-fn block(
-    prog: &[u8],
-    len: usize,
-    la: &[u64; 18],
-    lb: &[u64; 18],
-    lc: &[u64; 18],
-    ld: &[u64; 18],
-    sa: &mut [u64],
-    sb: &mut [u64],
-    sc: &mut [u64],
-    sd: &mut [u64],
-) -> Four
-    requires { CanWork prog.now len sa.old sb.old sc.old sd.old }
-    ensures { GivesFour prog.now len
-        la.now lb.now lc.now ld.now result }
+fn block(prog: &[u8], len: usize, leaves: &[[u64; 4]; 18], stack: &mut [[u64; 4]]) -> [u64; 4]
+    requires { CanWork prog.now len stack.old }
+    ensures { GivesFour prog.now len leaves.now result }
 {
     let mut top: usize = 0;
-    let mut a: u64 = 0;
-    let mut b: u64 = 0;
-    let mut c: u64 = 0;
-    let mut d: u64 = 0;
-    let mut i = len;
-    while 0 < i {
-        i -= 1;
+    let mut word = [0u64; 4];
+    for i in (0..len).rev() {
         let op = prog[i];
-        if op < 18 {
-            sa[top] = a;
-            sb[top] = b;
-            sc[top] = c;
-            sd[top] = d;
+        if op < AND {
+            stack[top] = word;
             top += 1;
-            let leaf = op as usize;
-            a = la[leaf];
-            b = lb[leaf];
-            c = lc[leaf];
-            d = ld[leaf];
-            continue;
+            word = leaves[op as usize];
+        } else if op == NOT {
+            word = [!word[0], !word[1], !word[2], !word[3]];
+        } else {
+            top -= 1;
+            let below = stack[top];
+            word = if op == AND {
+                [
+                    word[0] & below[0],
+                    word[1] & below[1],
+                    word[2] & below[2],
+                    word[3] & below[3],
+                ]
+            } else {
+                [
+                    word[0] | below[0],
+                    word[1] | below[1],
+                    word[2] | below[2],
+                    word[3] | below[3],
+                ]
+            };
         }
-        if op == 20 {
-            a = !a;
-            b = !b;
-            c = !c;
-            d = !d;
-            continue;
-        }
-        top -= 1;
-        if op == 18 {
-            a = a & sa[top];
-            b = b & sb[top];
-            c = c & sc[top];
-            d = d & sd[top];
-            continue;
-        }
-        a = a | sa[top];
-        b = b | sb[top];
-        c = c | sc[top];
-        d = d | sd[top];
     }
-    Four { a, b, c, d }
+    word
 }
 
-// The same as `every`, with stacks that are lent.
-fn every_block(
-    prog: &[u8],
-    len: usize,
-    blocks: usize,
-    sa: &mut [u64],
-    sb: &mut [u64],
-    sc: &mut [u64],
-    sd: &mut [u64],
-) -> bool
-    requires { CanWork prog.now len sa.old sb.old sc.old sd.old × (blocks ≤ 1024) }
+// The same as `every`, for a formula for which a stack of so many words has room.
+fn every_within<const ROOM: usize>(prog: &[u8], len: usize, blocks: usize) -> bool
+    requires { IsFormula prog.now len ROOM × (ROOM ≤ 260) × (blocks ≤ 1024) }
     ensures { Every prog.now len blocks result }
 {
-    let mut b: usize = 0;
-    while b < blocks {
-        let la = fill(b);
-        let lb = fill(b + 1);
-        let lc = fill(b + 2);
-        let ld = fill(b + 3);
-        let x = block(prog, len, &la, &lb, &lc, &ld, sa, sb, sc, sd);
-        if !full(x) {
+    let mut stack = [[0u64; 4]; ROOM];
+    for b in (0..blocks).step_by(4) {
+        if !full(block(prog, len, &fill(b), &mut stack)) {
             return false;
         }
-        b += 4;
     }
     true
 }
@@ -178,15 +127,8 @@ pub fn every(prog: &[u8], len: usize, blocks: usize) -> bool
 {
     // Most formulas are short, and few words are to be cleared for them.
     if len <= 32 {
-        let mut sa = [0u64; 32];
-        let mut sb = [0u64; 32];
-        let mut sc = [0u64; 32];
-        let mut sd = [0u64; 32];
-        return every_block(prog, len, blocks, &mut sa, &mut sb, &mut sc, &mut sd);
+        every_within::<32>(prog, len, blocks)
+    } else {
+        every_within::<260>(prog, len, blocks)
     }
-    let mut sa = [0u64; 260];
-    let mut sb = [0u64; 260];
-    let mut sc = [0u64; 260];
-    let mut sd = [0u64; 260];
-    every_block(prog, len, blocks, &mut sa, &mut sb, &mut sc, &mut sd)
 }
