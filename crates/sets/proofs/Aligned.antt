@@ -6,7 +6,7 @@
 --     seen_start .. pile-on                            seen members and written ones; piles and written members
 --     parted_is, part_one, of-pile_one, of-pile_set    the first members; one member; by pile
 --     aligned_is                                       all of both lists
---     same_all-matches, same-found, same_not, same-last two lists with the same elements
+--     same_all-matches, same-found                     two lists with the same elements
 use mathlib.Core.Path.{◌≡◌, refl, sym, ap, ap₂, subst, ◌∙◌}
 use mathlib.Core.Bool.{Bool, true, false, ◌||◌}
 use mathlib.Core.List.{List, [], ◌∷◌, ◌++◌, map, append_assoc, append-nil}
@@ -216,12 +216,3 @@ module _ (file ends : List ℕ) (p : ℕ) (piles : List Pile) {k at : ℕ} (e : 
 
   pub same-found : {b : Bool} → Aligned file ends k at piles b → b ≡ true → true ≡ same_all (written_set file ends p) all
   same-found a h = same_all-matches (written_set file ends p) all (subst (λ l. Matches l all) set_is (a.does h))
-
-  module _ {b : Bool} (s : b ≡ within_all (written file ends k at) all) where
-    pub same_not : b ≡ false → false ≡ same_all (written_set file ends p) all
-    same_not h = rw (ap (λ l. within_all l all) (sym set_is) ∙ sym s, h)
-
-    pub same-last : {r : Bool} → b ≡ true → r ≡ within_all all (written file ends k at) →
-        r ≡ same_all (written_set file ends p) all
-    same-last h g =
-        rw (ap (λ l. within_all l all) (sym set_is) ∙ sym s, h) (g ∙ ap (within_all all) set_is)

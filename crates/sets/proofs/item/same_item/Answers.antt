@@ -19,11 +19,6 @@ pub returns-then-not-same_consequent : goal.returns-then-not-same_consequent
 returns-then-not-same_consequent c =
     item-not _ _ _ _ _ c.end_at-middle.ensures c.same_consequent.ensures c.if-not-same_consequent.true
 
-pub same_antecedent-requires : goal.same_antecedent-requires
-same_antecedent-requires c =
-    let p = c.requires in
-    record { ends_of = p.ends_of; whole = p.member.antecedent; form-at = p.item-at.antecedent-at }
-
 pub returns : goal.returns
 returns c =
     item-so _ _ _ _ _ c.end_at-middle.ensures c.same_consequent.ensures c.if-not-same_consequent.false

@@ -18,6 +18,3 @@ same_item-requires c = see c.requires c.seen_item.ensures
 
 pub returns-in-AsWritten : goal.returns-in-AsWritten
 returns-in-AsWritten c = same-as _ _ (item-written _ _ _ _ c.end_at.ensures c.in-AsWritten.is) _ c.same_pair.ensures
-
-pub returns-in_default : goal.returns-in_default
-returns-in_default c = same-as _ _ c.seen_item.ensures _ c.same_item.ensures
