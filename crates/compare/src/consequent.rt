@@ -1,6 +1,5 @@
 ghost use Rattle.std.specs.Prelude.{◌≡◌};
 ghost use Rattle.matching.specs.Matching.{same_numbers};
-ghost use Rattle.ends.specs.Places.{PartKnown};
 ghost use Rattle.matching.specs.Places.{part};
 ghost use Rattle.compare.specs.Forms.{consequent_numbers, CanConsequent};
 
@@ -13,14 +12,6 @@ use matching::part::{came_to_end, same_parts};
 pub enum Consequent {
     Written(usize),
     Replaced(usize, Put),
-}
-
-// Whether the written consequents at f and g are the same, by words.
-pub fn same_consequents(w: &[u32], ends: &[u32], f: usize, g: usize) -> bool
-    requires { PartKnown w.now ends.now f × PartKnown w.now ends.now g }
-    ensures { result ≡ same_numbers (part w.now ends.now f) (part w.now ends.now g) }
-{
-    same_parts(w, ends, f, g)
 }
 
 // Whether the written consequent at `at` is the same as the one that a rule forms, by words.

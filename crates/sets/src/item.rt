@@ -6,7 +6,7 @@ ghost use Rattle.sets.specs.Items.{past_member};
 ghost use Rattle.sets.specs.Standing.{CanPass, CanCompare, CanSee};
 
 use compare::antecedent::{Antecedent, same_antecedent};
-use compare::consequent::{Consequent, same_consequent, same_consequents};
+use compare::consequent::{Consequent, same_consequent};
 use compare::plain::same_booleans;
 use ends::end_at;
 use matching::cursor::Put;
@@ -96,7 +96,7 @@ pub fn same_pair(w: &[u32], ends: &[u32], at: usize, f: usize, b: usize) -> bool
         (item_halves w.now ends.now (pair_item f b)) }
 {
     let middle = end_at(ends, at);
-    if !same_consequents(w, ends, middle, b) {
+    if !same_parts(w, ends, middle, b) {
         return false;
     }
     same_booleans(w, ends, at, f)
@@ -109,7 +109,7 @@ pub fn same_words(w: &[u32], ends: &[u32], at: usize, a: usize) -> bool
         (written_halves w.now ends.now a) }
 {
     let middle = end_at(ends, at);
-    if !same_consequents(w, ends, middle, end_at(ends, a)) {
+    if !same_parts(w, ends, middle, end_at(ends, a)) {
         return false;
     }
     same_parts(w, ends, at, a)
