@@ -11,7 +11,8 @@ use context::{Context, Refusal};
 use ends::blocks::fill_blocks;
 use ends::mask::has_bit;
 use ends::mend::mend_ends;
-use ends::{end_at, end_or_zero, fill_ends};
+use ends::procedures::start_at;
+use ends::{end_or_zero, fill_ends};
 use reader::Places;
 use scan::for_mask::Fors;
 use scan::programs::{fill_masks, procedure_count};
@@ -88,10 +89,8 @@ pub fn stays(w: &[u32], table: &[u32], from: usize, to: usize, same: bool) -> bo
     requires { CanBlock w.now table.now }
     ensures { Stays w.now table.now from to same result }
 {
-    let n = w.len();
-    let starts = n + 2 * (n / 32);
     for i in 0..procedure_count(w) {
-        let start = end_at(table, starts + i);
+        let start = start_at(w, table, i);
         let past = end_or_zero(table, start);
         if may_change(start, past, from, to, same) {
             return false;

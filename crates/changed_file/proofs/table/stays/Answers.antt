@@ -4,8 +4,5 @@ use native.Mathlib.Omega.{arith}
 use Rattle.scan.proofs.ProcedureMasks.{count_most}
 use Rattle.changed_file.proofs.table.stays.Goals as goal
 
-pub overflow_add-starts-in-loop-i : goal.overflow_add-starts-in-loop-i
-overflow_add-starts-in-loop-i c = omega (arith, c.procedure_count-i-end.ensures, c.requires.room, count_most c.args.w.now)
-
-pub end_at-start-requires : goal.end_at-start-requires
-end_at-start-requires c = omega (arith, c.procedure_count-i-end.ensures, c.requires.room, count_most c.args.w.now)
+pub start_at-start-requires : goal.start_at-start-requires
+start_at-start-requires c = omega (arith, c.procedure_count-i-end.ensures, c.requires.room, count_most c.args.w.now)
