@@ -10,6 +10,13 @@ use file::read_calls;
 use reader::Places;
 use words::load::load;
 
+// The bytes of a new command, and the place from which its words are put.
+#[derive(Clone, Copy)]
+pub struct NewCommand<'a> {
+    pub place: usize,
+    pub bytes: &'a [u8],
+}
+
 // The places of a file that refusals 2 to 6 and 16 let pass, and whether they are known to let the changed words pass too.
 #[derive(Clone, Copy)]
 pub struct Walked {
@@ -51,14 +58,13 @@ fn walk_back(
     table: &mut [u32],
     context: Context,
     file: &[u8],
-    place: usize,
-    new: &[u8],
+    new: &NewCommand,
 ) -> Result<Walked, Refusal>
-    requires { NewLoaded file.now place new.now words.old table.old }
-    ensures { WalkedFirst context file.now place new.now result words.new table.new }
+    requires { NewLoaded file.now new.now.place new.now.bytes.now words.old table.old }
+    ensures { WalkedFirst context file.now new.now.place new.now.bytes.now result words.new table.new }
 {
-    let to = place + new.len() / 4;
-    put_back(words, file, place, to);
+    let to = new.place + new.bytes.len() / 4;
+    put_back(words, file, new.place, to);
     walk_file(words, table, context, file)
 }
 
@@ -89,17 +95,16 @@ fn walk_new(
     table: &mut [u32],
     context: Context,
     file: &[u8],
-    place: usize,
-    new: &[u8],
+    new: &NewCommand,
     extent: Extent,
 ) -> Result<Walked, Refusal>
-    requires { NewRead context file.now place new.now words.old table.old extent }
-    ensures { WalkedFirst context file.now place new.now result words.new table.new }
+    requires { NewRead context file.now new.now.place new.now.bytes.now words.old table.old extent }
+    ensures { WalkedFirst context file.now new.now.place new.now.bytes.now result words.new table.new }
 {
     let n = file.len() / 4;
-    let to = place + new.len() / 4;
+    let to = new.place + new.bytes.len() / 4;
     let changed = read_calls(&words[..n], table, context);
-    put_back(words, file, place, to);
+    put_back(words, file, new.place, to);
     match changed {
         Ok(places) => {
             walk_old(
@@ -108,7 +113,7 @@ fn walk_new(
                 context,
                 file,
                 places,
-                place,
+                new.place,
                 to,
                 extent.levels,
             )
@@ -123,23 +128,22 @@ fn walk_changed(
     table: &mut [u32],
     context: Context,
     file: &[u8],
-    place: usize,
-    new: &[u8],
+    new: &NewCommand,
     old: usize,
 ) -> Result<Walked, Refusal>
-    requires { NewLoaded file.now place new.now words.old table.old }
-    ensures { WalkedFirst context file.now place new.now result words.new table.new }
+    requires { NewLoaded file.now new.now.place new.now.bytes.now words.old table.old }
+    ensures { WalkedFirst context file.now new.now.place new.now.bytes.now result words.new table.new }
 {
     let n = file.len() / 4;
-    let to = place + new.len() / 4;
-    let extent = extent_at(&words[..n], place, context.depth);
+    let to = new.place + new.bytes.len() / 4;
+    let extent = extent_at(&words[..n], new.place, context.depth);
     if extent.levels <= old {
-        return walk_back(words, table, context, file, place, new);
+        return walk_back(words, table, context, file, new);
     }
-    if !is_read_to(&words[..n], place, to, context.depth) {
-        return walk_back(words, table, context, file, place, new);
+    if !is_read_to(&words[..n], new.place, to, context.depth) {
+        return walk_back(words, table, context, file, new);
     }
-    walk_new(words, table, context, file, place, new, extent)
+    walk_new(words, table, context, file, new, extent)
 }
 
 // Refusals 2 to 6 and 16 of a file whose words are loaded. Where the new command takes more levels than the old one, the changed words are
@@ -149,20 +153,19 @@ pub fn walk_first(
     table: &mut [u32],
     context: Context,
     file: &[u8],
-    place: usize,
-    new: &[u8],
+    new: &NewCommand,
 ) -> Result<Walked, Refusal>
     requires { CanWalk file.now words.old table.old }
-    ensures { WalkedFirst context file.now place new.now result words.new table.new }
+    ensures { WalkedFirst context file.now new.now.place new.now.bytes.now result words.new table.new }
 {
     let n = file.len() / 4;
-    if n <= place {
+    if n <= new.place {
         return walk_file(words, table, context, file);
     }
-    if n - place < new.len() / 4 {
+    if n - new.place < new.bytes.len() / 4 {
         return walk_file(words, table, context, file);
     }
-    let extent = extent_at(&words[..n], place, context.depth);
-    load(new, &mut words[place..]);
-    walk_changed(words, table, context, file, place, new, extent.levels)
+    let extent = extent_at(&words[..n], new.place, context.depth);
+    load(new.bytes, &mut words[new.place..]);
+    walk_changed(words, table, context, file, new, extent.levels)
 }

@@ -24,7 +24,7 @@ use replacement::refused;
 use scan::for_mask::{Fors, find_fors};
 use splice::copy::copy;
 use splice::simple::{is_read_to, is_simple_to};
-use splice::walk::{Walked, walk_first};
+use splice::walk::{NewCommand, Walked, walk_first};
 use words::load::{bad_length, load};
 
 // The changed file was read: masks and file are changed.
@@ -34,14 +34,13 @@ fn finish(
     context: Context,
     file: &mut [u8],
     masks: &mut [u64],
-    place: usize,
-    new: &[u8],
+    new: &NewCommand,
 ) -> Result<(), Refusal>
-    requires { CanFinish (limits_of context) file.old (length masks.old) place new.now w.now table.now }
-    ensures { PutDone (limits_of context) file.old masks.old place new.now result file.new masks.new }
+    requires { CanFinish (limits_of context) file.old (length masks.old) new.now.place new.now.bytes.now w.now table.now }
+    ensures { PutDone (limits_of context) file.old masks.old new.now.place new.now.bytes.now result file.new masks.new }
 {
     fill(w, table, masks);
-    copy(new, file, 4 * place);
+    copy(new.bytes, file, 4 * new.place);
     Ok(())
 }
 
@@ -53,14 +52,13 @@ fn settle(
     layout: Result<Places, Refusal>,
     file: &mut [u8],
     masks: &mut [u64],
-    place: usize,
-    new: &[u8],
+    new: &NewCommand,
 ) -> Result<(), Refusal>
-    requires { CanSettle context file.old (length masks.old) place new.now w.now table.now layout }
-    ensures { PutDone (limits_of context) file.old masks.old place new.now result file.new masks.new }
+    requires { CanSettle context file.old (length masks.old) new.now.place new.now.bytes.now w.now table.now layout }
+    ensures { PutDone (limits_of context) file.old masks.old new.now.place new.now.bytes.now result file.new masks.new }
 {
     match layout {
-        Ok(_) => finish(w, table, context, file, masks, place, new),
+        Ok(_) => finish(w, table, context, file, masks, new),
         Err(_) => refused(18),
     }
 }
@@ -75,23 +73,22 @@ fn change(
     old: Old,
     file: &mut [u8],
     masks: &mut [u64],
-    place: usize,
-    new: &[u8],
+    new: &NewCommand,
 ) -> Result<(), Refusal>
-    requires { CanChange (limits_of context) file.old (length masks.old) place new.now w.now table.old
-        × ChangedKnown context w.now places table.old place (place + length new.now / 4) old }
-    ensures { PutDone (limits_of context) file.old masks.old place new.now result file.new masks.new }
+    requires { CanChange (limits_of context) file.old (length masks.old) new.now.place new.now.bytes.now w.now table.old
+        × ChangedKnown context w.now places table.old new.now.place (new.now.place + length new.now.bytes.now / 4) old }
+    ensures { PutDone (limits_of context) file.old masks.old new.now.place new.now.bytes.now result file.new masks.new }
 {
-    let to = place + new.len() / 4;
-    if is_known(w, place, to, old) {
-        let layout = read_mended(w, table, context, places, place, to, old);
-        return settle(w, table, context, layout, file, masks, place, new);
+    let to = new.place + new.bytes.len() / 4;
+    if is_known(w, new.place, to, old) {
+        let layout = read_mended(w, table, context, places, new.place, to, old);
+        return settle(w, table, context, layout, file, masks, new);
     }
-    if !is_read_to(w, place, to, context.depth) {
+    if !is_read_to(w, new.place, to, context.depth) {
         return refused(18);
     }
     let layout = read_table(w, table, context);
-    settle(w, table, context, layout, file, masks, place, new)
+    settle(w, table, context, layout, file, masks, new)
 }
 
 // The file was read: the old command has to be one, as long as the new bytes.
@@ -103,25 +100,24 @@ fn replace(
     fors: Fors,
     file: &mut [u8],
     masks: &mut [u64],
-    place: usize,
-    new: &[u8],
+    new: &NewCommand,
 ) -> Result<(), Refusal>
-    requires { CanReplace context file.old (length masks.old) place new.now words.old table.old walked.places walked.both fors }
-    ensures { PutDone (limits_of context) file.old masks.old place new.now result file.new masks.new }
+    requires { CanReplace context file.old (length masks.old) new.now.place new.now.bytes.now words.old table.old walked.places walked.both fors }
+    ensures { PutDone (limits_of context) file.old masks.old new.now.place new.now.bytes.now result file.new masks.new }
 {
     let n = file.len() / 4;
-    if n <= place {
+    if n <= new.place {
         return refused(18);
     }
-    if new.len() % 4 != 0 {
+    if new.bytes.len() % 4 != 0 {
         return refused(18);
     }
-    let to = place + new.len() / 4;
-    if !is_simple_to(&words[..n], table, place, to) {
+    let to = new.place + new.bytes.len() / 4;
+    if !is_simple_to(&words[..n], table, new.place, to) {
         return refused(18);
     }
-    let old = old_at(&words[..n], place, context.depth, walked.both, fors);
-    load(new, &mut words[place..]);
+    let old = old_at(&words[..n], new.place, context.depth, walked.both, fors);
+    load(new.bytes, &mut words[new.place..]);
     change(
         &words[..n],
         table,
@@ -130,7 +126,6 @@ fn replace(
         old,
         file,
         masks,
-        place,
         new,
     )
 }
@@ -143,17 +138,16 @@ fn put_called(
     walked: Walked,
     file: &mut [u8],
     masks: &mut [u64],
-    place: usize,
-    new: &[u8],
+    new: &NewCommand,
 ) -> Result<(), Refusal>
-    requires { CanRead context file.old (length masks.old) place new.now words.old table.old walked.places walked.both }
-    ensures { PutDone (limits_of context) file.old masks.old place new.now result file.new masks.new }
+    requires { CanRead context file.old (length masks.old) new.now.place new.now.bytes.now words.old table.old walked.places walked.both }
+    ensures { PutDone (limits_of context) file.old masks.old new.now.place new.now.bytes.now result file.new masks.new }
 {
     let n = file.len() / 4;
     fill_marked(&words[..n], table, context, walked.places);
     let fors = find_fors(&words[..n], table);
     read_marked(&words[..n], table, context, walked.places, fors)?;
-    replace(words, table, context, walked, fors, file, masks, place, new)
+    replace(words, table, context, walked, fors, file, masks, new)
 }
 
 // Refusals 1, 2, 17, 3 to 7 and 16, and then 18, with room for the file's words and their table.
@@ -163,11 +157,10 @@ fn put_in(
     context: Context,
     file: &mut [u8],
     masks: &mut [u64],
-    place: usize,
-    new: &[u8],
+    new: &NewCommand,
 ) -> Result<(), Refusal>
     requires { CanLoad file.old words.old table.old × Settable context }
-    ensures { PutDone (limits_of context) file.old masks.old place new.now result file.new masks.new }
+    ensures { PutDone (limits_of context) file.old masks.old new.now.place new.now.bytes.now result file.new masks.new }
 {
     if few_numbers(file, masks.len()) {
         return refused(17);
@@ -176,8 +169,8 @@ fn put_in(
         return refused(1);
     }
     load(file, words);
-    let walked = walk_first(words, table, context, file, place, new)?;
-    put_called(words, table, context, walked, file, masks, place, new)
+    let walked = walk_first(words, table, context, file, new)?;
+    put_called(words, table, context, walked, file, masks, new)
 }
 
 // The same in room for so many words and for so many numbers of their table, at most those for 8,192 words.
@@ -185,18 +178,17 @@ fn put_sized<const WORDS: usize, const TABLE: usize>(
     context: Context,
     file: &mut [u8],
     masks: &mut [u64],
-    place: usize,
-    new: &[u8],
+    new: &NewCommand,
 ) -> Result<(), Refusal>
     requires fits { bad_length file.old ≡ false → length file.old ≤ 4 * WORDS }
     requires wide { WORDS + 2 * (WORDS / 32) + 49 ≤ TABLE }
     requires small { TABLE ≤ 8753 }
     requires settable { Settable context }
-    ensures { PutDone (limits_of context) file.old masks.old place new.now result file.new masks.new }
+    ensures { PutDone (limits_of context) file.old masks.old new.now.place new.now.bytes.now result file.new masks.new }
 {
     let mut words = [0u32; WORDS];
     let mut table = [0u32; TABLE];
-    put_in(&mut words, &mut table, context, file, masks, place, new)
+    put_in(&mut words, &mut table, context, file, masks, new)
 }
 
 // The same in room by the size of the file. Clearing room for 8,192 words would be most of a small file's cost, so a file gets the least of
@@ -205,19 +197,18 @@ fn put_by_size(
     context: Context,
     file: &mut [u8],
     masks: &mut [u64],
-    place: usize,
-    new: &[u8],
+    new: &NewCommand,
 ) -> Result<(), Refusal>
     requires { Settable context }
-    ensures { PutDone (limits_of context) file.old masks.old place new.now result file.new masks.new }
+    ensures { PutDone (limits_of context) file.old masks.old new.now.place new.now.bytes.now result file.new masks.new }
 {
     match file.len() {
-        0..=1024 => put_sized::<256, 321>(context, file, masks, place, new),
-        1025..=2048 => put_sized::<512, 593>(context, file, masks, place, new),
-        2049..=4096 => put_sized::<1024, 1137>(context, file, masks, place, new),
-        4097..=8192 => put_sized::<2048, 2225>(context, file, masks, place, new),
-        8193..=16384 => put_sized::<4096, 4401>(context, file, masks, place, new),
-        _ => put_sized::<8192, 8753>(context, file, masks, place, new),
+        0..=1024 => put_sized::<256, 321>(context, file, masks, new),
+        1025..=2048 => put_sized::<512, 593>(context, file, masks, new),
+        2049..=4096 => put_sized::<1024, 1137>(context, file, masks, new),
+        4097..=8192 => put_sized::<2048, 2225>(context, file, masks, new),
+        8193..=16384 => put_sized::<4096, 4401>(context, file, masks, new),
+        _ => put_sized::<8192, 8753>(context, file, masks, new),
     }
 }
 
@@ -235,5 +226,10 @@ pub fn put(
     if !are_within_ranges(settings) {
         return refused(19);
     }
-    put_by_size(context_under(settings), file, masks, place, new)
+    put_by_size(
+        context_under(settings),
+        file,
+        masks,
+        &NewCommand { place, bytes: new },
+    )
 }

@@ -4,8 +4,8 @@ use native.Mathlib.Omega.{arith}
 use Rattle.replacement.proofs.Puts.{word_count, ends-here, replace-past, replace-part, replace-not, can-change, changed-count, changed-known}
 use Rattle.workbench.proofs.replace.Goals as goal
 
-pub returns-then-n-place : goal.returns-then-n-place
-returns-then-n-place c = replace-past c.args.masks.now c.requires c.if-n-place.true c.refused.ensures
+pub returns-then-n-new : goal.returns-then-n-new
+returns-then-n-new c = replace-past c.args.masks.now c.requires c.if-n-new.true c.refused.ensures
 
 pub returns-then-new-ne0 : goal.returns-then-new-ne0
 returns-then-new-ne0 c = replace-part c.args.masks.now c.requires c.if-new-ne0.true c.refused-then-new-ne0.ensures
@@ -31,7 +31,7 @@ pub slice_bounds-old_at-end-2 : goal.slice_bounds-old_at-end-2
 slice_bounds-old_at-end-2 c = word_count c.args.masks.now c.requires
 
 pub old_at-old-requires : goal.old_at-old-requires
-old_at-old-requires c = omega (arith, c.if-n-place.false, word_count c.args.masks.now c.requires)
+old_at-old-requires c = omega (arith, c.if-n-new.false, word_count c.args.masks.now c.requires)
 
 pub slice_bounds-change-end-2 : goal.slice_bounds-change-end-2
 slice_bounds-change-end-2 c =

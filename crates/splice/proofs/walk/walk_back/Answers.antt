@@ -11,4 +11,4 @@ pub walk_file-requires : goal.walk_file-requires
 walk_file-requires c = can-walk c.requires c.put_back.ensures c.words-1.given refl
 
 pub returns : goal.returns
-returns c = file-first c.args.place c.args.new.now c.put_back.ensures c.walk_file.ensures
+returns c = file-first c.args.new.now.place c.args.new.now.bytes.now c.put_back.ensures c.walk_file.ensures

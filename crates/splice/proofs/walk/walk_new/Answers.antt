@@ -24,4 +24,4 @@ pub returns-in-Ok : goal.returns-in-Ok
 returns-in-Ok c = old-walked c.requires c.read_calls-changed.ensures c.in-Ok.is c.put_back.ensures c.walk_old.ensures
 
 pub returns-in-Err : goal.returns-in-Err
-returns-in-Err c = file-first c.args.place c.args.new.now c.put_back.ensures c.walk_file.ensures
+returns-in-Err c = file-first c.args.new.now.place c.args.new.now.bytes.now c.put_back.ensures c.walk_file.ensures
