@@ -56,15 +56,15 @@ pub fn start_from(w: &[u32], ends: &[u32], f: usize, other: usize) -> usize
     ensures { StartOf w.now ends.now f other result }
 {
     let mut at = f;
+    // stays a `while`, since it counts nothing: the words and their ends say where each turn goes on
     while w[at] == AND_WORD {
         let second = end_at(ends, at + 1);
         if second <= other {
             at = second;
-        } else {
-            if !is_true(w, ends, second) {
-                return at;
-            }
+        } else if is_true(w, ends, second) {
             at += 1;
+        } else {
+            return at;
         }
     }
     at

@@ -57,15 +57,15 @@ is_true-requires c =
     let d = c.loop-at.invariant in
     can-true p.ends_of (second-boolean p.ends_of p.other d c.loop-at-test.true c.end_at-second.ensures)
 
-pub returns-then-not-is_true : goal.returns-then-not-is_true
-returns-then-not-is_true c =
+pub returns-else-is_true : goal.returns-else-is_true
+returns-else-is_true c =
     let p = c.requires in
     let d = c.loop-at.invariant in
     and-settled p.ends_of p.other d c.loop-at-test.true c.end_at-second.ensures
-    c.if-second-other.false c.is_true.ensures c.if-not-is_true.true
+    c.if-second-other.false c.is_true.ensures c.if-is_true.false
 
-pub overflow_add-at-else-second-other : goal.overflow_add-at-else-second-other
-overflow_add-at-else-second-other c =
+pub overflow_add-at-then-is_true : goal.overflow_add-at-then-is_true
+overflow_add-at-then-is_true c =
     let p = c.requires in
     let d = c.loop-at.invariant in
     let i = place_inside p.ends_of p.other d in
@@ -83,7 +83,7 @@ loop-at-preserved c =
     let p = c.requires in
     let d = c.loop-at.invariant in
     right-dropped p.ends_of p.other d c.loop-at-test.true c.end_at-second.ensures
-    c.if-second-other.false c.is_true.ensures c.if-not-is_true.false
+    c.if-second-other.false c.is_true.ensures c.if-is_true.true
 
 pub returns : goal.returns
 returns c =
