@@ -5,7 +5,7 @@ pub mod settings; // settings.rt: limits as settings
 
 // The context: the most comparisons of an implication, the most depth, the most members of a set (document 01, "Limits"); and
 // how many procedures of the file may be called (document 02, request [3]), 0 while it is read.
-#[derive(Clone, Copy)]
+#[derive(Clone, Copy, Debug, PartialEq, Eq)]
 pub struct Context {
     pub comparisons: usize,
     pub depth: usize,

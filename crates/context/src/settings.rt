@@ -7,7 +7,7 @@ ghost use Rattle.context.specs.Contexts.{limits_of};
 use super::Context;
 
 // The most comparisons of an implication, the most depth, the most members of a set.
-#[derive(Clone, Copy)]
+#[derive(Clone, Copy, Debug, PartialEq, Eq)]
 pub struct Settings {
     pub comparisons: usize,
     pub depth: usize,
@@ -15,6 +15,7 @@ pub struct Settings {
 }
 
 // Document 01's limits, which the calls that take no settings keep.
+#[tactic(auto, unfolding(rules::specs::Context::standard))]
 pub fn standard_settings() -> Settings
     ensures { limits_given result ≡ standard }
 {
@@ -26,19 +27,11 @@ pub fn standard_settings() -> Settings
 }
 
 // Whether each is in its range; else 19 is due.
+#[tactic(auto, unfolding(rules::specs::Context::within_ranges))]
 pub fn are_within_ranges(settings: Settings) -> bool
     ensures { result ≡ within_ranges (limits_given settings) }
 {
-    if 16 < settings.comparisons {
-        return false;
-    }
-    if settings.depth < 1 {
-        return false;
-    }
-    if 256 < settings.depth {
-        return false;
-    }
-    settings.members <= 128
+    settings.comparisons <= 16 && (1..=256).contains(&settings.depth) && settings.members <= 128
 }
 
 // What a file is read under: no procedure may be called yet.
