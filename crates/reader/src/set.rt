@@ -16,19 +16,11 @@ use words::kinds::SET;
 fn sort_of(kind: u32) -> Sort
     ensures { sort_meant result ≡ sort_of kind }
 {
-    if kind < 8 {
-        return Sort::Arithmetic;
+    match kind {
+        8..=12 => Sort::Boolean,
+        16..=18 => Sort::Array,
+        _ => Sort::Arithmetic,
     }
-    if kind <= 12 {
-        return Sort::Boolean;
-    }
-    if kind < 16 {
-        return Sort::Arithmetic;
-    }
-    if kind <= 18 {
-        return Sort::Array;
-    }
-    Sort::Arithmetic
 }
 
 // The sort of an expression by its first word.

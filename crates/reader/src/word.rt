@@ -10,11 +10,7 @@ use context::Refusal;
 pub fn kind_at(w: &[u32], at: usize) -> u32
     ensures { result ≡ kind_at w.now at }
 {
-    if at < w.len() {
-        words::decode::kind(w[at])
-    } else {
-        0
-    }
+    w.get(at).map_or(0, |word| words::decode::kind(*word))
 }
 
 // Refusal 3, the file ends, comes before refusal 4, no level is left.
