@@ -15,20 +15,11 @@ loop-at-init c =
     let table = c.args.table.now in
     (passed.inside (omega arith), sym (first-passed _ (wrong_at _ table) (λ i h. sym (wrong_other _ table i h)) (omega arith) passed) ∙ first-start _ _)
 
-pub wrong_at-requires : goal.wrong_at-requires
-wrong_at-requires c = (c.requires, c.loop-at-test.true)
-
 pub returns-then-wrong_at : goal.returns-then-wrong_at
 returns-then-wrong_at c =
     ap fault_place
     (sym (first-here _ _ _ c.loop-at-test.true (sym c.wrong_at.ensures ∙ c.if-wrong_at.true))
     ∙ c.loop-at.invariant.1)
-
-pub overflow_add-at : goal.overflow_add-at
-overflow_add-at c = omega (arith, c.loop-at-test.true)
-
-pub loop-at-smaller : goal.loop-at-smaller
-loop-at-smaller c = omega (arith, c.loop-at-test.true, c.pass-at-in-loop-at.ensures.onward)
 
 pub loop-at-preserved : goal.loop-at-preserved
 loop-at-preserved c =
