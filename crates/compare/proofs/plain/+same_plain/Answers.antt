@@ -7,22 +7,11 @@ use Rattle.compare.proofs.PlainForms.{comparisons-at, first-parts, second_parts,
 use Rattle.compare.proofs.Formed.{can-true}
 use Rattle.compare.proofs.plain.+same_plain.Goals as goal
 
-pub start_from-a-requires : goal.start_from-a-requires
-start_from-a-requires t c =
-    let p = c.requires in
-    record { ends_of = p.two.ends_of; whole = p.two.first; other = p.first-other }
-
-pub start_from-b-requires : goal.start_from-b-requires
-start_from-b-requires t c =
-    let p = c.requires in
-    record { ends_of = p.two.ends_of; whole = p.two.second; other = p.second-other }
-
 pub offset_bounds-w-a : goal.offset_bounds-w-a
 offset_bounds-w-a t c =
     let p = c.requires in
     let o = p.two.ends_of in
     let x = c.start_from-a.ensures.from in
-    let y = c.start_from-b.ensures.from in
     let i = start-inside o x in
     omega arith
 
@@ -31,14 +20,12 @@ bounds-w-a t c =
     let p = c.requires in
     let o = p.two.ends_of in
     let x = c.start_from-a.ensures.from in
-    let y = c.start_from-b.ensures.from in
     start-inside o x
 
 pub offset_bounds-w-b : goal.offset_bounds-w-b
 offset_bounds-w-b t c =
     let p = c.requires in
     let o = p.two.ends_of in
-    let x = c.start_from-a.ensures.from in
     let y = c.start_from-b.ensures.from in
     let i = start-inside o y in
     omega arith
@@ -47,7 +34,6 @@ pub bounds-w-b : goal.bounds-w-b
 bounds-w-b t c =
     let p = c.requires in
     let o = p.two.ends_of in
-    let x = c.start_from-a.ensures.from in
     let y = c.start_from-b.ensures.from in
     start-inside o y
 
@@ -102,7 +88,6 @@ overflow_add-a t c =
     let p = c.requires in
     let o = p.two.ends_of in
     let x = c.start_from-a.ensures.from in
-    let y = c.start_from-b.ensures.from in
     let i = start-inside o x in
     omega arith
 
@@ -110,7 +95,6 @@ pub overflow_add-b : goal.overflow_add-b
 overflow_add-b t c =
     let p = c.requires in
     let o = p.two.ends_of in
-    let x = c.start_from-a.ensures.from in
     let y = c.start_from-b.ensures.from in
     let i = start-inside o y in
     omega arith
@@ -170,7 +154,6 @@ overflow_add-a-2 t c =
     let p = c.requires in
     let o = p.two.ends_of in
     let x = c.start_from-a.ensures.from in
-    let y = c.start_from-b.ensures.from in
     let i = start-inside o x in
     omega arith
 
@@ -187,7 +170,6 @@ pub overflow_add-b-2 : goal.overflow_add-b-2
 overflow_add-b-2 t c =
     let p = c.requires in
     let o = p.two.ends_of in
-    let x = c.start_from-a.ensures.from in
     let y = c.start_from-b.ensures.from in
     let i = start-inside o y in
     omega arith
@@ -229,7 +211,6 @@ same_plain-requires-2 t c =
     let n = (boolean-known o (first-parts o c.args.change two p.two.change-at).first).start in
     let i = start-inside o x in
     let l = x.further in
-    let m = c.decreases in
     let e = c.end_at-c.ensures in (
       omega arith,
       record {

@@ -8,11 +8,3 @@ other_of-p-requires c = let p = c.requires in can-true p.ends_of p.first
 
 pub other_of-requires : goal.other_of-requires
 other_of-requires c = let p = c.requires in can-true p.ends_of p.second
-
-pub same_plain-requires : goal.same_plain-requires
-same_plain-requires c =
-    let p = c.requires in
-    record { two = p; first-other = c.other_of-p.ensures; second-other = c.other_of.ensures }
-
-pub returns : goal.returns
-returns c = c.same_plain.ensures

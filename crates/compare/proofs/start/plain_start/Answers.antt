@@ -12,11 +12,3 @@ bounds-w-f c = let p = c.requires in boolean-inside p.ends_of p.whole
 
 pub returns-then-w-f-ne-AND_WORD : goal.returns-then-w-f-ne-AND_WORD
 returns-then-w-f-ne-AND_WORD c = let p = c.requires in from-other p.ends_of p.whole c.if-w-f-ne-AND_WORD.true
-
-pub start_from-requires : goal.start_from-requires
-start_from-requires c =
-    let p = c.requires in
-    record { ends_of = p.ends_of; whole = p.whole; other = c.other_of.ensures }
-
-pub returns : goal.returns
-returns c = c.start_from.ensures.from

@@ -18,10 +18,6 @@ pub match_arithmetic-bounds-w-b : goal.match_arithmetic-bounds-w-b
 match_arithmetic-bounds-w-b t c =
     any-first (any-of c.requires)
 
-pub match_arithmetic-match_head-requires : goal.match_arithmetic-match_head-requires
-match_arithmetic-match_head-requires t c =
-    c.requires.inside
-
 pub match_arithmetic-returns-in_err-head : goal.match_arithmetic-returns-in_err-head
 match_arithmetic-returns-in_err-head t c =
     let p = c.requires in head-lost p.ends_of (any-of p) c.in_err-head.ensures c.from_residual.ensures
@@ -78,10 +74,6 @@ match_boolean-offset_bounds-w-b t c =
 pub match_boolean-bounds-w-b : goal.match_boolean-bounds-w-b
 match_boolean-bounds-w-b t c =
     any-first (any-of c.requires)
-
-pub match_boolean-match_head-requires : goal.match_boolean-match_head-requires
-match_boolean-match_head-requires t c =
-    c.requires.inside
 
 pub match_boolean-returns-in_err-head : goal.match_boolean-returns-in_err-head
 match_boolean-returns-in_err-head t c =
@@ -153,10 +145,6 @@ match_array-offset_bounds-w-b t c =
 pub match_array-bounds-w-b : goal.match_array-bounds-w-b
 match_array-bounds-w-b t c =
     any-first (any-of c.requires)
-
-pub match_array-match_head-requires : goal.match_array-match_head-requires
-match_array-match_head-requires t c =
-    c.requires.inside
 
 pub match_array-returns-in_err-head : goal.match_array-returns-in_err-head
 match_array-returns-in_err-head t c =
@@ -240,22 +228,13 @@ match_expression-match_arithmetic-requires t c =
     let p = c.requires in
     can-sort c.decreases p (is-arithmetic p.ends_of p.any.sort p.any.expression c.if-kind-lt-COMPARISON.true)
 
-pub match_expression-returns-then-kind-lt-COMPARISON : goal.match_expression-returns-then-kind-lt-COMPARISON
-match_expression-returns-then-kind-lt-COMPARISON t c = c.match_arithmetic.ensures
-
 pub match_expression-match_boolean-requires : goal.match_expression-match_boolean-requires
 match_expression-match_boolean-requires t c =
     let p = c.requires in
     can-sort c.decreases p
     (is-boolean p.ends_of p.any.sort p.any.expression c.if-kind-lt-COMPARISON.false c.if-kind-lt-ARRAY.true)
 
-pub match_expression-returns-then-kind-lt-ARRAY : goal.match_expression-returns-then-kind-lt-ARRAY
-match_expression-returns-then-kind-lt-ARRAY t c = c.match_boolean.ensures
-
 pub match_expression-match_array-requires : goal.match_expression-match_array-requires
 match_expression-match_array-requires t c =
     let p = c.requires in
     can-sort c.decreases p (is-array p.ends_of p.any.sort p.any.expression c.if-kind-lt-ARRAY.false)
-
-pub match_expression-returns : goal.match_expression-returns
-match_expression-returns t c = c.match_array.ensures
