@@ -1,6 +1,6 @@
 -- The place past lists of numbers.
 -- Assumes nothing.
---     word_out, word-other, word-here     one number: past the file's end, another, that one
+--     word_out, word-here                 one number: past the file's end, that one
 --     matched-lost                        where one did not stand, no list does
 --     matched-append                      one list after the other
 --     words-step, words-done              the words of a list, one by one
@@ -22,10 +22,6 @@ module _ (file : List ℕ) where
   pub word_out : (at x : ℕ) → length file ≤ at → None ≡ matched_word file (Some at) x
   unfolding matched_word
   word_out at x k = simp (le-ltb at (length file) k)
-
-  pub word-other : (at x : ℕ) → at < length file → (get_or file at 0 ≡ x → ⊥) → None ≡ matched_word file (Some at) x
-  unfolding matched_word
-  word-other at x k n = simp (lt-ltb at (length file) k, ne_eqb (get_or file at 0) x n)
 
   pub word-here : (at x : ℕ) → at < length file → get_or file at 0 ≡ x → Some (at + 1) ≡ matched_word file (Some at) x
   unfolding matched_word

@@ -1,7 +1,6 @@
 -- Numbers that lead from one place to another are those between them.
 -- Assumes nothing.
 --     whole-sound, whole-complete    numbers that lead from one place to another are those between them, and back
---     whole-past                     numbers lead as far as there are numbers
 --     range_same, range_other, range-out
 --                                    the numbers between two places stand from a place on, do not, have no room there
 use mathlib.Core.Path.{◌≡◌, refl, sym, ap, ◌∙◌}
@@ -52,9 +51,6 @@ module _ (file : List ℕ) where
       record { past = omega arith; within = omega arith; same = between_none file at end (omega arith) }
   stand (x ∷ l) at end i h =
       step x l at end (λ j k. stand l (at + 1) end j k) (ltb at (length file) && eqb (get_or file at 0) x) refl h
-
-  pub whole-past : (l : List ℕ) (at end : ℕ) → at ≤ length file → matched file (Some at) l ≡ Some end → end ≡ at + length l
-  whole-past l at end i h = (stand l at end i h).past
 
   pub whole-sound : (l : List ℕ) (at end : ℕ) → at ≤ length file → matched file (Some at) l ≡ Some end → between file at end ≡ l
   whole-sound l at end i h = (stand l at end i h).same
