@@ -10,6 +10,7 @@ use mathlib.Core.List.{List, [], ◌∷◌}
 use Prim.Native.Nat.{ℕ, zero, suc, ◌+◌, ◌<◌, ◌≤◌}
 use native.Mathlib.Omega.{arith}
 use lib.ListN.{length, drop}
+use Rattle.std.specs.Prelude.{Ok, Err}
 use Rattle.rules.specs.Context as rules
 use Rattle.rules.specs.Context.{Limits, alone}
 use Rattle.rules.specs.Judge.{Verdict, accepted, refused, ◌also◌}
@@ -84,11 +85,11 @@ evidence-behind Γ file g h =
     omega (arith, a, b, c)
 
 -- a verdict that was written as a refusal stays one
-refused-last : (v : Verdict) (m end last : ℕ) {r : Judged} {y : Refusal} → r ≡ Judged.Refused y → r ≡ goals.judged_of v end →
-    r ≡ goals.judged_of (accepted m also v) last
+refused-last : (v : Verdict) (m end last : ℕ) {y : Refusal} → ◌≡◌ {A = goals.Answer} (Err y) (goals.judged_of v end) →
+    ◌≡◌ {A = goals.Answer} (Err y) (goals.judged_of (accepted m also v) last)
 unfolding ◌also◌
-refused-last (accepted n) m end last e h = absurd (let u : ◌≡◌ {A = ℕ} 0 1 = cc in omega (arith, u))
-refused-last (refused k i) m end last e h = h
+refused-last (accepted n) m end last h = absurd (let u : ◌≡◌ {A = ℕ} 0 1 = cc in omega (arith, u))
+refused-last (refused k i) m end last h = h
 
 module _ {file ends : List ℕ} (x : Context) (h : CanJudgePrograms file ends x) where
   abbrev f : File
@@ -100,10 +101,10 @@ module _ {file ends : List ℕ} (x : Context) (h : CanJudgePrograms file ends x)
   abbrev total : Verdict
   total = judge_programs (alone (limits_of x)) f.procedures f.main
 
-  abbrev FileJudged : Judged → Type 0
+  abbrev FileJudged : goals.Answer → Type 0
   FileJudged r = r ≡ judged_file (limits_of x) (words_read (limits_of x) file)
 
-  all-judged : {r : Judged} → r ≡ goals.judged_of total h.end → FileJudged r
+  all-judged : {r : goals.Answer} → r ≡ goals.judged_of total h.end → FileJudged r
   all-judged e = e ∙ ap (judged_file (limits_of x)) (sym h.was_read)
 
   -- of the procedures from number i on, with the count of those before
@@ -193,26 +194,24 @@ module _ {file ends : List ℕ} (x : Context) (h : CanJudgePrograms file ends x)
       unfolding judge_programs
       judged-next = going.judged ∙ ap (λ l. accepted count also judge_programs Δ l f.main) next.is
 
-      module _ {r : Judged} (j : JudgedAt file ends x i r) where
-        judged-it : r ≡ goals.judged_of (judge_program Δ next.g) next.g.past
-        judged-it = j.judged next.g there
+      pub going_refused : {y : Refusal} {r : goals.Answer} → JudgedAt file ends x i (Err y) →
+          (z : Refusal) × (r ≡ Err z) × (z ≡ y) → FileJudged r
+      going_refused j out = all-judged
+          (out.1 ∙ ap Err out.2
+          ∙ refused-is (judge_program Δ next.g) (judge_programs (after Δ next.g) next.others f.main) count next.g.past
+          h.end (j.judged next.g there) ∙ ap (λ v. goals.judged_of v h.end) (sym judged-next))
 
-        pub going_refused : {y : Refusal} → r ≡ Judged.Refused y → FileJudged r
-        going_refused e = all-judged
-            (refused-is (judge_program Δ next.g) (judge_programs (after Δ next.g) next.others f.main) count next.g.past
-            h.end e judged-it ∙ ap (λ v. goals.judged_of v h.end) (sym judged-next))
+      module _ {a : Judged} (j : JudgedAt file ends x i (Ok a)) where
+          is-accepted : judge_program Δ next.g ≡ accepted a.count
+          is-accepted = (accepted-is (judge_program Δ next.g) (j.judged next.g there)).0
 
-        module _ {n to : ℕ} (e : r ≡ Judged.Accepted n to) where
-          is-accepted : judge_program Δ next.g ≡ accepted n
-          is-accepted = (accepted-is (judge_program Δ next.g) (sym e ∙ judged-it)).0
-
-          pub count_fits : count + n ≤ 8192
+          pub count_fits : count + a.count ≤ 8192
           count_fits =
               let c = counted there is-accepted in
               let l = program-inside Δ file next.g stand.1 in
               omega (arith, c, l, h.size, going.few, stand.0)
 
-          at_next : ProgramsGoing (suc i) (count + n)
+          at_next : ProgramsGoing (suc i) (count + a.count)
           at_next =
               let e = next-context (limits_of x) file f i was.stands (going.from ∙ next.is) in
               let c = counted there is-accepted in
@@ -226,13 +225,13 @@ module _ {file ends : List ℕ} (x : Context) (h : CanJudgePrograms file ends x)
                 starts = starts.1;
                 judged = judged-next
                     ∙ ap (λ v. accepted count also (v also judge_programs (after Δ next.g) next.others f.main)) is-accepted
-                    ∙ also_sum count n (judge_programs (after Δ next.g) next.others f.main)
-                    ∙ ap (λ Θ. accepted (count + n) also judge_programs Θ next.others f.main) (sym e);
+                    ∙ also_sum count a.count (judge_programs (after Δ next.g) next.others f.main)
+                    ∙ ap (λ Θ. accepted (count + a.count) also judge_programs Θ next.others f.main) (sym e);
                 few = omega (arith, c, going.few, stand.0);
               }
 
-          pub going_step : ProgramsGoing (i + 1) (count + n)
-          going_step = let z : suc i ≡ i + 1 = omega arith in subst (λ k. ProgramsGoing k (count + n)) z at_next
+          pub going_step : ProgramsGoing (i + 1) (count + a.count)
+          going_step = let z : suc i ≡ i + 1 = omega arith in subst (λ k. ProgramsGoing k (count + a.count)) z at_next
 
     module _ (end : procedure_count file ≤ i) where
       none_left : going.left ≡ []
@@ -266,28 +265,26 @@ module _ {file ends : List ℕ} (x : Context) (h : CanJudgePrograms file ends x)
       unfolding judge_programs
       judged-main = going.judged ∙ ap (λ l. accepted count also judge_programs Δ l f.main) none_left
 
-      module _ {r : Judged} (j : JudgedAt file ends x i r) where
-        main-judged : r ≡ goals.judged_of (judge_program Δ f.main) f.main.past
-        main-judged = j.judged f.main main-there
+      pub main-refused : {y : Refusal} {r : goals.Answer} → JudgedAt file ends x i (Err y) →
+          (z : Refusal) × (r ≡ Err z) × (z ≡ y) → FileJudged r
+      main-refused j out = all-judged
+          (out.1 ∙ ap Err out.2
+          ∙ refused-last (judge_program Δ f.main) count f.main.past h.end (j.judged f.main main-there)
+          ∙ ap (λ v. goals.judged_of v h.end) (sym judged-main))
 
-        pub main-refused : {y : Refusal} → r ≡ Judged.Refused y → FileJudged r
-        main-refused e = all-judged
-            (refused-last (judge_program Δ f.main) count f.main.past h.end e main-judged
-            ∙ ap (λ v. goals.judged_of v h.end) (sym judged-main))
+      module _ {a : Judged} (j : JudgedAt file ends x i (Ok a)) where
+          main-is : (judge_program Δ f.main ≡ accepted a.count) × (a.end ≡ f.main.past)
+          main-is = accepted-is (judge_program Δ f.main) (j.judged f.main main-there)
 
-        module _ {n to : ℕ} (e : r ≡ Judged.Accepted n to) where
-          main-is : (judge_program Δ f.main ≡ accepted n) × (to ≡ f.main.past)
-          main-is = accepted-is (judge_program Δ f.main) (sym e ∙ main-judged)
-
-          pub main-fits : count + n ≤ 8192
+          pub main-fits : count + a.count ≤ 8192
           main-fits =
               let c = counted main-there main-is.0 in
               let l = program-inside Δ file f.main main-stands.1 in
               omega (arith, c, l, h.size, going.few, main-stands.0)
 
-          pub main-accepted : FileJudged (Judged.Accepted (count + n) to)
+          pub main-accepted : FileJudged (Ok (record { count = count + a.count; end = a.end }))
           unfolding ◌also◌
           main-accepted =
-              let past : to ≡ h.end = main-is.1 ∙ main-stands.2 ∙ sym was.end in
-              all-judged (ap (λ k. Judged.Accepted (count + n) k) past
+              let past : a.end ≡ h.end = main-is.1 ∙ main-stands.2 ∙ sym was.end in
+              all-judged (ap (λ k. Ok (record { count = count + a.count; end = k })) past
               ∙ ap (λ v. goals.judged_of v h.end) (sym (judged-main ∙ ap (λ v. accepted count also v) main-is.0)))

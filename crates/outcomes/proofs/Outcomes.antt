@@ -5,7 +5,7 @@
 --     can_store, stored_of, stored-count, stored-done
 --                                    masks are stored
 --     can-load                       room for so many words
---     found-judge, found-outcome, refused-outcome
+--     found-judge, found-outcome, refused-done
 --                                    refusals 1 to 7 and 16
 use mathlib.Core.Path.{◌≡◌, refl, sym, ◌∙◌, ap, ap₂, subst}
 use mathlib.Core.Bool.{Bool, true, false, cond}
@@ -16,6 +16,7 @@ use borrow.Author.Tests.{lt-ltb, le-ltb}
 use lib.Dec.{ltb}
 use lib.ListN.{length, take}
 use lib.Seq.{length-take-le}
+use Rattle.std.specs.Prelude.{Ok, Err, IsErrAnd}
 use Rattle.rules.specs.Context.{Limits}
 use Rattle.rules.specs.Judge as judge
 use Rattle.layout.specs.Bytes.{words_of, word_count}
@@ -26,9 +27,9 @@ use Rattle.context.specs.Contexts.{limits_of}
 use Rattle.context.specs.declared.Context.{Context}
 use Rattle.context.specs.declared.Refusal.{Refusal}
 use Rattle.reader.specs.File.{places_of}
-use Rattle.reader.specs.Program.{places}
+use Rattle.reader.specs.Program.{Layout, places}
 use Rattle.reader.specs.declared.Places.{Places}
-use Rattle.reader.specs.declared.Layout.{Layout}
+use Rattle.reader.proofs.Walks.{exit}
 use Rattle.reader.proofs.Whole.{refused-file}
 use Rattle.file.specs.Found.{CanLoad, FileRead}
 use Rattle.file.proofs.Found.{found-read}
@@ -38,34 +39,32 @@ use Rattle.masks.specs.Filled.{CanStore, Filled, MasksOf}
 use Rattle.ends.proofs.Table.{ends-listed}
 use Rattle.masks.proofs.Stored.{filled_masks, filled_stored}
 use Rattle.masks.proofs.Stored as stored
-use Rattle.goals.specs.Goals.{judged_of}
-use Rattle.goals.specs.declared.Judged.{Judged}
-use Rattle.std.specs.Prelude.{Ok, Err}
+use Rattle.goals.specs.Goals.{Answer, judged_of}
 use Rattle.outcomes.specs.Outcome.{Outcome, with_places, outcome_of, stored_where, WordsDone, OutcomeDone, WithinLimits, FitsRoom}
 use Rattle.outcomes.specs.Programs.{judged_file, CanJudgeFile}
 
 -- ---- refusals 8 and 9
 -- what the code makes of programs judged
-abbrev pub outcome_from : Judged → Places → Outcome
-outcome_from (Judged.Accepted n q) s = Ok (record { count = n; places = s })
-outcome_from (Judged.Refused x) s = Err x
+abbrev pub outcome_from : Answer → Places → Outcome
+outcome_from (Ok judged) s = Ok (record { count = judged.count; places = s })
+outcome_from (Err x) s = Err x
 
 with-places : (v : judge.Verdict) (end : ℕ) (s : Places) → outcome_from (judged_of v end) s ≡ with_places v s
 with-places (judge.accepted n) end s = refl
 with-places (judge.refused k i) end s = refl
 
-file-outcome : (limits : Limits) (x : Reading File) (s : Places) → Layout.Found s ≡ places_of x →
+file-outcome : (limits : Limits) (x : Reading File) (s : Places) → Ok s ≡ places_of x →
     outcome_from (judged_file limits x) s ≡ outcome_of limits x
 file-outcome limits (read f p) s e =
     let k : s ≡ places f.main.start f.main.pre_at f.main.post_at f.main.evidence_at p = cc in
     with-places (judged limits (read f p)) p s ∙ ap (λ z. with_places (judged limits (read f p)) z) k
 file-outcome limits (fault n p) s e = absurd (let z : ◌≡◌ {A = ℕ} 0 1 = cc in omega arith)
 
-pub judged-outcome : {w ends : List ℕ} (context : Context) {s : Places} → CanJudgeFile w ends context s → (r q : Judged) →
+pub judged-outcome : {w ends : List ℕ} (context : Context) {s : Places} → CanJudgeFile w ends context s → (r q : Answer) →
     r ≡ judged_file (limits_of context) (words_read (limits_of context) w) → r ≡ q →
     outcome_from q s ≡ outcome_of (limits_of context) (words_read (limits_of context) w)
 judged-outcome {w} context {s} h r q j e =
-    ap (λ (z : Judged). outcome_from z s) (sym e ∙ j) ∙ file-outcome (limits_of context) (words_read (limits_of context) w) s h.found
+    ap (λ (z : Answer). outcome_from z s) (sym e ∙ j) ∙ file-outcome (limits_of context) (words_read (limits_of context) w) s h.found
 
 -- ---- masks
 -- no masks
@@ -111,7 +110,7 @@ can-load {table = table} h e r = record {
 }
 
 module _ {context : Context} {bytes words table : List ℕ} {r : Layout} (f : FileRead bytes context r words table) where
-  pub found-judge : {s : Places} → WithinLimits context → r ≡ Layout.Found s →
+  pub found-judge : {s : Places} → WithinLimits context → r ≡ Ok s →
       CanJudgeFile (take (length bytes / 4) words) table context s
   found-judge {s} l e =
       let w = file-words f e in
@@ -129,7 +128,7 @@ module _ {context : Context} {bytes words table : List ℕ} {r : Layout} (f : Fi
         found = w.was_read;
       }
 
-  pub found-outcome : {s : Places} {q : Outcome} {lent left : List ℕ} → r ≡ Layout.Found s →
+  pub found-outcome : {s : Places} {q : Outcome} {lent left : List ℕ} → r ≡ Ok s →
       WordsDone (limits_of context) (take (length bytes / 4) words) lent q left → OutcomeDone (limits_of context) bytes lent q left
   found-outcome {s} {lent = lent} {left} e h =
       let same = (file-words f e).of-file in
@@ -140,7 +139,7 @@ module _ {context : Context} {bytes words table : List ℕ} {r : Layout} (f : Fi
             ∙ ap₂ (λ w x. stored_where (limits_of context) w x lent) (f.loaded s e) same;
       }
 
-  pub refused-outcome : {x : Refusal} (lent : List ℕ) → r ≡ Layout.Refused x → OutcomeDone (limits_of context) bytes lent (Err x) lent
+  refused-outcome : {x : Refusal} (lent : List ℕ) → r ≡ Err x → OutcomeDone (limits_of context) bytes lent (Err x) lent
   refused-outcome {x} lent e =
       let h = refused-file (bytes_read (limits_of context) bytes) x (sym e ∙ f.layout) in
       record {
@@ -151,3 +150,9 @@ module _ {context : Context} {bytes words table : List ℕ} {r : Layout} (f : Fi
       same : (b : Bool) → cond b lent lent ≡ lent
       same true = refl
       same false = refl
+
+  -- what the exit of a `?` returns
+  pub refused-done : {x : Refusal} {q : Outcome} (lent : List ℕ) → r ≡ Err x → IsErrAnd q (λ y. y ≡ x) →
+      OutcomeDone (limits_of context) bytes lent q lent
+  refused-done lent e h =
+      subst (λ z. OutcomeDone (limits_of context) bytes lent z lent) (sym (exit h refl)) (refused-outcome lent e)

@@ -21,7 +21,6 @@ use Rattle.ends.proofs.Places.{node_at, node_known, at_place}
 use Rattle.context.specs.Contexts.{limits_of}
 use Rattle.context.specs.declared.Context.{Context}
 use Rattle.goals.specs.declared.Goal.TheVariants.{Flow}
-use Rattle.goals.specs.declared.Judged.{Judged}
 use Rattle.goals.specs.Goals as goals
 use Rattle.outcomes.specs.Programs.{context_at, ProgramAt, CanJudgeAt, JudgedAt}
 
@@ -98,6 +97,6 @@ module _ {file ends : List ℕ} {x : Context} {i : ℕ} where
             goal-stands = stands-there c.there;
           }
 
-          pub judged-at : {r : Judged} →
+          pub judged-at : {r : goals.Answer} →
               goals.JudgedOf file ends (context_at x file i) (Flow pre at post) evidence x.depth r → JudgedAt file ends x i r
           judged-at j = record { judged = λ g h. j.judged (tree_of g) g.past (stands-there h) }

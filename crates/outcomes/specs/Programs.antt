@@ -6,7 +6,7 @@
 --     CanJudgeAt, JudgedAt             what judging it asks for; its verdict
 --     CanJudgePrograms, judged_file     what judging all programs asks for; the verdict of what was read
 --     CanJudgeFile                     the same with the places of the main program
-use Rattle.std.specs.Prelude.{◌≡◌, List, ℕ, ◌≤◌, length}
+use Rattle.std.specs.Prelude.{◌≡◌, List, ℕ, ◌≤◌, length, Err}
 use Rattle.rules.specs.Context as rules
 use Rattle.rules.specs.Context.{Limits, alone}
 use Rattle.rules.specs.Resolved.{Resolved, Carried}
@@ -22,16 +22,13 @@ use Rattle.context.specs.Contexts.{limits_of, refusal}
 use Rattle.context.specs.declared.Context.{Context}
 use Rattle.reader.specs.File.{places_of}
 use Rattle.reader.specs.declared.Places.{Places}
-use Rattle.reader.specs.declared.Layout.TheVariants as Layout
 use Rattle.file.specs.Found.{KnownAt}
-use Rattle.goals.specs.Goals.{judged_of}
-use Rattle.goals.specs.declared.Judged.{Judged}
-use Rattle.goals.specs.declared.Judged.TheVariants.{Refused}
+use Rattle.goals.specs.Goals.{Answer, judged_of}
 use Rattle.outcomes.specs.Outcome.{WithinLimits}
 
-abbrev pub judged_file : Limits → Reading File → Judged
+abbrev pub judged_file : Limits → Reading File → Answer
 judged_file limits (read f p) = judged_of (judged limits (read f p)) p
-judged_file limits (fault n p) = Refused (refusal n p)
+judged_file limits (fault n p) = Err (refusal n p)
 
 abbrev pub context_at : Context → List ℕ → ℕ → rules.Context
 context_at x file i = context_before (alone (limits_of x)) file i 2
@@ -52,7 +49,7 @@ module _ (file ends : List ℕ) (x : Context) where
     pub program : Program
     pub there : ProgramAt i program
 
-  pub record JudgedAt (i : ℕ) (r : Judged) : Type 0 where
+  pub record JudgedAt (i : ℕ) (r : Answer) : Type 0 where
     pub judged : (g : Program) → ProgramAt i g → r ≡ judged_of (judge_program (context_at x file i) g) g.past
 
   -- of words that 1 to 7 and 16 let pass, with the table filled for them
@@ -67,4 +64,4 @@ module _ (file ends : List ℕ) (x : Context) where
 
   pub record CanJudgeFile (s : Places) : Type 0 where
     pub programs : CanJudgePrograms
-    pub found : Layout.Found s ≡ places_of (words_read (limits_of x) file)
+    pub found : Ok s ≡ places_of (words_read (limits_of x) file)

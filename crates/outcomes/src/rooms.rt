@@ -12,9 +12,9 @@ use super::Accepted;
 use super::programs::judge_programs;
 use context::{Context, Refusal};
 use file::read_file;
-use goals::Judged;
+use goals::file::File;
 use masks::fill;
-use reader::{Layout, Places};
+use reader::Places;
 
 // Refusals 8 and 9, with the places of the main program.
 fn judge_file(
@@ -27,11 +27,17 @@ fn judge_file(
     requires { CanJudgeFile w.now ends.now context places × MasksOf w.now ends.now masks.now }
     ensures { result ≡ outcome_of (limits_of context) (words_read (limits_of context) w.now) }
 {
-    let judged = judge_programs(w, ends, masks, context);
-    match judged {
-        Judged::Accepted(count, _) => Ok(Accepted { count, places }),
-        Judged::Refused(refusal) => Err(refusal),
-    }
+    let file = File {
+        words: w,
+        ends,
+        masks,
+        context,
+    };
+    let judged = judge_programs(&file)?;
+    Ok(Accepted {
+        count: judged.count,
+        places,
+    })
 }
 
 // The same, with the masks of the words stored where there is room for them. Rules then ask these.
@@ -64,14 +70,9 @@ fn check_in(
     requires { CanLoad file.now words.old table.old × WithinLimits context }
     ensures { OutcomeDone (limits_of context) file.now masks.old result masks.new }
 {
-    let layout = read_file(file, words, table, context);
-    match layout {
-        Layout::Found(places) => {
-            let n = file.len() / 4;
-            judge_stored(&words[..n], table, masks, context, places)
-        }
-        Layout::Refused(refusal) => Err(refusal),
-    }
+    let places = read_file(file, words, table, context)?;
+    let n = file.len() / 4;
+    judge_stored(&words[..n], table, masks, context, places)
 }
 
 // The same, in room for so many words and for so many numbers of their table.

@@ -4,21 +4,19 @@ use Rattle.outcomes.proofs.ProgramGoal.{start-listed, pre-listed, post-listed, c
 use Rattle.outcomes.proofs.programs.judge_at.Goals as goal
 
 pub end_at-pre-requires : goal.end_at-pre-requires
-end_at-pre-requires c = start-listed c.requires.0 c.end_at-at.ensures
+end_at-pre-requires c = start-listed c.requires c.end_at-at.ensures
 
 pub end_at-post-requires : goal.end_at-post-requires
-end_at-post-requires c = pre-listed c.requires.0 c.end_at-at.ensures c.end_at-pre.ensures
+end_at-post-requires c = pre-listed c.requires c.end_at-at.ensures c.end_at-pre.ensures
 
 pub end_at-evidence-requires : goal.end_at-evidence-requires
-end_at-evidence-requires c = post-listed c.requires.0 c.end_at-at.ensures c.end_at-pre.ensures c.end_at-post.ensures
+end_at-evidence-requires c = post-listed c.requires c.end_at-at.ensures c.end_at-pre.ensures c.end_at-post.ensures
 
 pub judge-requires : goal.judge-requires
 judge-requires c =
-    let can = can-judge c.requires.0 c.end_at-at.ensures c.end_at-pre.ensures c.end_at-post.ensures
-    c.end_at-evidence.ensures in
-    (can, c.requires.1)
+    can-judge c.requires c.end_at-at.ensures c.end_at-pre.ensures c.end_at-post.ensures c.end_at-evidence.ensures
 
 pub returns : goal.returns
 returns c =
-    judged-at c.requires.0 c.end_at-at.ensures c.end_at-pre.ensures c.end_at-post.ensures
+    judged-at c.requires c.end_at-at.ensures c.end_at-pre.ensures c.end_at-post.ensures
     c.end_at-evidence.ensures c.judge.ensures
