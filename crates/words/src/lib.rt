@@ -2,7 +2,6 @@
 #![tactic(auto)]
 
 pub mod kinds; // kinds.rt: kinds and words by name
-pub mod numbers; // numbers.rt: a word's number as a place; the lesser of two
 pub mod load; // load.rt: words from bytes
 pub mod decode; // decode.rt: what a word of an expression or a command stands for
 pub mod rows; // rows.rt: the table of rules
