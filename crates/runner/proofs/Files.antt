@@ -12,6 +12,7 @@ use native.Mathlib.Omega.{arith}
 use lib.ListN.{length, take, get_or, length-take}
 use lib.Seq.{get_or-take}
 use Rattle.language.specs.Syntax.{Command}
+use Rattle.std.specs.Prelude.{Ok, Err}
 use Rattle.rules.specs.Context as rules
 use Rattle.rules.specs.Context.{within_ranges}
 use Rattle.layout.specs.Bytes.{payload_at, payloads}
@@ -28,7 +29,7 @@ use Rattle.context.specs.declared.Context.{Context}
 use Rattle.context.specs.declared.Refusal.{Refusal}
 use Rattle.heads.specs.Stands.{FileInRoom, PartAt, resolved_part, BodiesAt, Runnable, CommandStands}
 use Rattle.reader.specs.declared.Places.{Places}
-use Rattle.reader.specs.declared.Layout.{Layout}
+use Rattle.reader.specs.Program.{Layout}
 use Rattle.reader.proofs.Whole.{refused-file}
 use Rattle.file.specs.Found.{FileRead}
 use Rattle.file.proofs.Found.{ReadAt, found-read}
@@ -43,14 +44,14 @@ never z = absurd (omega arith)
 
 -- ---- refusals 1 to 7 and 16
 module _ {context : Context} {bytes words table : List ℕ} {r : Layout} (f : FileRead bytes context r words table) where
-  pub refused-file_by : (budget : ℕ) (m : Lent) {x : Refusal} {q : Ran} → r ≡ Layout.Refused x →
+  pub refused-file_by : (budget : ℕ) (m : Lent) {x : Refusal} {q : Ran} → r ≡ Err x →
       q ≡ refused_at x.number x.place →
       RanBy (bytes_read (limits_of context) bytes) budget m q m
   refused-file_by budget m {x} e h =
       let y = refused-file (bytes_read (limits_of context) bytes) x (sym e ∙ f.layout) in
       record { is = ap (λ z. ran_at z m) h ∙ ap (λ z. ran_by z budget m) (sym y) }
 
-  module _ {s : Places} (e : r ≡ Layout.Found s) where
+  module _ {s : Places} (e : r ≡ Ok s) where
     -- the words of the file
     abbrev file : List ℕ
     file = take (length bytes / 4) words

@@ -1,32 +1,25 @@
 -- Refusals 10 and 11, and the run of a file's command.
 -- Assumes nothing.
 --     over-budget, ill_scalars, ill_values    10 and 11
---     reports-done, reports-refused           what a run came to
---     copied                                  a list that was copied whole
---     can-report, reported                    the steps left are within the budget; the run
+--     left-within, reported                   the steps left are within the budget; the run
 use mathlib.Core.Path.{◌≡◌, refl, sym, ap, ap₂, subst, ◌∙◌}
 use mathlib.Core.Bool.{Bool, true, false}
 use mathlib.Core.List.{List}
-use Prim.Native.Nat.{ℕ, zero, suc, ◌-◌, ◌<◌, ◌≤◌}
-use native.Mathlib.Omega.{arith}
+use Prim.Native.Nat.{ℕ, ◌-◌, ◌<◌, ◌≤◌}
 use borrow.Author.Tests.{lt-ltb, le-ltb, eq-eqb, ne_eqb}
-use lib.IntN.{ℤ}
-use lib.ListN.{length, drop}
-use lib.Seq.{paste, take_all}
-use Rattle.language.specs.Syntax as syntax
+use lib.ListN.{length}
+use Rattle.std.specs.Prelude.{Result, Ok, Err}
 use Rattle.layout.specs.File.{File}
 use Rattle.execution.specs.Lent.{Lent}
 use Rattle.execution.specs.Run.{run}
 use Rattle.execution.specs.Ran.{not_run, ran_of, well_sized, body_place, run_file}
-use Rattle.context.specs.Contexts.{refusal}
+use Rattle.context.specs.declared.Refusal.{Refusal}
 use Rattle.heads.specs.Stands.{Runnable}
-use Rattle.evaluate.specs.Evaluated.{number}
-use Rattle.evaluate.proofs.Elements.{whole}
-use Rattle.run.specs.Steps.{steps_left, stop_place, end_by, end_at}
+use Rattle.run.specs.Steps.{end_of}
 use Rattle.run.specs.Places.{RunsAs}
-use Rattle.run.proofs.Bounds.{run-within}
-use Rattle.runner.specs.Running.{ran_at, refused_at, RanFile, CanReport, ReportsEnd, CanRunCopied}
-use Rattle.runner.specs.declared.Answer.TheVariants.{Done, Refused}
+use Rattle.run.proofs.Bounds.{Bounded, command-bounded}
+use Rattle.runner.specs.Ran.{answer_meant}
+use Rattle.runner.specs.Running.{ran_at, refused_at, RanFile, CanRunCopied}
 use Rattle.runner.specs.declared.Ran.{Ran}
 
 -- by a test's result
@@ -70,40 +63,30 @@ module _ {w ends : List ℕ} {start : ℕ} (budget : ℕ) (m : Lent) {r : Ran} w
       RanFile w ends start budget m r m
   ill_values l k h e = record { is = λ f p x i j. ap (λ r. ran_at r m) e ∙ sym (ill_is f budget m l (no-values m k h)) }
 
--- ---- a run, by its progress
-pub reports-done : {s : List ℕ} {budget n : ℕ} → number s ≡ 0 → n ≡ steps_left s →
-    ReportsEnd s budget (record { answer = Done; steps = budget - n })
-reports-done {s} {budget} e h =
-    record { is = λ m. ap₂ (λ k n. ran_of budget (end_by k (stop_place s) n m)) (sym e) h }
+-- ---- a run, by its end
+ran-as : {A : Type 0} (r : Result A Refusal) (budget l : ℕ) (m : Lent) →
+    record { answer = answer_meant r; steps = budget - l; store = m } ≡ ran_of budget (end_of r l m)
+ran-as (Ok a) budget l m = refl
+ran-as (Err x) budget l m = refl
 
-by-refusal : (k p n budget : ℕ) (m : Lent) → (k ≡ 0 → ⊥) →
-    ran_at (record { answer = Refused (refusal k p); steps = budget - n }) m ≡ ran_of budget (end_by k p n m)
-by-refusal zero p n budget m h = absurd (h refl)
-by-refusal (suc k) p n budget m h = refl
-
-pub reports-refused : {s : List ℕ} {budget n p : ℕ} → (number s ≡ 0 → ⊥) → n ≡ steps_left s → p ≡ stop_place s →
-    ReportsEnd s budget (record { answer = Refused (refusal (number s) p); steps = budget - n })
-reports-refused {s} {budget} {n} {p} z h i = record {
-  is = λ m. by-refusal (number s) p n budget m z ∙ ap₂ (λ p n. ran_of budget (end_by (number s) p n m)) i h;
-}
-
--- a list that was copied whole
-pub copied : (n : ℕ) (d s : List ℤ) {l : List ℤ} → length d ≡ n → length s ≡ n → l ≡ paste d 0 (drop 0 s) n → l ≡ s
-copied n d s h k e = e ∙ whole n d s h ∙ take_all n s (omega arith)
+left-bounded : {A : Type 0} (r : Result A Refusal) (b n l : ℕ) (m : Lent) → Bounded b n (end_of r l m) → l ≤ n
+left-bounded (Ok a) b n l m h = h
+left-bounded (Err x) b n l m h = h.0
 
 -- the run from the copies m₁ of the store to m₂, which are put back as m₃
-module _ {w ends : List ℕ} {start : ℕ} {m m₁ m₂ : Lent} {budget : ℕ} (c : CanRunCopied w ends start m budget) (to : m₁ ≡ m)
-    {s s' : List ℕ} (f : RunsAs w ends start m₁ s s' m₂) (b : steps_left s ≡ budget) where
-  came : (d : syntax.Command) {p : ℕ} (x : Runnable w ends d start p) → end_at s' m₂ ≡ run x.body_at d start budget m
-  came d {p} x = f.is d p x ∙ ap₂ (λ n k. run x.body_at d start n k) b to
+module _ {w ends : List ℕ} {start : ℕ} {m m₁ : Lent} {budget : ℕ} (c : CanRunCopied w ends start m budget) (to : m₁ ≡ m)
+    {A : Type 0} (r : Result A Refusal) (l : ℕ) (m₂ : Lent) (f : RunsAs w ends start m₁ budget (end_of r l m₂)) where
+  pub left-within : l ≤ budget
+  left-within =
+      let d = c.command in
+      left-bounded r 8192 budget l m₂
+      (subst (Bounded 8192 budget) (sym (f.is d.tree d.past d.there)) (command-bounded d.tree d.there budget m₁))
 
-  pub can-report : CanReport s' budget
-  can-report = record { within = omega (arith, run-within c.command f, b) }
-
-  pub reported : {r : Ran} {m₃ : Lent} → m₃ ≡ m₂ → ReportsEnd s' budget r → RanFile w ends start budget m r m₃
-  reported {r} back g = record {
-    is = λ y p x e h.
-        ap (ran_at r) back ∙ g.is m₂ ∙ ap (ran_of budget) (came y.main.command x)
-        ∙ ap₂ (λ i at. ran_of budget (run i y.main.command at budget m)) e (sym h)
-        ∙ sym (run_is y budget m c.few (both-sized m c.scalars-sized c.values-sized));
-  }
+  pub reported : {m₃ : Lent} → m₃ ≡ m₂ → (y : File) (p : ℕ) (x : Runnable w ends y.main.command start p) →
+      x.body_at ≡ body_place y → y.main.start ≡ start →
+      record { answer = answer_meant r; steps = budget - l; store = m₃ } ≡ run_file y budget m
+  reported back y p x e h =
+      ap (λ m. record { answer = answer_meant r; steps = budget - l; store = m }) back
+      ∙ ran-as r budget l m₂ ∙ ap (ran_of budget) (f.is y.main.command p x ∙ ap (run x.body_at y.main.command start budget) to)
+      ∙ ap₂ (λ i at. ran_of budget (run i y.main.command at budget m)) e (sym h)
+      ∙ sym (run_is y budget m c.few (both-sized m c.scalars-sized c.values-sized))

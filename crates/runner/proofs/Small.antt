@@ -7,6 +7,7 @@ use mathlib.Core.Bool.{Bool, true, false}
 use mathlib.Core.List.{List}
 use Prim.Native.Nat.{ℕ, ◌+◌, ◌*◌, ◌≤◌}
 use native.Mathlib.Omega.{arith}
+use Rattle.std.specs.Prelude.{Result, Ok, Err}
 use Rattle.rules.specs.Context.{Limits}
 use Rattle.layout.specs.Bytes.{words_of}
 use Rattle.layout.specs.Reading.{read}
@@ -22,8 +23,6 @@ use Rattle.run.proofs.Bounds.{Bounded, calls-within, run-bounded}
 use Rattle.runner.specs.Ran.{answer_meant, RunOf}
 use Rattle.runner.specs.Packed.{code_of, packed_ran, PackedRun}
 use Rattle.runner.specs.Running.{ran_at, SmallAnswer, SmallRan, CanPack}
-use Rattle.runner.specs.declared.Answer.{Answer}
-use Rattle.runner.specs.declared.Answer.TheVariants.{Done, Refused}
 use Rattle.runner.specs.declared.Ran.{Ran}
 use Rattle.words.proofs.Lengths.{bad-file, good-file}
 use Rattle.file.proofs.Faults.{FaultBy, few_words, file-fault}
@@ -84,18 +83,20 @@ module _ {limits : Limits} {bytes : List ℕ} {budget : ℕ} {m m' : Lent} {r : 
   }
 
 -- the code's number
-packs : (s : ℕ) {a b : Answer} → a ≡ b → s * 4294967296 + code_of (answer_meant b) ≡ s * 4294967296 + code_of (answer_meant a)
+packs : {A : Type 0} (s : ℕ) {a b : Result A Refusal} → a ≡ b →
+    s * 4294967296 + code_of (answer_meant b) ≡ s * 4294967296 + code_of (answer_meant a)
 packs s e = ap (λ a. s * 4294967296 + code_of (answer_meant a)) (sym e)
 
-pub packs-done : (s : ℕ) {a : Answer} → a ≡ Done → s * 4294967296 ≡ s * 4294967296 + code_of (answer_meant a)
+pub packs-done : {A : Type 0} (s : ℕ) {a : Result A Refusal} {x : A} → a ≡ Ok x →
+    s * 4294967296 ≡ s * 4294967296 + code_of (answer_meant a)
 packs-done s e = more (s * 4294967296) ∙ packs s e
   where
     more : (n : ℕ) → n ≡ n + 0
     more n = omega arith
 
-pub packs-refused : (s : ℕ) {a : Answer} {x : Refusal} → a ≡ Refused x →
+pub packs-refused : {A : Type 0} (s : ℕ) {a : Result A Refusal} {x : Refusal} → a ≡ Err x →
     s * 4294967296 + (x.number * 65536 + x.place) ≡ s * 4294967296 + code_of (answer_meant a)
 packs-refused s e = packs s e
 
-pub refused-near : {a : Answer} {x : Refusal} → SmallAnswer (answer_meant a) → a ≡ Refused x → x.place ≤ 8192
+pub refused-near : {A : Type 0} {a : Result A Refusal} {x : Refusal} → SmallAnswer (answer_meant a) → a ≡ Err x → x.place ≤ 8192
 refused-near h e = subst (λ a. SmallAnswer (answer_meant a)) e h

@@ -4,21 +4,20 @@
 -- Trusted. Assumes nothing.
 --     answer_meant    the code's answer, as the definition's
 --     RunOf          under the settings, from the lent store m, the answer r and the store m'
-use Rattle.std.specs.Prelude.{◌≡◌, List, ℕ}
+use Rattle.std.specs.Prelude.{◌≡◌, List, ℕ, Result, Ok, Err}
 use Rattle.rules.specs.Context.{Limits}
 use Rattle.execution.specs.Lent.{Lent}
 use Rattle.execution.specs.Ran as definition
 use Rattle.execution.specs.Ran.{done, refused, run_of}
+use Rattle.context.specs.declared.Refusal.{Refusal}
 use Rattle.claims.specs.Runner.{Runner}
 use Rattle.claims.specs.AsBefore.{AsBefore}
 use Rattle.claims.specs.Settings.{OldAnswers, RunRaised}
-use Rattle.runner.specs.declared.Answer.{Answer}
-use Rattle.runner.specs.declared.Answer.TheVariants.{Done, Refused}
 use Rattle.runner.specs.declared.Ran.{Ran}
 
-abbrev pub answer_meant : Answer → definition.Answer
-answer_meant Done = done
-answer_meant (Refused x) = refused x.number x.place
+abbrev pub answer_meant : {A : Type 0} → Result A Refusal → definition.Answer
+answer_meant (Ok a) = done
+answer_meant (Err x) = refused x.number x.place
 
 pub record RunOf (limits : Limits) (bytes : List ℕ) (budget : ℕ) (m : Lent) (r : Ran) (m' : Lent) : Type 0 where
   pub answer : answer_meant r.answer ≡ (run_of limits bytes budget m).answer

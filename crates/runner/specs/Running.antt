@@ -4,27 +4,24 @@
 --     ran_at, refused_at         the code's answer and the store then, as the definition's; a refusal before the run
 --     ran_by, RanBy             by what reading gives; what the functions promise
 --     RanFile                  what a run of words comes to
---     CanReport, ReportsEnd    a run, by its progress
 --     CanRunCopied             a run that refusals 10 and 11 let pass
 --     SmallRan, CanPack        an answer that can be packed
-use Rattle.std.specs.Prelude.{◌≡◌, List, ℕ, ◌≤◌, length}
+use Rattle.std.specs.Prelude.{◌≡◌, List, ℕ, ◌≤◌, length, Err}
 use Rattle.layout.specs.Reading.{Reading, read, fault}
 use Rattle.layout.specs.File.{File}
 use Rattle.execution.specs.Lent.{Lent}
 use Rattle.execution.specs.Ran as definition
-use Rattle.execution.specs.Ran.{not_run, ran_of, body_place, run_file}
+use Rattle.execution.specs.Ran.{not_run, body_place, run_file}
 use Rattle.context.specs.Contexts.{refusal}
 use Rattle.heads.specs.Stands.{Runnable, CommandStands}
-use Rattle.run.specs.Steps.{steps_left, end_at}
 use Rattle.runner.specs.Ran.{answer_meant}
-use Rattle.runner.specs.declared.Answer.TheVariants.{Refused}
 use Rattle.runner.specs.declared.Ran.{Ran}
 
 abbrev pub ran_at : Ran → Lent → definition.Ran
 ran_at r m = record { answer = answer_meant r.answer; steps = r.steps; store = m }
 
 abbrev pub refused_at : ℕ → ℕ → Ran
-refused_at k p = record { answer = Refused (refusal k p); steps = 0 }
+refused_at k p = record { answer = Err (refusal k p); steps = 0 }
 
 abbrev pub ran_by : Reading File → ℕ → Lent → definition.Ran
 ran_by (read f p) budget m = run_file f budget m
@@ -37,13 +34,6 @@ pub record RanBy (x : Reading File) (budget : ℕ) (m : Lent) (r : Ran) (m' : Le
 pub record RanFile (w ends : List ℕ) (start budget : ℕ) (m : Lent) (r : Ran) (m' : Lent) : Type 0 where
   pub is : (f : File) (p : ℕ) (x : Runnable w ends f.main.command start p) → x.body_at ≡ body_place f → f.main.start ≡ start →
       ran_at r m' ≡ run_file f budget m
-
--- the steps left are within the budget
-pub record CanReport (s : List ℕ) (budget : ℕ) : Type 0 where
-  pub within : steps_left s ≤ budget
-
-pub record ReportsEnd (s : List ℕ) (budget : ℕ) (r : Ran) : Type 0 where
-  pub is : (m : Lent) → ran_at r m ≡ ran_of budget (end_at s m)
 
 -- 10 and 11 are not due
 pub record CanRunCopied (w ends : List ℕ) (start : ℕ) (m : Lent) (budget : ℕ) : Type 0 where

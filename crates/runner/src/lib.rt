@@ -16,17 +16,10 @@ use context::Refusal;
 use context::settings::{Settings, are_within_ranges, context_under};
 use program::{refused, run_bytes};
 
-// The run ended, or the refusal.
-#[derive(Clone, Copy)]
-pub enum Answer {
-    Done,
-    Refused(Refusal),
-}
-
-// The answer, with the steps finished before it.
-#[derive(Clone, Copy)]
+// The answer, the refusal where the run didn't end, with the steps finished before it.
+#[derive(Clone, Copy, Debug, PartialEq, Eq)]
 pub struct Ran {
-    pub answer: Answer,
+    pub answer: Result<(), Refusal>,
     pub steps: usize,
 }
 
@@ -53,10 +46,9 @@ fn pack(ran: Ran) -> u64
     ensures { (m : Lent) → result ≡ packed_ran (ran_at ran m) }
 {
     let steps = ran.steps as u64 * 4294967296;
-    let answer = ran.answer;
-    match answer {
-        Answer::Done => steps,
-        Answer::Refused(refusal) => steps + (refusal.number as u64 * 65536 + refusal.place as u64),
+    match ran.answer {
+        Ok(()) => steps,
+        Err(refusal) => steps + (refusal.number as u64 * 65536 + refusal.place as u64),
     }
 }
 

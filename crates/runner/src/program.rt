@@ -4,45 +4,20 @@ ghost use Rattle.layout.specs.File.{bytes_read};
 ghost use Rattle.context.specs.Contexts.{limits_of};
 ghost use Rattle.execution.specs.Lent.{lent};
 ghost use Rattle.heads.specs.Stands.{CommandStands};
-ghost use Rattle.runner.specs.Running.{refused_at, CanReport, ReportsEnd, CanRunCopied, RanFile, RanBy};
+ghost use Rattle.runner.specs.Running.{refused_at, CanRunCopied, RanFile, RanBy};
 
-use super::{Answer, Ran};
+use super::Ran;
 use context::{Context, Refusal};
-use evaluate::Progress;
-use evaluate::store::copy;
 use file::read_file;
-use reader::Layout;
 use run::command::run_command;
-use words::numbers::wide;
 
 // A refusal before the run: no step is finished.
 pub(crate) fn refused(number: u32, place: usize) -> Ran
     ensures { result ≡ refused_at number place }
 {
     Ran {
-        answer: Answer::Refused(Refusal { number, place }),
+        answer: Err(Refusal { number, place }),
         steps: 0,
-    }
-}
-
-// What a run on a budget came to.
-fn report(progress: &Progress, budget: usize) -> Ran
-    requires { CanReport progress.now budget }
-    ensures { ReportsEnd progress.now budget result }
-{
-    let number = progress[0];
-    let left = wide(progress[1]);
-    let place = wide(progress[2]);
-    let steps = budget - left;
-    if number == 0 {
-        return Ran {
-            answer: Answer::Done,
-            steps,
-        };
-    }
-    Ran {
-        answer: Answer::Refused(Refusal { number, place }),
-        steps,
     }
 }
 
@@ -62,14 +37,16 @@ fn run_copied(
     ensures { RanFile w.now ends.now start budget
         (lent scalars.old values.old) result (lent scalars.new values.new) }
 {
-    copy(own_scalars, 0, scalars, 0, 32);
-    copy(own_values, 0, values, 0, 2048);
-    let mut progress = [0u32; 3];
-    progress[1] = budget as u32;
-    run_command(w, ends, start, own_scalars, own_values, &mut progress);
-    copy(scalars, 0, own_scalars, 0, 32);
-    copy(values, 0, own_values, 0, 2048);
-    report(&progress, budget)
+    own_scalars.copy_from_slice(scalars);
+    own_values.copy_from_slice(values);
+    let mut left = budget as u32;
+    let answer = run_command(w, ends, start, own_scalars, own_values, &mut left);
+    scalars.copy_from_slice(own_scalars);
+    values.copy_from_slice(own_values);
+    Ran {
+        answer,
+        steps: budget - left as usize,
+    }
 }
 
 // Refusals 10 to 15, of words that refusals 2 to 7 and 16 let pass. The command of the main program stands at the place `start`.
@@ -123,7 +100,7 @@ pub(crate) fn run_bytes(
     let mut table = [0u32; 8753];
     let layout = read_file(file, &mut words, &mut table, context);
     match layout {
-        Layout::Found(places) => run_program(&words, &table, places.start, scalars, values, budget),
-        Layout::Refused(refusal) => refused(refusal.number, refusal.place),
+        Ok(places) => run_program(&words, &table, places.start, scalars, values, budget),
+        Err(refusal) => refused(refusal.number, refusal.place),
     }
 }

@@ -5,20 +5,20 @@ use Rattle.runner.proofs.pack.Goals as goal
 
 pub overflow_add-result : goal.overflow_add-result
 overflow_add-result c =
-    let h = refused-near c.requires.near c.in-Refused.is in
+    let h = refused-near c.requires.near c.in-Err.is in
     let f = c.requires.few in
     omega arith
 
-pub overflow_add-result-in-Refused : goal.overflow_add-result-in-Refused
-overflow_add-result-in-Refused c =
-    let h = refused-near c.requires.near c.in-Refused.is in
+pub overflow_add-result-in-Err : goal.overflow_add-result-in-Err
+overflow_add-result-in-Err c =
+    let h = refused-near c.requires.near c.in-Err.is in
     let f = c.requires.few in
     omega arith
 
-pub returns-in-Done : goal.returns-in-Done
-returns-in-Done c = λ m. packs-done c.args.ran.steps c.in-Done.is
+pub returns-in-Ok : goal.returns-in-Ok
+returns-in-Ok c = λ m. packs-done c.args.ran.steps c.in-Ok.is
 
-pub returns-in-Refused : goal.returns-in-Refused
-returns-in-Refused c =
+pub returns-in-Err : goal.returns-in-Err
+returns-in-Err c =
     λ m.
-    packs-refused c.args.ran.steps c.in-Refused.is
+    packs-refused c.args.ran.steps c.in-Err.is

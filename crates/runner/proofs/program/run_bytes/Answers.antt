@@ -17,14 +17,14 @@ read_file-layout-requires c =
 pub run_program-requires : goal.run_program-requires
 run_program-requires c =
     can-run_file c.read_file-layout.ensures
-    c.in-Found.is
+    c.in-Ok.is
 
-pub returns-in-Found : goal.returns-in-Found
-returns-in-Found c =
-    ran-file c.read_file-layout.ensures c.in-Found.is
+pub returns-in-Ok : goal.returns-in-Ok
+returns-in-Ok c =
+    ran-file c.read_file-layout.ensures c.in-Ok.is
     c.run_program.ensures
 
-pub returns-in-Refused : goal.returns-in-Refused
-returns-in-Refused c =
+pub returns-in-Err : goal.returns-in-Err
+returns-in-Err c =
     refused-file_by c.read_file-layout.ensures c.args.budget (lent
-    c.args.scalars.now c.args.values.now) c.in-Refused.is c.refused.ensures
+    c.args.scalars.now c.args.values.now) c.in-Err.is c.refused.ensures
