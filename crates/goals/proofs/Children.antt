@@ -17,7 +17,7 @@ use Rattle.rules.specs.Evidence.{Judgement, Item, Rule, Row, row, rules, by}
 use Rattle.layout.specs.Bytes.{payload_at}
 use Rattle.layout.specs.ReadEvidence.{rule_of}
 use Rattle.layout.proofs.BackEvidence.{rule-row}
-use Rattle.words.specs.Rows.{packed_items, row_of}
+use Rattle.words.specs.Rows.{row_of}
 use Rattle.words.proofs.RowItems.{row-rule}
 use Rattle.goals.specs.declared.Goal.{Goal}
 use Rattle.goals.specs.declared.Goal.TheVariants.{Flow, Set, Pre}
@@ -59,7 +59,7 @@ module _ (file ends : List ℕ) (at : ℕ) where
   goal-count (Pre f c g) r = eqb-true _ _ (by-table (counts (Pre f c g)) refl r)
 
 pub record RowIs (file ends : List ℕ) (goal : Goal) (g : TreeGoal) (at : ℕ) : Type 0 where
-  pub row : row_of (judgement_of goal) (payload_at file at) ≡ packed_items (tree_items g)
+  pub row : row_of (judgement_of goal) (payload_at file at) ≡ some (tree_items g)
   pub count : length (children_at file ends goal (payload_at file at) at) ≡ length (carried_off (tree_items g))
 
 by-rule : {file ends : List ℕ} {at n : ℕ} (goal : Goal) (g : TreeGoal) → Rule (judgement_of goal) n (tree_items g) →

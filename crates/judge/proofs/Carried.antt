@@ -1,107 +1,84 @@
 -- Past what is carried, of a row: the loop over its items.
 -- Assumes nothing.
---     RowLeft                                              what is left of a row, and its place
---     past-start, past-step, past_end                      at the start; past an item that is carried; where none is carried
---     Passing, passing-start, passing_step, passing-end    the same of the code's row
---     row-of                                               the row of a goal, by its judgement
---     carried-falls                                        a row gets smaller by an item that is carried
+--     Passing, past-start, past-step, past_end    what is left of a row, and its place; at the start; past an item that is
+--                                                 carried; at one that is not, and past the last
+--     row-of                                      the row of a goal, by its judgement
 use mathlib.Core.Path.{◌≡◌, refl, sym, ap, subst, ◌∙◌}
-use mathlib.Core.Bool.{Bool, true, false, ◌||◌}
+use mathlib.Core.Bool.{Bool, true, false}
 use mathlib.Core.List.{List, [], ◌∷◌}
-use Prim.Native.Nat.{ℕ, zero, suc, ◌/◌, ◌%◌, ◌<◌}
+use mathlib.Core.Option.{Option}
+use Prim.Native.Nat.{ℕ, ◌+◌, ◌<◌, ◌≤◌}
 use native.Mathlib.Omega.{arith}
-use lib.Dec.{eqb}
+use native.Mathlib.Numerals.{add-one}
+use lib.ListN.{length, get_or, drop, drop_of_length-le}
+use lib.Seq.{drop-cons}
 use Rattle.laws.proofs.Bools.{clash}
-use Rattle.rules.specs.Evidence.{Judgement, flow, implication, precondition, Item, assertion_item}
-use Rattle.rules.specs.Evidence.{command_item, members_item, child_item}
-use Rattle.words.specs.Rows.{digit, packed_items, row_of}
-use Rattle.words.proofs.RowItems.{digit-rest}
+use Rattle.rules.specs.Evidence.{Item, assertion_item, command_item, members_item, child_item}
+use Rattle.words.specs.Rows.{item_meant, items_meant, row_of}
+use Rattle.words.specs.declared.rows.Item as code
+use Rattle.words.specs.declared.rows.Item.TheVariants.{Assertion}
 use Rattle.goals.specs.declared.Goal.{Goal}
 use Rattle.goals.specs.Children.{judgement_of, carried_off, past_carried}
 use Rattle.ends.specs.Places.{end_at}
 use Rattle.judge.specs.Row.{is_carried, PastCarried}
 
--- of a row whose items l stand from `at` on, rest is left from next on
-pub record RowLeft (ends : List ℕ) (l : List Item) (at rest next : ℕ) : Type 0 where
-  pub items : List Item
-  pub rest-is : rest ≡ packed_items items
-  pub place : past_carried ends items next ≡ past_carried ends l at
-  pub off : carried_off items ≡ carried_off l
+-- of a row whose items stand from `at` on, those from number i on are left from next on
+pub record Passing (ends : List ℕ) (row : List code.Item) (at i next : ℕ) : Type 0 where
+  pub place : past_carried ends (items_meant (drop i row)) next ≡ past_carried ends (items_meant row) at
+  pub off : carried_off (items_meant (drop i row)) ≡ carried_off (items_meant row)
 
-pub past-start : (ends : List ℕ) (l : List Item) (at row : ℕ) → row ≡ packed_items l → RowLeft ends l at row at
-past-start ends l at row e = record { items = l; rest-is = e; place = refl; off = refl }
+pub past-start : (ends : List ℕ) (row : List code.Item) (at : ℕ) → Passing ends row at 0 at
+past-start ends row at = record { place = refl; off = refl }
 
--- the first digit of a row is that of its first item
-digit-first : (x : Item) (l : List Item) → packed_items (x ∷ l) % 8 ≡ digit x
-digit-first assertion_item l = omega arith
-digit-first command_item l = omega arith
-digit-first members_item l = omega arith
-digit-first (child_item flow) l = omega arith
-digit-first (child_item implication) l = omega arith
-digit-first (child_item precondition) l = omega arith
+-- past an item that is carried
+past-item : (ends : List ℕ) (x : Item) (l : List Item) (at : ℕ) → is_carried x ≡ true →
+    (past_carried ends (x ∷ l) at ≡ past_carried ends l (end_at ends at)) × (carried_off (x ∷ l) ≡ carried_off l)
+past-item ends assertion_item l at e = (refl, refl)
+past-item ends command_item l at e = (refl, refl)
+past-item ends members_item l at e = (refl, refl)
+past-item ends (child_item j) l at e = clash e refl
 
--- it tells whether an item is carried
-carried_first : (x : Item) (l : List Item) (b : Bool) → is_carried (packed_items (x ∷ l)) ≡ b →
-    (eqb (digit x) 1 || (eqb (digit x) 2 || eqb (digit x) 3)) ≡ b
-carried_first x l b e =
-    ap (λ d. eqb d 1 || (eqb d 2 || eqb d 3)) (sym (digit-first x l)) ∙ e
+-- at one that is not
+at-child : (ends : List ℕ) (x : Item) (l : List Item) (at : ℕ) → is_carried x ≡ false →
+    (past_carried ends (x ∷ l) at ≡ at) × (carried_off (x ∷ l) ≡ x ∷ l)
+at-child ends assertion_item l at e = clash refl e
+at-child ends command_item l at e = clash refl e
+at-child ends members_item l at e = clash refl e
+at-child ends (child_item j) l at e = (refl, refl)
 
-child-item : (j : Judgement) →
-    (eqb (digit (child_item j)) 1 || (eqb (digit (child_item j)) 2 || eqb (digit (child_item j)) 3)) ≡ false
-child-item flow = refl
-child-item implication = refl
-child-item precondition = refl
+module _ {ends : List ℕ} {row : List code.Item} {at i next : ℕ} (p : Passing ends row at i next) where
+  pub past_end : length row ≤ i → (next ≡ past_carried ends (items_meant row) at) × ([] ≡ carried_off (items_meant row))
+  past_end h =
+      let e = drop_of_length-le row h in (
+        ap (λ l. past_carried ends (items_meant l) next) (sym e) ∙ p.place,
+        ap (λ l. carried_off (items_meant l)) (sym e) ∙ p.off,
+      )
 
-module _ (ends : List ℕ) (l : List Item) (at next : ℕ) where
-  step : (m : List Item) {e : ℕ} → e ≡ end_at ends next → is_carried (packed_items m) ≡ true →
-      past_carried ends m next ≡ past_carried ends l at → carried_off m ≡ carried_off l →
-      RowLeft ends l at (packed_items m / 8) e
-  step [] h c p o = clash c refl
-  step (assertion_item ∷ m) h c p o =
-      record { items = m; rest-is = digit-rest assertion_item m; place = ap (past_carried ends m) h ∙ p; off = o }
-  step (command_item ∷ m) h c p o =
-      record { items = m; rest-is = digit-rest command_item m; place = ap (past_carried ends m) h ∙ p; off = o }
-  step (members_item ∷ m) h c p o =
-      record { items = m; rest-is = digit-rest members_item m; place = ap (past_carried ends m) h ∙ p; off = o }
-  step (child_item j ∷ m) h c p o = clash (carried_first (child_item j) m true c) (child-item j)
+  module _ (n : i < length row) where
+    abbrev x : code.Item
+    x = get_or row i Assertion
 
-  pub past-step : {rest e : ℕ} → RowLeft ends l at rest next → e ≡ end_at ends next → is_carried rest ≡ true →
-      RowLeft ends l at (rest / 8) e
-  past-step {rest} {e} x h c =
-      rw x.rest-is (step x.items h (ap is_carried (sym x.rest-is) ∙ c) x.place x.off)
+    split : drop i row ≡ x ∷ drop (i + 1) row
+    split = rw add-one (drop-cons row i Assertion n)
 
-  stop : (m : List Item) → is_carried (packed_items m) ≡ false → (next ≡ past_carried ends m next) × (m ≡ carried_off m)
-  stop [] c = (refl, refl)
-  stop (assertion_item ∷ m) c = clash refl (carried_first assertion_item m false c)
-  stop (command_item ∷ m) c = clash refl (carried_first command_item m false c)
-  stop (members_item ∷ m) c = clash refl (carried_first members_item m false c)
-  stop (child_item j ∷ m) c = (refl, refl)
+    pub past-step : is_carried (item_meant x) ≡ true → {e : ℕ} → e ≡ end_at ends next → Passing ends row at (i + 1) e
+    past-step c h =
+        let k = past-item ends (item_meant x) (items_meant (drop (i + 1) row)) next c in
+        record {
+          place = ap (past_carried ends (items_meant (drop (i + 1) row))) h ∙ sym k.0
+              ∙ ap (λ l. past_carried ends (items_meant l) next) (sym split) ∙ p.place;
+          off = sym k.1 ∙ ap (λ l. carried_off (items_meant l)) (sym split) ∙ p.off;
+        }
 
-  pub past_end : {rest : ℕ} → RowLeft ends l at rest next → is_carried rest ≡ false →
-      (next ≡ past_carried ends l at) × (rest ≡ packed_items (carried_off l))
-  past_end {rest} x c =
-      let y = stop x.items (ap is_carried (sym x.rest-is) ∙ c) in
-      (y.0 ∙ x.place, x.rest-is ∙ ap packed_items (y.1 ∙ x.off))
-
-pub carried-falls : (rest : ℕ) → is_carried rest ≡ true → rest / 8 < rest
-carried-falls zero c = clash c refl
-carried-falls (suc n) c = omega arith
-
--- the same of the code's row, whatever its items
-pub record Passing (ends : List ℕ) (row at rest next : ℕ) : Type 0 where
-  pub left : (l : List Item) → row ≡ packed_items l → RowLeft ends l at rest next
-
-pub passing-start : (ends : List ℕ) (row at : ℕ) → Passing ends row at row at
-passing-start ends row at = record { left = λ l e. past-start ends l at row e }
-
-module _ {ends : List ℕ} {row at rest next : ℕ} (p : Passing ends row at rest next) where
-  pub passing_step : {e : ℕ} → is_carried rest ≡ true → e ≡ end_at ends next → Passing ends row at (rest / 8) e
-  passing_step c h = record { left = λ l i. past-step ends l at next (p.left l i) h c }
-
-  pub passing-end : is_carried rest ≡ false → PastCarried ends row at (record { at = next; rest = rest })
-  passing-end c = record { past = λ l i. past_end ends l at next (p.left l i) c }
+    pub past_stop : is_carried (item_meant x) ≡ false →
+        (next ≡ past_carried ends (items_meant row) at) × (items_meant (drop i row) ≡ carried_off (items_meant row))
+    past_stop c =
+        let k = at-child ends (item_meant x) (items_meant (drop (i + 1) row)) next c in (
+          sym k.0 ∙ ap (λ l. past_carried ends (items_meant l) next) (sym split) ∙ p.place,
+          ap items_meant split ∙ sym k.1 ∙ ap (λ l. carried_off (items_meant l)) (sym split) ∙ p.off,
+        )
 
 -- the row of a goal by its judgement
-pub row-of : {goal g : Goal} {r : ℕ} (rule : ℕ) → goal ≡ g → r ≡ row_of (judgement_of g) rule →
+pub row-of : {goal g : Goal} {r : Option (List Item)} (rule : ℕ) → goal ≡ g → r ≡ row_of (judgement_of g) rule →
     r ≡ row_of (judgement_of goal) rule
 row-of {r = r} rule e h = subst (λ x. r ≡ row_of (judgement_of x) rule) (sym e) h

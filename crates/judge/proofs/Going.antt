@@ -4,30 +4,34 @@
 --     can-step, can-go                                     the word: what its conditions ask for; its children, where they pass
 --     judged-failed, judged-passed                         its verdict by the result of its conditions
 --     Going                                                the children from number k on, in the code's loop
+--     row-there, word-row, children-left                   the row of the word's rule: there is one; as many items are left
 --     going_start, going_step, going_refused, going_end    at the start; past a child; a child refused; past the last
 --     child-asked, child-can                               what the goal of a child and judging it ask for
 --     next_fits                                            a child has a small number
 --     count_fits                                           the sum of counts does not overflow
 use mathlib.Core.Path.{◌≡◌, refl, sym, ap, subst, ◌∙◌}
 use mathlib.Core.List.{List, [], ◌∷◌}
-use Prim.Native.Nat.{ℕ, zero, suc, ◌+◌, ◌-◌, ◌/◌, ◌<◌, ◌≤◌}
+use Prim.Native.Nat.{ℕ, zero, suc, ◌+◌, ◌-◌, ◌<◌, ◌≤◌}
 use native.Mathlib.Omega.{arith}
-use lib.ListN.{length, get_or, drop}
+use mathlib.Core.Option.{some}
+use lib.ListN.{length, get_or, drop, length-map}
 use Rattle.rules.specs.Context.{Context}
 use Rattle.rules.specs.Evidence.{Item, by}
 use Rattle.rules.specs.Judge.{Verdict, accepted, refused, one_more, ◌also◌, step, judge_word, judge}
 use Rattle.layout.specs.Bytes.{payload_at}
 use Rattle.layout.specs.EvidenceWords.{FitsTree}
-use Rattle.words.specs.Rows.{packed_items, row_of}
-use Rattle.words.proofs.RowItems.{no_item, digit-rest}
+use Rattle.words.specs.Rows.{item_meant, items_meant, row_meant, row_of}
+use Rattle.words.specs.declared.rows.Item as code
+use Rattle.std.specs.Prelude as std
 use Rattle.std.specs.Prelude.{Ok, Err}
+use Rattle.std.proofs.Common.{Bor}
 use Rattle.implication.specs.Sides.{Condition, result_of}
 use Rattle.implication.specs.declared.Failure.{Failure}
 use Rattle.implication.specs.declared.Failure.TheVariants.{Fails, TooLarge}
 use Rattle.context.specs.declared.Refusal.{Refusal}
 use Rattle.goals.specs.declared.Goal.{Goal}
 use Rattle.goals.specs.declared.Judged.{Judged}
-use Rattle.goals.specs.Children.{children_at, child_at, judgement_of, carried_off}
+use Rattle.goals.specs.Children.{children_at, child_at, judgement_of, carried_off, past_carried}
 use Rattle.goals.specs.Goals.{TreeGoal, verdict, verdicts, tree_step, tree_items, GoalStands, GoalsStand}
 use Rattle.goals.specs.Goals.{flow, set, pre, flow-stands, set-stands, pre-stands, CanStep, StepOf, Answer, judged_of, CanJudge, JudgedOf}
 use Rattle.goals.proofs.Children.{row_is}
@@ -131,10 +135,7 @@ module _ (file ends : List ℕ) (Γ : Context) (goal : Goal) (at left : ℕ) whe
     pub judged : verdict Γ g ≡ accepted count also verdicts Γ trees
     pub few : count ≤ suc next
 
-  pub record Going (rest next count k : ℕ) : Type 0 where
-    pub items : List Item
-    pub rest-is : rest ≡ packed_items items
-    pub many : k + length items ≡ length goals
+  pub record Going (next count k : ℕ) : Type 0 where
     pub goes : (g : TreeGoal) (end : ℕ) → GoalStands Γ file ends goal g (suc left) at end → GoingOf g end k next count
 
 pub also_sum : (m n : ℕ) (v : Verdict) → accepted m also (accepted n also v) ≡ accepted (m + n) also v
@@ -161,52 +162,49 @@ pub refused-is : (v w : Verdict) (m end last : ℕ) {x : Refusal} → ◌≡◌ 
 refused-is (accepted n) w m end last h = absurd (let u : ◌≡◌ {A = ℕ} 0 1 = cc in omega (arith, u))
 refused-is (refused k i) w m end last h = h ∙ ap (λ v. judged_of v last) (sym (also_stop m k i w))
 
--- the first of a row's items, where one is left
-record FirstItem (items : List Item) : Type 0 where
-  first : Item
-  others : List Item
-  is : items ≡ first ∷ others
+-- a row that there is
+pub row-there : (o : std.Option (Bor (List code.Item))) {l : List Item} → row_meant o ≡ some l → std.IsSome o
+row-there std.None h = absurd (let z : ◌≡◌ {A = ℕ} 0 1 = cc in omega (arith, z))
+row-there (std.Some r) h = refl
 
-row_first : (items : List Item) → (packed_items items ≡ 0 → ⊥) → FirstItem items
-row_first [] h = absurd (h refl)
-row_first (x ∷ l) h = record { first = x; others = l; is = refl }
+same-row : {a b : List Item} → some a ≡ some b → a ≡ b
+same-row h = cc
 
 module _ {file ends : List ℕ} {Γ : Context} {goal : Goal} {at left : ℕ} (p : CanGo file ends Γ goal at left) where
-  pub going_start : {row rule : ℕ} {first : First} → rule ≡ payload_at file at → row ≡ row_of (judgement_of goal) rule →
-      PastCarried ends row (at + 1) first → Going file ends Γ goal at left first.rest first.at 1 0
+  -- the row of the word's rule
+  pub word-row : {rule : ℕ} {o : std.Option (Bor (List code.Item))} → rule ≡ payload_at file at →
+      row_meant o ≡ row_of (judgement_of goal) rule → row_meant o ≡ some (tree_items p.can.tree)
+  word-row e f = f ∙ ap (row_of (judgement_of goal)) e ∙ (row_is p.can.goal-stands).row
+
+  -- as many items are left as there are children
+  pub children-left : {row : List code.Item} {first : First} {rule : ℕ} → rule ≡ payload_at file at →
+      some (items_meant row) ≡ row_of (judgement_of goal) rule → PastCarried ends row (at + 1) first →
+      length first.rest.now ≡ length (goals file ends Γ goal at left)
+  children-left {row} {first} e f past =
+      let is : items_meant row ≡ tree_items p.can.tree = same-row (f ∙ ap (row_of (judgement_of goal)) e ∙ (row_is p.can.goal-stands).row) in
+      sym (length-map first.rest.now item_meant) ∙ ap length (past.past.1 ∙ ap carried_off is) ∙ sym (row_is p.can.goal-stands).count
+
+  pub going_start : {row : List code.Item} {first : First} {rule : ℕ} → rule ≡ payload_at file at →
+      some (items_meant row) ≡ row_of (judgement_of goal) rule → PastCarried ends row (at + 1) first →
+      Going file ends Γ goal at left first.at 1 0
   unfolding judge_word
-  going_start {row} {rule} {first} e f past =
-      let known : (g : TreeGoal) (end : ℕ) → GoalStands Γ file ends goal g (suc left) at end →
-      row ≡ packed_items (tree_items g) = λ g end s. f ∙ ap (row_of (judgement_of goal)) e ∙ (row_is s).row in
-      record {
-        items = carried_off (tree_items p.can.tree);
-        rest-is = (past.past (tree_items p.can.tree) (known _ _ p.can.goal-stands)).1;
-        many = let c = (row_is p.can.goal-stands).count in omega arith;
-        goes = λ g end s.
-            let c = p.passed.comes g left end (omega (arith, p.can.low)) s in
-            let k = c.stand refl in
-            record {
-              trees = k.trees;
-              stand = subst (λ i. GoalsStand Γ file ends (goals file ends Γ goal at left) k.trees left i end)
-                  (sym (past.past (tree_items g) (known g end s)).0) k.stand;
-              judged = word-is s ∙ ap (judge_word at) c.is ∙ one_more_lem c.children
-                  ∙ ap (λ v. accepted 1 also v) k.judged;
-              few = omega arith;
-            };
-      }
+  going_start {row} {first} e f past = record {
+    goes = λ g end s.
+        let is : items_meant row ≡ tree_items g = same-row (f ∙ ap (row_of (judgement_of goal)) e ∙ (row_is s).row) in
+        let c = p.passed.comes g left end (omega (arith, p.can.low)) s in
+        let k = c.stand refl in
+        record {
+          trees = k.trees;
+          stand = subst (λ i. GoalsStand Γ file ends (goals file ends Γ goal at left) k.trees left i end)
+              (sym (past.past.0 ∙ ap (λ l. past_carried ends l (at + 1)) is)) k.stand;
+          judged = word-is s ∙ ap (judge_word at) c.is ∙ one_more_lem c.children
+              ∙ ap (λ v. accepted 1 also v) k.judged;
+          few = omega arith;
+        };
+  }
 
-  module _ {rest next count k rule : ℕ} (e : rule ≡ payload_at file at)
-      (going : Going file ends Γ goal at left rest next count k) where
-    module _ (some : rest ≡ 0 → ⊥) where
-      item : FirstItem going.items
-      item = row_first going.items (λ z. some (going.rest-is ∙ z))
-
-      below : k < length (goals file ends Γ goal at left)
-      below =
-          let m = going.many in
-          let z = ap length item.is in
-          omega arith
-
+  module _ {next count k rule : ℕ} (e : rule ≡ payload_at file at) (going : Going file ends Γ goal at left next count k) where
+    module _ (below : k < length (goals file ends Γ goal at left)) where
       pub next_fits : k < 8
       next_fits = let h = below in let l = children-few file ends goal (payload_at file at) at in omega arith
 
@@ -280,11 +278,8 @@ module _ {file ends : List ℕ} {Γ : Context} {goal : Goal} {at left : ℕ} (p 
                 (verdict Γ y.tree ≡ accepted j.count) × (j.end ≡ y.past)
             judged-is y = accepted-is (verdict Γ y.tree) (child-judged.judged y.tree y.past y.stands)
 
-            pub going_step : Going file ends Γ goal at left (rest / 8) j.end (count + j.count) (k + 1)
+            pub going_step : Going file ends Γ goal at left j.end (count + j.count) (k + 1)
             going_step = record {
-              items = item.others;
-              rest-is = ap (λ m. m / 8) (going.rest-is ∙ ap packed_items item.is) ∙ digit-rest item.first item.others;
-              many = let m = going.many in let z = ap length item.is in omega arith;
               goes = λ g end s.
                   let y = child-of g end s in
                   let i = judged-is y in
@@ -311,15 +306,12 @@ module _ {file ends : List ℕ} {Γ : Context} {goal : Goal} {at left : ℕ} (p 
                 let z = p.can.size in
                 omega (arith, few, c, l, z, b)
 
-    pub going_end : rest ≡ 0 → Goes file ends Γ goal at left (answer count next)
+    pub going_end : k ≡ length (goals file ends Γ goal at left) → Goes file ends Γ goal at left (answer count next)
     going_end z = record {
       judged = λ g end s.
           let x = going.goes g end s in
-          let none = no_item going.items (sym going.rest-is ∙ z) in
-          let m = going.many in
-          let l = ap length none in
           go g end x.trees (subst (λ l. GoalsStand Γ file ends l x.trees left next end)
-          (drop_all (goals file ends Γ goal at left) k (omega arith)) x.stand) x.judged;
+          (drop_all (goals file ends Γ goal at left) k z) x.stand) x.judged;
     }
       where
         go : (g : TreeGoal) (end : ℕ) (ts : List TreeGoal) → GoalsStand Γ file ends [] ts left next end →

@@ -48,18 +48,15 @@ fn judge_children(file: &File, goal: Goal, at: usize, left: usize) -> Result<Jud
     ensures { Goes file.now.words.now file.now.ends.now (context_for file.now) goal «at» left result }
 {
     let rule = file.words[at] % KIND;
-    let first = past_carried(file.ends, row_at(goal, rule), at + 1);
-    let mut rest = first.rest;
+    let row = row_at(goal, rule).unwrap();
+    let first = past_carried(file.ends, row, at + 1);
     let mut next = first.at;
     let mut count = 1;
-    let mut k = 0;
-    while rest != 0 {
+    for k in 0..first.rest.len() {
         let child = child_of(file, rule, goal, at, k);
         let judged = judge(file, child, next, left)?;
         count += judged.count;
         next = judged.end;
-        rest = rest / 8;
-        k += 1;
     }
     Ok(Judged { count, end: next })
 }

@@ -7,7 +7,7 @@ use native.Mathlib.Omega.{arith}
 use Rattle.std.proofs.lemmas.Result.{err_from_is_err_and}
 use Rattle.judge.proofs.Going.{level-due, can-step, can-go, judged-failed, judged-passed}
 use Rattle.judge.proofs.Going.{going_start, going_step, going_refused, going_end, child-asked, child-can}
-use Rattle.judge.proofs.Going.{next_fits, count_fits}
+use Rattle.judge.proofs.Going.{count_fits, row-there, word-row, children-left}
 use Rattle.judge.proofs.Counts.{goal-place}
 use Rattle.judge.proofs.+judge_judge_children.Goals as goal
 
@@ -42,44 +42,46 @@ judge_children-overflow_add-at t c =
     let l = c.requires.can.size in
     omega arith
 
-pub judge_children-loop-rest-init : goal.judge_children-loop-rest-init
-judge_children-loop-rest-init t c = (refl, going_start c.requires refl c.row_at.ensures c.past_carried-first.ensures)
+pub judge_children-unwrap-row-requires : goal.judge_children-unwrap-row-requires
+judge_children-unwrap-row-requires t c = row-there _ (word-row c.requires refl c.row_at.ensures)
+
+pub judge_children-loop-k-init : goal.judge_children-loop-k-init
+judge_children-loop-k-init t c = ?
 
 pub judge_children-child_of-child-requires : goal.judge_children-child_of-child-requires
-judge_children-child_of-child-requires t c = child-asked c.requires c.loop-rest.invariant.0 c.loop-rest.invariant.1 c.loop-rest-test.true
+judge_children-child_of-child-requires t c =
+    let i = c.loop-k.invariant in
+    child-asked c.requires i.0 i.2 (omega (arith, i.1, c.loop-k-test.true))
 
 pub judge_children-judge-requires : goal.judge_children-judge-requires
 judge_children-judge-requires t c =
-    let can = child-can c.requires c.loop-rest.invariant.0 c.loop-rest.invariant.1 c.loop-rest-test.true
-    c.child_of-child.ensures in
+    let i = c.loop-k.invariant in
+    let can = child-can c.requires i.0 i.2 (omega (arith, i.1, c.loop-k-test.true)) c.child_of-child.ensures in
     (omega (arith, c.decreases), can)
 
 pub judge_children-returns-in_err-judged : goal.judge_children-returns-in_err-judged
 judge_children-returns-in_err-judged t c =
-    going_refused c.requires c.loop-rest.invariant.0 c.loop-rest.invariant.1 c.loop-rest-test.true
+    let i = c.loop-k.invariant in
+    going_refused c.requires i.0 i.2 (omega (arith, i.1, c.loop-k-test.true))
     c.child_of-child.ensures c.in_err-judged.ensures (err_from_is_err_and _ c.from_residual.ensures.1)
 
 pub judge_children-overflow_add-count : goal.judge_children-overflow_add-count
 judge_children-overflow_add-count t c =
+    let i = c.loop-k.invariant in
     record {
-      fits = count_fits c.requires c.loop-rest.invariant.0 c.loop-rest.invariant.1 c.loop-rest-test.true
+      fits = count_fits c.requires i.0 i.2 (omega (arith, i.1, c.loop-k-test.true))
           c.child_of-child.ensures c.in_ok-judged.ensures (omega arith);
     }
 
-pub judge_children-overflow_add-k : goal.judge_children-overflow_add-k
-judge_children-overflow_add-k t c =
-    let h = next_fits c.requires c.loop-rest.invariant.0 c.loop-rest.invariant.1 c.loop-rest-test.true in
-    omega arith
-
-pub judge_children-loop-rest-smaller : goal.judge_children-loop-rest-smaller
-judge_children-loop-rest-smaller t c = let h = c.loop-rest-test.true in omega arith
-
-pub judge_children-loop-rest-preserved : goal.judge_children-loop-rest-preserved
-judge_children-loop-rest-preserved t c = (
-  c.loop-rest.invariant.0,
-  going_step c.requires c.loop-rest.invariant.0 c.loop-rest.invariant.1
-      c.loop-rest-test.true c.child_of-child.ensures c.in_ok-judged.ensures,
-)
+pub judge_children-loop-k-preserved : goal.judge_children-loop-k-preserved
+judge_children-loop-k-preserved t c =
+    let i = c.loop-k.invariant in (
+      i.0,
+      i.1,
+      going_step c.requires i.0 i.2 (omega (arith, i.1, c.loop-k-test.true)) c.child_of-child.ensures c.in_ok-judged.ensures,
+    )
 
 pub judge_children-returns : goal.judge_children-returns
-judge_children-returns t c = going_end c.requires c.loop-rest.invariant.0 c.loop-rest.invariant.1 c.loop-rest-test.false
+judge_children-returns t c =
+    let i = c.loop-k.invariant in
+    going_end c.requires i.0 i.2 (omega (arith, i.1, c.loop-k-test.false))

@@ -4,7 +4,9 @@
 -- Assumes nothing.
 use mathlib.Core.Path.{◌≡◌}
 use Prim.Native.Nat.{◌+◌, ◌*◌}
+use lib.ListN.{length}
 use Rattle.layout.specs.Bytes.{payload_at}
+use Rattle.goals.specs.Children.{children_at}
 use Rattle.goals.specs.Files.{context_for}
 use Rattle.judge.proofs.Going.{Going}
 use Rattle.judge.proofs.+judge_judge_children.Given as goal
@@ -15,9 +17,8 @@ decreases-judge l = 2 * l.left
 abbrev pub decreases-judge_children : goal.decreases-judge_children
 decreases-judge_children l = 2 * l.left + 1
 
-abbrev pub invariant-judge_children-loop-rest : goal.invariant-judge_children-loop-rest
-invariant-judge_children-loop-rest l = (l.rule ≡ payload_at l.file.words.now l.at) ×
-    Going l.file.words.now l.file.ends.now (context_for l.file) l.goal l.at l.left l.rest l.next l.count l.k
-
-abbrev pub decreases-judge_children-loop-rest : goal.decreases-judge_children-loop-rest
-decreases-judge_children-loop-rest l = l.rest
+abbrev pub invariant-judge_children-loop-k : goal.invariant-judge_children-loop-k
+invariant-judge_children-loop-k l =
+    (l.rule ≡ payload_at l.file.words.now l.at) ×
+    (length l.first.rest.now ≡ length (children_at l.file.words.now l.file.ends.now l.goal (payload_at l.file.words.now l.at) l.at)) ×
+    Going l.file.words.now l.file.ends.now (context_for l.file) l.goal l.at l.left l.next l.count l.k

