@@ -1,10 +1,7 @@
 -- The mask of the scalars that the `for`s of a file count with, and where the `for`s stand, as a scan finds them.
 -- Assumes nothing.
 --     ForsBefore            the mask has q and m of each `for` before a place, and none of these stands from another place on
---     fors_start            before the first turn
---     fors_past, fors_next, fors_more
---                           past words of other kinds; past one such word; past a `for`, whose q and m are put in
---     fors_end              at the end of the file
+--     fors_past, fors_more  past words of other kinds; past a `for`, whose q and m are put in
 use mathlib.Core.Path.{◌≡◌, refl, ap, ◌∙◌}
 use mathlib.Core.Bool.{true, ◌||◌, or-true}
 use mathlib.Core.List.{List}
@@ -13,13 +10,11 @@ use Prim.Native.Nat.{ℕ, ◌+◌, ◌/◌, ◌%◌, ◌^◌, ◌<◌, ◌≤◌
 use native.Mathlib.Omega.{arith}
 use borrow.Author.Tests.{eq-eqb}
 use lib.Bits.{bit_or}
-use lib.ListN.{length}
 use Rattle.layout.specs.Bytes.{kind_at, payload_at}
 use Rattle.ends.specs.Mask.{bit}
 use Rattle.ends.proofs.Bits.{bit-or, bit-power}
 use Rattle.ends.proofs.Sizes.{lt_or_le}
 use Rattle.scan.specs.Pass.{Passed}
-use Rattle.scan.specs.ForsMask.{ForsFound}
 
 -- a bit that is there stays
 kept : (m n i : ℕ) → bit m i ≡ true → bit (bit_or m n) i ≡ true
@@ -35,29 +30,12 @@ module _ (file : List ℕ) where
     pub second : (at : ℕ) → at < to → kind_at file at ≡ 31 → bit mask (payload_at file at / 32 % 32) ≡ true
     pub behind : (at : ℕ) → past ≤ at → at < to → kind_at file at ≡ 31 → ⊥
 
-  pub fors_start : ForsBefore 0 0 0
-  fors_start = record {
-    first = λ i l e. absurd (omega arith);
-    second = λ i l e. absurd (omega arith);
-    behind = λ i k l e. omega arith;
-  }
-
   pub fors_past : {at p mask past : ℕ} → Passed file 31 at p → ForsBefore at mask past → ForsBefore p mask past
   fors_past {at} x b = record {
     first = λ i l e. elim (lt_or_le i at) [ inl h ↦ b.first i h e | inr h ↦ absurd (x.none i h l e) ];
     second = λ i l e. elim (lt_or_le i at) [ inl h ↦ b.second i h e | inr h ↦ absurd (x.none i h l e) ];
     behind = λ i k l e. elim (lt_or_le i at) [ inl h ↦ b.behind i k h e | inr h ↦ x.none i h l e ];
   }
-
-  pub fors_next : {at mask past : ℕ} → (kind_at file at ≡ 31 → ⊥) → ForsBefore at mask past → ForsBefore (at + 1) mask past
-  fors_next {at} n b = record {
-    first = λ i l e. elim (lt_or_le i at) [ inl h ↦ b.first i h e | inr h ↦ absurd (n (there i l h e)) ];
-    second = λ i l e. elim (lt_or_le i at) [ inl h ↦ b.second i h e | inr h ↦ absurd (n (there i l h e)) ];
-    behind = λ i k l e. elim (lt_or_le i at) [ inl h ↦ b.behind i k h e | inr h ↦ n (there i l h e) ];
-  }
-    where
-      there : (i : ℕ) → i < at + 1 → at ≤ i → kind_at file i ≡ 31 → kind_at file at ≡ 31
-      there i l h e = let same : at ≡ i = omega arith in ap (kind_at file) same ∙ e
 
   pub fors_more : {at mask past one two : ℕ} → one ≡ bit_or mask (2 ^ (payload_at file at % 32)) →
       two ≡ bit_or one (2 ^ (payload_at file at / 32 % 32)) → ForsBefore at mask past → ForsBefore (at + 1) two (at + 1)
@@ -87,11 +65,3 @@ module _ (file : List ℕ) where
 
       at-two : (i : ℕ) → i ≡ payload_at file at / 32 % 32 → bit two i ≡ true
       at-two i e = ap (bit two) e ∙ ap (λ m. bit m (payload_at file at / 32 % 32)) s ∙ put one _
-
-  pub fors_end : {at mask words first past : ℕ} → length file ≤ at → Passed file 31 0 first → ForsBefore at mask past →
-      ForsFound file (record { mask = mask; words = words; first = first; past = past })
-  fors_end n x b = record {
-    mask-of = record { first = λ i l e. b.first i (omega arith) e; second = λ i l e. b.second i (omega arith) e };
-    before = λ i l e. x.none i (omega arith) l e;
-    behind = λ i k l e. b.behind i k (omega arith) e;
-  }

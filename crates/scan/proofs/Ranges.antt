@@ -1,25 +1,14 @@
 -- A turn of a scan.
 -- Assumes nothing.
---     mentioned-as, unmentioned                what a word is, by its kind
 --     any_none, any_next, any-hit, any-miss    the end of a scan for a word that passes a test; a turn
-use mathlib.Core.Path.{◌≡◌, ap, ◌∙◌}
+use mathlib.Core.Path.{◌≡◌, ◌∙◌}
 use mathlib.Core.Bool.{Bool, true, false, ◌||◌}
 use mathlib.Core.List.{List}
-use mathlib.Core.Option.{none}
 use Prim.Native.Nat.{ℕ, suc, ◌+◌, ◌-◌, ◌<◌, ◌≤◌}
 use native.Mathlib.Omega.{arith}
 use native.Mathlib.Numerals.{add-one}
-use borrow.Author.Tests.{ne_eqb}
 use Rattle.layout.specs.Bytes.{kind_at, payload_at}
 use Rattle.ends.specs.Blocks.{any_in}
-use Rattle.scan.specs.Scan.{mentioned}
-
-pub mentioned-as : {k n : ℕ} (p : ℕ) → k ≡ n → mentioned k p ≡ mentioned n p
-mentioned-as p e = ap (λ i. mentioned i p) e
-
-pub unmentioned : (k p : ℕ) → (k ≡ 2 → ⊥) → (k ≡ 16 → ⊥) → mentioned k p ≡ none
-unfolding mentioned
-unmentioned k p f g = rw (ne_eqb k 2 f, ne_eqb k 16 g)
 
 one_less : (at to : ℕ) → at < to → to - at ≡ suc (to - (at + 1))
 one_less at to h = omega arith

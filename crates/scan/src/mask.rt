@@ -7,6 +7,7 @@ use ends::mask::has_bit;
 use words::kinds::{ARRAY, KIND, SCALAR};
 
 // Whether a word is an identifier that the mask has: kinds 2 and 16.
+#[tactic(auto, unfolding(crate::specs::Scan::mentioned))]
 pub fn is_marked(mask: u64, x: u32) -> bool
     ensures { result ≡ marked mask (x / payloads) (x % payloads) }
 {

@@ -14,33 +14,14 @@ loop-at-init c =
       steady-past _ _ (omega (arith, least)) passed (steady-from _ _ c.requires (omega (arith, least)) (omega (arith, least))),
     )
 
-pub bounds-w-at : goal.bounds-w-at
-bounds-w-at c = omega (arith, c.loop-at-test.true, least)
-
-pub loop-at-smaller-then-w-at-ne-FOR : goal.loop-at-smaller-then-w-at-ne-FOR
-loop-at-smaller-then-w-at-ne-FOR c = omega (arith, c.loop-at-test.true, least)
-
 pub loop-at-preserved-then-w-at-ne-FOR : goal.loop-at-preserved-then-w-at-ne-FOR
 loop-at-preserved-then-w-at-ne-FOR c =
     (omega (arith, least), steady-more _ _ _ (omega (arith, least)) c.loop-at.invariant.1 (tested-else _ _ _ c.if-w-at-ne-FOR.true))
-
-pub unsteady_at-requires : goal.unsteady_at-requires
-unsteady_at-requires c =
-    let pre = c.requires in
-    record {
-      inside = omega (arith, c.loop-at-test.true, least);
-      is-for = c.if-w-at-ne-FOR.false;
-      listed = pre.listed;
-      blocks = pre.blocks;
-    }
 
 pub returns-then-unsteady_at : goal.returns-then-unsteady_at
 returns-then-unsteady_at c =
     found_here _ _ _ (omega (arith, least)) c.loop-at.invariant.1
     (subst (Tested _ _ _) c.if-unsteady_at.true c.unsteady_at.ensures)
-
-pub loop-at-smaller : goal.loop-at-smaller
-loop-at-smaller c = omega (arith, c.loop-at-test.true, least, c.next_for-at-in-loop-at.ensures.onward)
 
 pub loop-at-preserved : goal.loop-at-preserved
 loop-at-preserved c =
