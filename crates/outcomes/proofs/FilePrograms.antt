@@ -202,36 +202,36 @@ module _ {file ends : List ℕ} (x : Context) (h : CanJudgePrograms file ends x)
           h.end (j.judged next.g there) ∙ ap (λ v. goals.judged_of v h.end) (sym judged-next))
 
       module _ {a : Judged} (j : JudgedAt file ends x i (Ok a)) where
-          is-accepted : judge_program Δ next.g ≡ accepted a.count
-          is-accepted = (accepted-is (judge_program Δ next.g) (j.judged next.g there)).0
+        is-accepted : judge_program Δ next.g ≡ accepted a.count
+        is-accepted = (accepted-is (judge_program Δ next.g) (j.judged next.g there)).0
 
-          pub count_fits : count + a.count ≤ 8192
-          count_fits =
-              let c = counted there is-accepted in
-              let l = program-inside Δ file next.g stand.1 in
-              omega (arith, c, l, h.size, going.few, stand.0)
+        pub count_fits : count + a.count ≤ 8192
+        count_fits =
+            let c = counted there is-accepted in
+            let l = program-inside Δ file next.g stand.1 in
+            omega (arith, c, l, h.size, going.few, stand.0)
 
-          at_next : ProgramsGoing (suc i) (count + a.count)
-          at_next =
-              let e = next-context (limits_of x) file f i was.stands (going.from ∙ next.is) in
-              let c = counted there is-accepted in
-              record {
-                left = next.others;
-                at = next.g.past;
-                from = drop-next f.procedures i (going.from ∙ next.is);
-                many = (let m = going.many in let z = ap length next.is in omega arith);
-                stand = subst (λ Θ. ProgramsStand Θ file next.others f.main next.g.past (word_count file)) (sym e) stand.2;
-                resolved = subst (λ Θ. ProgramsResolved Θ next.others f.main) (sym e) resolved.1;
-                starts = starts.1;
-                judged = judged-next
-                    ∙ ap (λ v. accepted count also (v also judge_programs (after Δ next.g) next.others f.main)) is-accepted
-                    ∙ also_sum count a.count (judge_programs (after Δ next.g) next.others f.main)
-                    ∙ ap (λ Θ. accepted (count + a.count) also judge_programs Θ next.others f.main) (sym e);
-                few = omega (arith, c, going.few, stand.0);
-              }
+        at_next : ProgramsGoing (suc i) (count + a.count)
+        at_next =
+            let e = next-context (limits_of x) file f i was.stands (going.from ∙ next.is) in
+            let c = counted there is-accepted in
+            record {
+              left = next.others;
+              at = next.g.past;
+              from = drop-next f.procedures i (going.from ∙ next.is);
+              many = (let m = going.many in let z = ap length next.is in omega arith);
+              stand = subst (λ Θ. ProgramsStand Θ file next.others f.main next.g.past (word_count file)) (sym e) stand.2;
+              resolved = subst (λ Θ. ProgramsResolved Θ next.others f.main) (sym e) resolved.1;
+              starts = starts.1;
+              judged = judged-next
+                  ∙ ap (λ v. accepted count also (v also judge_programs (after Δ next.g) next.others f.main)) is-accepted
+                  ∙ also_sum count a.count (judge_programs (after Δ next.g) next.others f.main)
+                  ∙ ap (λ Θ. accepted (count + a.count) also judge_programs Θ next.others f.main) (sym e);
+              few = omega (arith, c, going.few, stand.0);
+            }
 
-          pub going_step : ProgramsGoing (i + 1) (count + a.count)
-          going_step = let z : suc i ≡ i + 1 = omega arith in subst (λ k. ProgramsGoing k (count + a.count)) z at_next
+        pub going_step : ProgramsGoing (i + 1) (count + a.count)
+        going_step = let z : suc i ≡ i + 1 = omega arith in subst (λ k. ProgramsGoing k (count + a.count)) z at_next
 
     module _ (end : procedure_count file ≤ i) where
       none_left : going.left ≡ []
@@ -273,18 +273,18 @@ module _ {file ends : List ℕ} (x : Context) (h : CanJudgePrograms file ends x)
           ∙ ap (λ v. goals.judged_of v h.end) (sym judged-main))
 
       module _ {a : Judged} (j : JudgedAt file ends x i (Ok a)) where
-          main-is : (judge_program Δ f.main ≡ accepted a.count) × (a.end ≡ f.main.past)
-          main-is = accepted-is (judge_program Δ f.main) (j.judged f.main main-there)
+        main-is : (judge_program Δ f.main ≡ accepted a.count) × (a.end ≡ f.main.past)
+        main-is = accepted-is (judge_program Δ f.main) (j.judged f.main main-there)
 
-          pub main-fits : count + a.count ≤ 8192
-          main-fits =
-              let c = counted main-there main-is.0 in
-              let l = program-inside Δ file f.main main-stands.1 in
-              omega (arith, c, l, h.size, going.few, main-stands.0)
+        pub main-fits : count + a.count ≤ 8192
+        main-fits =
+            let c = counted main-there main-is.0 in
+            let l = program-inside Δ file f.main main-stands.1 in
+            omega (arith, c, l, h.size, going.few, main-stands.0)
 
-          pub main-accepted : FileJudged (Ok (record { count = count + a.count; end = a.end }))
-          unfolding ◌also◌
-          main-accepted =
-              let past : a.end ≡ h.end = main-is.1 ∙ main-stands.2 ∙ sym was.end in
-              all-judged (ap (λ k. Ok (record { count = count + a.count; end = k })) past
-              ∙ ap (λ v. goals.judged_of v h.end) (sym (judged-main ∙ ap (λ v. accepted count also v) main-is.0)))
+        pub main-accepted : FileJudged (Ok (record { count = count + a.count; end = a.end }))
+        unfolding ◌also◌
+        main-accepted =
+            let past : a.end ≡ h.end = main-is.1 ∙ main-stands.2 ∙ sym was.end in
+            all-judged (ap (λ k. Ok (record { count = count + a.count; end = k })) past
+            ∙ ap (λ v. goals.judged_of v h.end) (sym (judged-main ∙ ap (λ v. accepted count also v) main-is.0)))

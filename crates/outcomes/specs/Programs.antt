@@ -6,7 +6,7 @@
 --     CanJudgeAt, JudgedAt             what judging it asks for; its verdict
 --     CanJudgePrograms, judged_file     what judging all programs asks for; the verdict of what was read
 --     CanJudgeFile                     the same with the places of the main program
-use Rattle.std.specs.Prelude.{◌≡◌, List, ℕ, ◌≤◌, length, Err}
+use Rattle.std.specs.Prelude.{◌≡◌, List, ℕ, ◌≤◌, length, Ok, Err}
 use Rattle.rules.specs.Context as rules
 use Rattle.rules.specs.Context.{Limits, alone}
 use Rattle.rules.specs.Resolved.{Resolved, Carried}
