@@ -1,6 +1,5 @@
 -- A skip, an assert or an assignment at a place of a file that was read, by its first word and its end.
 -- Assumes nothing.
---     simple-kind, other-kind                  the kinds of these commands; another
 --     kind-simple                              such a command by the kind of its first word
 --     simple-past, simple-other, simple-here   past the file; at a word of another kind; at one of these kinds
 use mathlib.Core.Path.{◌≡◌, refl, sym, ap, ap₂, ◌∙◌}
@@ -31,10 +30,7 @@ use Rattle.masks.specs.Filled.{OtherKind}
 use Rattle.splice.specs.Simple.{is_simple, simple_to}
 use Rattle.splice.specs.SimpleWords.{is_simple_kind, SimpleAt}
 
-pub simple-kind : {k : ℕ} (n : ℕ) → is_simple_kind n ≡ true → k ≡ n → true ≡ is_simple_kind k
-simple-kind n h e = sym (ap is_simple_kind e ∙ h)
-
-pub other-kind : (k : ℕ) → (k ≡ 24 → ⊥) → (k ≡ 26 → ⊥) → (k ≡ 27 → ⊥) → (k ≡ 28 → ⊥) → false ≡ is_simple_kind k
+other-kind : (k : ℕ) → (k ≡ 24 → ⊥) → (k ≡ 26 → ⊥) → (k ≡ 27 → ⊥) → (k ≡ 28 → ⊥) → false ≡ is_simple_kind k
 unfolding is_simple_kind
 other-kind k a b c d = rw (ne_eqb k 24 a, ne_eqb k 26 b, ne_eqb k 27 c, ne_eqb k 28 d) refl
 

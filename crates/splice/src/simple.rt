@@ -9,17 +9,11 @@ use reader::command::read_command;
 use words::kinds::{ASSERT, KIND, SKIP, TO_ARRAY, TO_SCALAR};
 
 // Whether a word is the first of such a command.
+#[tactic(auto, unfolding(crate::specs::SimpleWords::is_simple_kind))]
 fn is_simple(x: u32) -> bool
     ensures { result ≡ is_simple_kind (x / payloads) }
 {
-    let kind = x / KIND;
-    match kind {
-        SKIP => true,
-        ASSERT => true,
-        TO_SCALAR => true,
-        TO_ARRAY => true,
-        _ => false,
-    }
+    matches!(x / KIND, SKIP | ASSERT | TO_SCALAR | TO_ARRAY)
 }
 
 // Whether such a command stands from a place of a file that was read up to another.

@@ -17,7 +17,8 @@ pub struct NewCommand<'a> {
     pub bytes: &'a [u8],
 }
 
-// The places of a file that refusals 2 to 6 and 16 let pass, and whether they are known to let the changed words pass too.
+// The places of a file that refusals 2 to 6 and 16 let pass, and whether they are known to let the changed words pass too. `both` stays a flag:
+// the places are the file's in both cases.
 #[derive(Clone, Copy)]
 pub struct Walked {
     pub places: Places,

@@ -1,5 +1,6 @@
 -- `splice::walk::walk_new` meets its contract: the changed words are walked, the file's are put back, and these pass too or are walked.
 -- Assumes nothing.
+use native.Mathlib.Omega.{arith}
 use Rattle.splice.proofs.Walks.{new-count, new-room, can-put_back, can-walk, file-first, old-if_read, old-walked}
 use Rattle.splice.proofs.walk.walk_new.Goals as goal
 
@@ -14,11 +15,11 @@ put_back-requires c = can-put_back c.requires.loaded
 
 pub walk_old-requires : goal.walk_old-requires
 walk_old-requires c =
-    old-if_read c.requires c.read_calls-changed.ensures c.in-Ok.is c.put_back.ensures c.words-1.given
-    c.table-1.given
+    old-if_read c.requires c.read_calls-changed.ensures c.in-Ok.is c.put_back.ensures (omega arith)
+    (omega arith)
 
 pub walk_file-requires : goal.walk_file-requires
-walk_file-requires c = can-walk c.requires.loaded c.put_back.ensures c.words-1.given c.table-1.given
+walk_file-requires c = can-walk c.requires.loaded c.put_back.ensures (omega arith) (omega arith)
 
 pub returns-in-Ok : goal.returns-in-Ok
 returns-in-Ok c = old-walked c.requires c.read_calls-changed.ensures c.in-Ok.is c.put_back.ensures c.walk_old.ensures
