@@ -8,7 +8,7 @@ use splice::extent::extent_at;
 use splice::simple::is_read_to;
 
 // Of the file: the first word of the old command, with how many levels the new one has to be read and whether it is known to be, and what is
-// known of all `for`s.
+// known of all `for`s. `known` stays a flag: the new command has to be read with `levels` in both cases, so an Option would lose their number.
 #[derive(Clone, Copy)]
 pub struct Old {
     pub first: u32,

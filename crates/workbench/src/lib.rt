@@ -1,5 +1,6 @@
 // The workbench call (document 02, requests [5] and [6]): another skip, assert or assignment of equal length in the place of one, and the masks of
-// the changed file.
+// the changed file. Words and table stay two parameters: most calls take a part of the words to read and the whole table to write, so a struct of
+// both would be taken apart at each.
 #![tactic(auto)]
 
 ghost use Rattle.std.specs.Prelude.{◌≡◌, false, ◌+◌, ◌*◌, ◌/◌, ◌<◌, ◌≤◌, length};

@@ -33,7 +33,7 @@ read_marked-requires c = (c.fill_marked.ensures.0, c.find_fors-fors.ensures)
 pub replace-requires : goal.replace-requires
 replace-requires c =
     can-replace c.args.masks.now c.requires c.fill_marked.ensures.1 c.in_ok-read_marked.ensures refl
-    (omega (arith, c.table-2-1.given, c.table-1.given)) c.find_fors-fors.ensures
+    (omega arith) c.find_fors-fors.ensures
 
 pub returns-in_err-read_marked : goal.returns-in_err-read_marked
 returns-in_err-read_marked c =

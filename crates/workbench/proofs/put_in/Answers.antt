@@ -18,12 +18,12 @@ returns-then-bad_length c =
 pub walk_first-requires : goal.walk_first-requires
 walk_first-requires c =
     let good = sym c.bad_length.ensures ∙ c.if-bad_length.false in
-    record { good = good; rooms = loaded-rooms c.requires.0 good c.load.ensures c.words-1.given }
+    record { good = good; rooms = loaded-rooms c.requires.0 good c.load.ensures (omega arith) }
 
 pub put_called-requires : goal.put_called-requires
 put_called-requires c =
     let good = sym c.bad_length.ensures ∙ c.if-bad_length.false in
-    let rooms = loaded-rooms c.requires.0 good c.load.ensures c.words-1.given in
+    let rooms = loaded-rooms c.requires.0 good c.load.ensures (omega arith) in
     let first = c.in_ok-walked.ensures in
     record {
       settable = c.requires.1;
@@ -32,8 +32,8 @@ put_called-requires c =
         good = good;
         rooms = record {
           loaded = first.loaded;
-          inside = omega (arith, rooms.inside, c.words-2-1.given);
-          wide = omega (arith, rooms.wide, c.words-2-1.given, c.table-1.given);
+          inside = omega (arith, rooms.inside);
+          wide = omega (arith, rooms.wide);
         };
       };
       right = first.called.right _ refl;

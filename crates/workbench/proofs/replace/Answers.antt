@@ -45,12 +45,3 @@ change-requires c = (
   changed-known c.args.masks.now c.requires c.is_simple_to.ensures
       c.if-not-is_simple_to.false c.if-new-ne0.false c.load.ensures c.old_at-old.ensures,
 )
-
-pub shape_of-table : goal.shape_of-table
-shape_of-table c = c.table-1.given
-
-pub shape_of-file : goal.shape_of-file
-shape_of-file c = c.file-1.given
-
-pub shape_of-masks : goal.shape_of-masks
-shape_of-masks c = c.masks-1.given
