@@ -1,7 +1,7 @@
 -- Rule 13 of sets: each of Q stands in P.
 -- Assumes nothing.
 --     can-see, within-at          the test of the two sets
---     can-include, within-rule    the rule
+--     within-rule                 the rule
 use mathlib.Core.Path.{◌≡◌, refl, sym, ap, ap₂, subst, ◌∙◌}
 use mathlib.Core.Bool.{Bool}
 use mathlib.Core.List.{List}
@@ -24,9 +24,8 @@ use Rattle.sets.specs.declared.item.View.TheVariants.{AsWritten}
 use Rattle.sets.proofs.Piles.{set-members}
 use Rattle.sets.proofs.Tests.{within-numbers}
 use Rattle.sets.proofs.Trees.{AllShown, set-place, pile_is}
-use Rattle.set_laws.proofs.Sets.{has-set}
 use Rattle.set_rules.specs.Conditions.{CanInclude, WithinAt}
-use Rattle.set_unions.proofs.Goal.{here, leaf-rule}
+use Rattle.set_unions.proofs.Goal.{leaf-rule}
 
 module _ {file ends : List ℕ} {q p j k : ℕ} (can : CanInclude file ends q p) (h : j ≡ count_at file q)
     (i : k ≡ count_at file p) where
@@ -56,10 +55,6 @@ module _ {file ends : List ℕ} {q p j k : ℕ} (can : CanInclude file ends q p)
   }
 
 module _ {file ends : List ℕ} {Γ : Context} {p q at : ℕ} (can : CanTry file ends Γ 13 (Set p q) at) where
-  pub can-include : CanInclude file ends q p
-  can-include =
-      record { ends_of = can.can.ends_of; part = has-set (here can).right-at; whole = has-set (here can).left_at }
-
   pub within-rule : {b : Bool} → WithinAt file ends q p b → {c : Condition} → c ≡ condition_of b →
       StepOf file ends Γ (Set p q) at c
   unfolding set_rule

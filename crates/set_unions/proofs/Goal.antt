@@ -1,14 +1,12 @@
 -- A goal of two sets with its evidence, as trees at their places.
 -- Assumes nothing.
 --     SetGoalAt, here        the trees of a goal that can be tried
---     left_in, right-in, low-left, low-right
---                            its two sets are in the file
+--     left_in, right-in      its two sets are in the file
 --     left_one, right-one    its sets, where each is one member
 --     leaf-rule              a rule with no children, by the result of its conditions
 use mathlib.Core.Path.{◌≡◌, refl, sym, subst, ◌∙◌}
 use mathlib.Core.List.{List, []}
 use Prim.Native.Nat.{ℕ, ◌+◌, ◌<◌}
-use native.Mathlib.Omega.{arith}
 use lib.ListN.{length}
 use Rattle.rules.specs.Assertion.{Members}
 use Rattle.rules.specs.Context.{Context}
@@ -46,12 +44,6 @@ module _ {file ends : List ℕ} {Γ : Context} {p q at : ℕ} where
 
     pub right-in : q < length file
     right-in = first_word (node_inside here.right-at)
-
-    pub low-left : p < 8192
-    low-left = let h = left_in in let s = can.can.size in omega arith
-
-    pub low-right : q < 8192
-    low-right = let h = right-in in let s = can.can.size in omega arith
 
     pub left_one : {k : ℕ} → k ≡ count_at file p → k ≡ 1 → OneWritten file ends here.left (p + 1)
     left_one m h = is_one here.left_at can.can.ends_of (sym m ∙ h)

@@ -5,13 +5,10 @@
 --     first-fails, union_rule                    the rule by its two tests
 --     can-rest_same, rest_at                     the test of rule 17
 --     can-rest, rest-rule                        rule 17
---     is-17                                      the other rule that has children
 use mathlib.Core.Path.{◌≡◌, refl, sym, ap, subst, ◌∙◌}
 use mathlib.Core.Bool.{Bool, true, false}
 use mathlib.Core.List.{List, [], ◌∷◌, ◌++◌, append-nil}
-use Prim.Native.Nat.{ℕ, zero, suc, ◌+◌, ◌<◌}
-use borrow.Author.Tests.{ne_eqb}
-use lib.ListN.{length}
+use Prim.Native.Nat.{ℕ, zero, suc, ◌+◌}
 use Rattle.rules.specs.Assertion.{Members}
 use Rattle.rules.specs.Context.{Context}
 use Rattle.rules.specs.Condition.{test, ◌then◌}
@@ -23,14 +20,13 @@ use Rattle.ends.specs.Places.{end_at, SetAt}
 use Rattle.implication.specs.Sides.{Condition, result_of}
 use Rattle.std.specs.Prelude.{Err}
 use Rattle.implication.specs.declared.Failure.TheVariants.{Fails}
-use Rattle.goals.specs.Children.{of_rule, set_children}
 use Rattle.goals.specs.Conditions.{condition_of}
 use Rattle.goals.specs.Goals.{CanTry, StepOf, set-stands}
 use Rattle.goals.specs.declared.Goal.TheVariants.{Set}
 use Rattle.ends.proofs.Places.{at_place}
 use Rattle.goals.proofs.Evidence.{Placed}
 use Rattle.goals.proofs.Comes.{comes, two-children, then-passes, then-fails, SetComes, set-rule}
-use Rattle.rule_laws.proofs.Trying.{parts-of, up-to, tested, only-rule}
+use Rattle.rule_laws.proofs.Trying.{parts-of, up-to, tested}
 use Rattle.sets.specs.Rules.{CanThree, SameUnion}
 use Rattle.sets.specs.Trees.{HasSet, stands-written, stands-without, CanSameSet, SameSet}
 use Rattle.sets.specs.declared.item.View.TheVariants.{AsWritten}
@@ -166,8 +162,3 @@ module _ {file ends : List ℕ} {p t leave s : ℕ} where
         h.does l (without x y ∷ z ∷ []) a (stands-without b c, (stands-written d, tt))
         ∙ ap (λ v. same l (without x y ++ v)) (append-nil z);
   }
-
--- rules 16 and 17 alone have children
-pub is-17 : (ends : List ℕ) (p q at k rule : ℕ) → (rule ≡ 16 → ⊥) → k < length (of_rule rule (set_children ends p q at)) →
-    rule ≡ 17
-is-17 ends p q at k rule n h = only-rule rule 17 _ k (rw (ne_eqb rule 16 n) at h)

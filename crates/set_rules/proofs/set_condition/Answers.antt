@@ -2,7 +2,7 @@
 -- Assumes nothing.
 use mathlib.Core.Path.{refl}
 use native.Mathlib.Omega.{arith}
-use Rattle.rule_laws.proofs.Trying.{step-head, can-try, last-rule}
+use Rattle.rule_laws.proofs.Trying.{step-head, last-rule}
 use Rattle.set_rules.proofs.set_condition.Goals as goal
 
 pub offset_bounds-file-at : goal.offset_bounds-file-at
@@ -10,24 +10,6 @@ offset_bounds-file-at c = omega (arith, step-head c.requires)
 
 pub bounds-file-at : goal.bounds-file-at
 bounds-file-at c = step-head c.requires
-
-pub rule_13-requires : goal.rule_13-requires
-rule_13-requires c = can-try c.requires (omega arith)
-
-pub rule_14-requires : goal.rule_14-requires
-rule_14-requires c = can-try c.requires (omega arith)
-
-pub rule_15-requires : goal.rule_15-requires
-rule_15-requires c = can-try c.requires (omega arith)
-
-pub rule_16-requires : goal.rule_16-requires
-rule_16-requires c = can-try c.requires (omega arith)
-
-pub rule_17-requires : goal.rule_17-requires
-rule_17-requires c = can-try c.requires (omega arith)
-
-pub rule_18-requires : goal.rule_18-requires
-rule_18-requires c = can-try c.requires (omega arith)
 
 pub rule_19-requires : goal.rule_19-requires
 rule_19-requires c = last-rule c.requires 13 6 19 refl c.in_default.in_default-own.rest

@@ -1,33 +1,19 @@
 -- `set_rules::antecedent::rule_18` meets its contract.
 -- Assumes nothing.
-use native.Mathlib.Omega.{arith}
 use Rattle.std.proofs.lemmas.Result.{err_from_is_err_and}
 use Rattle.goals.proofs.Ensured.{is-equal, ensured, exits, exits-unequal}
-use Rattle.set_unions.proofs.Goal.{left_in, right-in, low-left, low-right}
 use Rattle.set_rules.proofs.Antecedents.{can-same, can-imply, left-fails, right-fails, differ_fails, implied-rule}
 use Rattle.set_rules.proofs.antecedent.rule_18.Goals as goal
-
-pub count-requires : goal.count-requires
-count-requires c = left_in c.requires
 
 pub returns-in_err-ensure : goal.returns-in_err-ensure
 returns-in_err-ensure c =
     exits-unequal (err_from_is_err_and _ c.from_residual.ensures.1) c.in_err-ensure.ensures
     (left-fails c.requires c.count.ensures)
 
-pub count-requires-2 : goal.count-requires-2
-count-requires-2 c = right-in c.requires
-
 pub returns-in_err-ensure-2 : goal.returns-in_err-ensure-2
 returns-in_err-ensure-2 c =
     exits-unequal (err_from_is_err_and _ c.from_residual-in_err-ensure-2.ensures.1) c.in_err-ensure-2.ensures
     (right-fails c.requires c.count.ensures (is-equal c.in_ok-ensure.ensures) c.count-2.ensures)
-
-pub overflow_add-a : goal.overflow_add-a
-overflow_add-a c = let i = low-left c.requires in omega arith
-
-pub overflow_add-b : goal.overflow_add-b
-overflow_add-b c = let i = low-right c.requires in omega arith
 
 pub is_same_consequent-requires : goal.is_same_consequent-requires
 is_same_consequent-requires c =

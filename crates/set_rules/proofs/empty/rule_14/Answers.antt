@@ -1,26 +1,15 @@
 -- `set_rules::empty::rule_14` meets its contract.
 -- Assumes nothing.
-use native.Mathlib.Omega.{arith}
 use Rattle.context.proofs.Limits.{most-comparisons}
 use Rattle.std.proofs.lemmas.Result.{err_from_is_err_and}
 use Rattle.goals.proofs.Ensured.{is-equal, exits-unequal}
-use Rattle.set_unions.proofs.Goal.{left_in, right-in, low-right}
 use Rattle.set_rules.proofs.EmptySets.{can-try_each, full-fails, each-rule}
 use Rattle.set_rules.proofs.empty.rule_14.Goals as goal
-
-pub count-requires : goal.count-requires
-count-requires c = left_in c.requires
 
 pub returns-in_err-ensure : goal.returns-in_err-ensure
 returns-in_err-ensure c =
     exits-unequal (err_from_is_err_and _ c.from_residual.ensures.1) c.in_err-ensure.ensures
     (full-fails c.requires c.count.ensures)
-
-pub count-k-requires : goal.count-k-requires
-count-k-requires c = right-in c.requires
-
-pub overflow_add-q : goal.overflow_add-q
-overflow_add-q c = let i = low-right c.requires in omega arith
 
 pub each_implies_false-requires : goal.each_implies_false-requires
 each_implies_false-requires c = can-try_each c.requires (most-comparisons c.args.file.now.context _) c.count-k.ensures

@@ -1,22 +1,14 @@
 -- `set_rules::operand::rule_19` meets its contract.
 -- Assumes nothing.
-use native.Mathlib.Omega.{arith}
 use Rattle.std.proofs.lemmas.Result.{err_from_is_err_and}
 use Rattle.goals.proofs.Ensured.{is-equal, exits-unequal}
-use Rattle.set_unions.proofs.Goal.{right-in, low-right}
 use Rattle.set_rules.proofs.Operands.{can-split, apart-fails, split-rule}
 use Rattle.set_rules.proofs.operand.rule_19.Goals as goal
-
-pub count-requires : goal.count-requires
-count-requires c = right-in c.requires
 
 pub returns-in_err-ensure : goal.returns-in_err-ensure
 returns-in_err-ensure c =
     exits-unequal (err_from_is_err_and _ c.from_residual.ensures.1) c.in_err-ensure.ensures
     (apart-fails c.requires c.count.ensures)
-
-pub overflow_add-f : goal.overflow_add-f
-overflow_add-f c = let i = low-right c.requires in omega arith
 
 pub are_operands-requires : goal.are_operands-requires
 are_operands-requires c = can-split c.requires c.count.ensures (is-equal c.in_ok-ensure.ensures) c.end_or_zero-e.ensures

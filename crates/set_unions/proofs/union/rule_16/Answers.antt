@@ -1,14 +1,9 @@
 -- `set_unions::union::rule_16` meets its contract, by the two tests.
 -- Assumes nothing.
-use native.Mathlib.Omega.{arith}
 use Rattle.std.proofs.lemmas.Result.{err_from_is_err_and}
 use Rattle.goals.proofs.Ensured.{ensured, exits}
-use Rattle.rule_laws.proofs.Trying.{low-head}
 use Rattle.set_unions.proofs.Unions.{can-first, can-second, first-fails, union_rule}
 use Rattle.set_unions.proofs.union.rule_16.Goals as goal
-
-pub overflow_add-s : goal.overflow_add-s
-overflow_add-s c = let i = low-head c.requires in omega arith
 
 pub same_union-requires : goal.same_union-requires
 same_union-requires c = can-first c.requires c.end_or_zero-s2.ensures c.end_or_zero-t.ensures c.end_or_zero-t2.ensures

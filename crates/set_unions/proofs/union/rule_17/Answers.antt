@@ -1,12 +1,7 @@
 -- `set_unions::union::rule_17` meets its contract.
 -- Assumes nothing.
-use native.Mathlib.Omega.{arith}
-use Rattle.rule_laws.proofs.Trying.{low-head}
 use Rattle.set_unions.proofs.Unions.{can-rest, rest-rule}
 use Rattle.set_unions.proofs.union.rule_17.Goals as goal
-
-pub overflow_add-s : goal.overflow_add-s
-overflow_add-s c = let i = low-head c.requires in omega arith
 
 pub is_rest_union-requires : goal.is_rest_union-requires
 is_rest_union-requires c =
