@@ -172,9 +172,9 @@ same-row h = cc
 
 module _ {file ends : List ℕ} {Γ : Context} {goal : Goal} {at left : ℕ} (p : CanGo file ends Γ goal at left) where
   -- the row of the word's rule
-  pub word-row : {rule : ℕ} {o : std.Option (Bor (List code.Item))} → rule ≡ payload_at file at →
+  pub word-row : {rule : ℕ} (o : std.Option (Bor (List code.Item))) → rule ≡ payload_at file at →
       row_meant o ≡ row_of (judgement_of goal) rule → row_meant o ≡ some (tree_items p.can.tree)
-  word-row e f = f ∙ ap (row_of (judgement_of goal)) e ∙ (row_is p.can.goal-stands).row
+  word-row o e f = f ∙ ap (row_of (judgement_of goal)) e ∙ (row_is p.can.goal-stands).row
 
   -- as many items are left as there are children
   pub children-left : {row : List code.Item} {first : First} {rule : ℕ} → rule ≡ payload_at file at →
@@ -274,37 +274,37 @@ module _ {file ends : List ℕ} {Γ : Context} {goal : Goal} {at left : ℕ} (p 
         }
 
         module _ {j : Judged} (child-judged : JudgedOf file ends Γ child next left (Ok j)) where
-            judged-is : {g : TreeGoal} {end : ℕ} (y : ChildOf child g end) →
-                (verdict Γ y.tree ≡ accepted j.count) × (j.end ≡ y.past)
-            judged-is y = accepted-is (verdict Γ y.tree) (child-judged.judged y.tree y.past y.stands)
+          judged-is : {g : TreeGoal} {end : ℕ} (y : ChildOf child g end) →
+              (verdict Γ y.tree ≡ accepted j.count) × (j.end ≡ y.past)
+          judged-is y = accepted-is (verdict Γ y.tree) (child-judged.judged y.tree y.past y.stands)
 
-            pub going_step : Going file ends Γ goal at left j.end (count + j.count) (k + 1)
-            going_step = record {
-              goes = λ g end s.
-                  let y = child-of g end s in
-                  let i = judged-is y in
-                  let few = (going.goes g end s).few in
-                  let c = goal-counts Γ file ends y.stands j.count i.0 in
-                  record {
-                    trees = y.others;
-                    stand = subst (λ q. GoalsStand Γ file ends (drop (k + 1) (goals file ends Γ goal at left))
-                        y.others left q end) (sym i.1) y.rest-stand;
-                    judged = y.judged ∙ ap (λ v. accepted count also (v also verdicts Γ y.others)) i.0
-                        ∙ also_sum count j.count (verdicts Γ y.others);
-                    few = omega (arith, few, c, i.1);
-                  };
-            }
-
-            -- no count is larger than the words of the file, and one
-            pub count_fits : {bound : ℕ} → 8193 < bound → count + j.count < bound
-            count_fits b =
-                let y = its_child in
+          pub going_step : Going file ends Γ goal at left j.end (count + j.count) (k + 1)
+          going_step = record {
+            goes = λ g end s.
+                let y = child-of g end s in
                 let i = judged-is y in
-                let few = (going.goes p.can.tree p.can.end p.can.goal-stands).few in
+                let few = (going.goes g end s).few in
                 let c = goal-counts Γ file ends y.stands j.count i.0 in
-                let l = goal-inside Γ file ends y.stands in
-                let z = p.can.size in
-                omega (arith, few, c, l, z, b)
+                record {
+                  trees = y.others;
+                  stand = subst (λ q. GoalsStand Γ file ends (drop (k + 1) (goals file ends Γ goal at left))
+                      y.others left q end) (sym i.1) y.rest-stand;
+                  judged = y.judged ∙ ap (λ v. accepted count also (v also verdicts Γ y.others)) i.0
+                      ∙ also_sum count j.count (verdicts Γ y.others);
+                  few = omega (arith, few, c, i.1);
+                };
+          }
+
+          -- no count is larger than the words of the file, and one
+          pub count_fits : {bound : ℕ} → 8193 < bound → count + j.count < bound
+          count_fits b =
+              let y = its_child in
+              let i = judged-is y in
+              let few = (going.goes p.can.tree p.can.end p.can.goal-stands).few in
+              let c = goal-counts Γ file ends y.stands j.count i.0 in
+              let l = goal-inside Γ file ends y.stands in
+              let z = p.can.size in
+              omega (arith, few, c, l, z, b)
 
     pub going_end : k ≡ length (goals file ends Γ goal at left) → Goes file ends Γ goal at left (answer count next)
     going_end z = record {

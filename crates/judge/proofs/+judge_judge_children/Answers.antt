@@ -2,12 +2,13 @@
 -- invariant: the verdict is that of the count so far and of the children that are left. The levels left fall: the measure
 -- is twice their number; one more for the children of a word.
 -- Assumes nothing.
-use mathlib.Core.Path.{refl}
+use mathlib.Core.Path.{refl, sym, ap, ◌∙◌}
 use native.Mathlib.Omega.{arith}
 use Rattle.std.proofs.lemmas.Result.{err_from_is_err_and}
 use Rattle.judge.proofs.Going.{level-due, can-step, can-go, judged-failed, judged-passed}
 use Rattle.judge.proofs.Going.{going_start, going_step, going_refused, going_end, child-asked, child-can}
 use Rattle.judge.proofs.Going.{count_fits, row-there, word-row, children-left}
+use Rattle.words.specs.Rows.{row_meant}
 use Rattle.judge.proofs.Counts.{goal-place}
 use Rattle.judge.proofs.+judge_judge_children.Goals as goal
 
@@ -43,10 +44,15 @@ judge_children-overflow_add-at t c =
     omega arith
 
 pub judge_children-unwrap-row-requires : goal.judge_children-unwrap-row-requires
-judge_children-unwrap-row-requires t c = row-there _ (word-row c.requires refl c.row_at.ensures)
+judge_children-unwrap-row-requires t c = row-there _ (word-row c.requires _ refl c.row_at.ensures)
 
 pub judge_children-loop-k-init : goal.judge_children-loop-k-init
-judge_children-loop-k-init t c = ?
+judge_children-loop-k-init t c =
+    let row = sym (ap row_meant c.unwrap-row.ensures) ∙ c.row_at.ensures in (
+      refl,
+      children-left c.requires refl row c.past_carried-first.ensures,
+      going_start c.requires refl row c.past_carried-first.ensures,
+    )
 
 pub judge_children-child_of-child-requires : goal.judge_children-child_of-child-requires
 judge_children-child_of-child-requires t c =
@@ -84,4 +90,4 @@ judge_children-loop-k-preserved t c =
 pub judge_children-returns : goal.judge_children-returns
 judge_children-returns t c =
     let i = c.loop-k.invariant in
-    going_end c.requires i.0 i.2 (omega (arith, i.1, c.loop-k-test.false))
+    going_end c.requires i.0 i.2 (omega (arith, i.1, c.loop-k.auto.k-end, c.loop-k-test.false))

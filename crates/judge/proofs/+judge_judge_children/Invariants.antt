@@ -20,5 +20,5 @@ decreases-judge_children l = 2 * l.left + 1
 abbrev pub invariant-judge_children-loop-k : goal.invariant-judge_children-loop-k
 invariant-judge_children-loop-k l =
     (l.rule ≡ payload_at l.file.words.now l.at) ×
-    (length l.first.rest.now ≡ length (children_at l.file.words.now l.file.ends.now l.goal (payload_at l.file.words.now l.at) l.at)) ×
+    (l.k-end ≡ length (children_at l.file.words.now l.file.ends.now l.goal (payload_at l.file.words.now l.at) l.at)) ×
     Going l.file.words.now l.file.ends.now (context_for l.file) l.goal l.at l.left l.next l.count l.k
