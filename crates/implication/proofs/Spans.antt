@@ -1,24 +1,22 @@
--- Ranges of words: skipped, compared by their slices, and searched for.
+-- Ranges of words: skipped, and compared by their slices.
 -- Assumes nothing.
 --     below                                    the order of two numbers
 --     Bare, bare-none, bare-one, bare-join     words of no boolean
 --     slices-alike, alike-slices               two ranges have the same words where their slices are equal
---     same_at, other_at, missed_more           a range is the same as that at a number, or is none of the first ones
+--     same_range, as_long                      the same, by a test of slices that are as long
 use mathlib.Core.Path.{◌≡◌, refl, sym, ap, ◌∙◌}
-use mathlib.Core.Bool.{Bool, true, false}
+use mathlib.Core.Bool.{Bool, true, false, false≢true}
 use mathlib.Core.List.{List}
 use mathlib.Core.Logic.{◌⊎◌, inl, inr, ⊎_elim}
 use Prim.Native.Nat.{ℕ, ◌+◌, ◌-◌, ◌<◌, ◌≤◌}
 use native.Mathlib.Omega.{arith}
-use borrow.Author.Count.{below_more}
 use borrow.Author.Tests.{ltb-true, ltb-false}
 use lib.Dec.{ltb}
 use lib.ListN.{length, get_or, drop}
-use lib.Pointwise.{pointwise}
-use Rattle.std.specs.Prelude.{nat_eq, slice_range}
-use Rattle.std.specs.Cmp.Lexicographic.{same_text, other_text}
+use Rattle.std.specs.Prelude.{slice_range, Decides}
 use Rattle.std.proofs.lemmas.List.{length-take-le, length-drop, get_or-take, get_or-drop, ext_get_or}
-use Rattle.implication.specs.Scanning.{byte_at, SameRange, span_at, Ranges, Missed}
+use Rattle.implication.specs.Sides.{RangeFits}
+use Rattle.implication.specs.Scanning.{byte_at, SameRange, Compares}
 
 pub below : (j k : ℕ) → (j < k) ⊎ (k ≤ j)
 below j k = go (ltb j k) refl
@@ -73,24 +71,14 @@ module _ {w : List ℕ} {a b p q : ℕ} (h : a ≤ b) (k : b ≤ length w) (l : 
       let j : x < b - a = omega (arith, slice-length w a b h k) in
       slice-at w a b x j ∙ s.same.same x j ∙ sym (slice-at w p q x (omega (arith, s.long))))
 
--- ---- a range among others
-abbrev slice_of : List ℕ → ℕ × ℕ → List ℕ
-slice_of w x = slice_range w x.0 x.1
+-- by a test of the slices
+pub same_range : {w : List ℕ} {a b p q : ℕ} {r : Bool} → RangeFits (length w) a b → RangeFits (length w) p q →
+    Decides r (slice_range w a b ≡ slice_range w p q) → Compares w a b p q r
+same_range h l d = record {
+  sound = λ e. slices-alike h.0 h.1 l.0 l.1 (d.0 e);
+  complete = λ e s. false≢true (sym e ∙ d.1 (alike-slices h.0 h.1 l.0 l.1 s));
+}
 
-module _ {w : List ℕ} {k q : ℕ} {t : List (ℕ × ℕ)} where
-  module _ (R : Ranges w t) (h : k ≤ q) (l : q ≤ length w) {i : ℕ} (j : i < length t) {s : List (ℕ × ℕ)} (v : s ≡ t) where
-    pub same_at : true ≡ pointwise nat_eq (slice_of w (span_at s i)) (slice_range w k q) →
-        SameRange w (span_at t i).0 (span_at t i).1 k q
-    same_at e =
-        let f = R.each i j in
-        slices-alike f.0 f.1 h l (ap (λ (z : List (ℕ × ℕ)). slice_of w (span_at z i)) (sym v) ∙ same_text _ _ e)
-
-    pub other_at : false ≡ pointwise nat_eq (slice_of w (span_at s i)) (slice_range w k q) →
-        SameRange w (span_at t i).0 (span_at t i).1 k q → ⊥
-    other_at e x =
-        let f = R.each i j in
-        other_text _ _ e (ap (λ (z : List (ℕ × ℕ)). slice_of w (span_at z i)) v ∙ alike-slices f.0 f.1 h l x)
-
-  pub missed_more : {i : ℕ} → Missed w k q t i → (SameRange w (span_at t i).0 (span_at t i).1 k q → ⊥) →
-      Missed w k q t (i + 1)
-  missed_more {i} m e = record { missed = below_more _ _ m.missed e }
+pub as_long : (w : List ℕ) {a b p q : ℕ} → RangeFits (length w) a b → RangeFits (length w) p q → b - a ≡ q - p →
+    length (slice_range w a b) ≡ length (slice_range w p q)
+as_long w {a} {b} {p} {q} h l e = slice-length w a b h.0 h.1 ∙ e ∙ sym (slice-length w p q l.0 l.1)

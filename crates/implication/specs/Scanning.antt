@@ -4,11 +4,11 @@
 --     byte_by, byte_of, byte_at          the byte of a word in a formula
 --     IsRole                          what a word is in a boolean
 --     Skipped                         the first place with a word of a boolean
---     SameFor, SameRange              two ranges have the same words
+--     SameFor, SameRange, Compares    two ranges have the same words
 --     span_at, Ranges                 the ranges of comparisons, by number
 --     CanFind, Missed, FoundAt, Finds a range of words is found among others
 --     Added                           one more range
-use Rattle.std.specs.Prelude.{◌≡◌, ◌≢◌, cond, List, [], ◌∷◌, ◌++◌, ℕ, ◌+◌, ◌-◌, ◌/◌, ◌%◌, ◌<◌, ◌≤◌, eqb, ltb, length, get_or}
+use Rattle.std.specs.Prelude.{◌≡◌, ◌≢◌, Bool, true, false, cond, List, [], ◌∷◌, ◌++◌, ℕ, ◌+◌, ◌-◌, ◌/◌, ◌%◌, ◌<◌, ◌≤◌, eqb, ltb, length, get_or}
 use Rattle.std.specs.Prelude.{Option, Some, None, Result, MatchResult}
 use Rattle.implication.specs.declared.Failure.{Failure}
 use Rattle.implication.specs.declared.Failure.TheVariants.{TooLarge}
@@ -49,6 +49,10 @@ pub record SameFor (w : List ℕ) (a p n : ℕ) : Type 0 where
 pub record SameRange (w : List ℕ) (a b p q : ℕ) : Type 0 where
   pub long : b - a ≡ q - p
   pub same : SameFor w a p (b - a)
+
+pub record Compares (w : List ℕ) (a b p q : ℕ) (r : Bool) : Type 0 where
+  pub sound : r ≡ true → SameRange w a b p q
+  pub complete : r ≡ false → SameRange w a b p q → ⊥
 
 -- where the comparison with number i stands
 abbrev pub span_at : List (ℕ × ℕ) → ℕ → ℕ × ℕ
