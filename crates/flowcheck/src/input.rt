@@ -12,6 +12,7 @@ pub fn read_input<R: Read>(reader: &mut R, buffer: &mut [u8]) -> usize
     ensures all { ReadAll (R.remaining reader.old) (length buffer.old) (take result buffer.new) }
 {
     let mut n = 0;
+    // stays a `while`: how far a turn goes is what the read gave
     while n < buffer.len() {
         let more = match reader.read(&mut buffer[n..]) {
             Ok(more) => more,

@@ -36,6 +36,7 @@ fn print_line<W: Write>(writer: &mut W, file: &[u8], line: &[u8])
     ensures { WrittenOf (W.contents writer.old) (W.contents writer.new) line.now }
 {
     let mut from = 0;
+    // stays a `while`: how far a turn goes is what the write took
     while from < line.len() {
         let taken = write_from(writer, file, line, from);
         if taken == 0 {

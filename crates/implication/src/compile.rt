@@ -24,6 +24,7 @@ fn compile(
 {
     let mut at = len;
     let mut k = a;
+    // stays a `while`: a comparison passes all its words at once
     while k < end {
         let next = match role_of(w[k]) {
             Role::Byte(op) => {

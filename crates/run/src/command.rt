@@ -140,6 +140,7 @@ fn run_turns(
     ensures { TurnsAs w.now ends.now «at» (lent scalars.old values.old)
         left.old (end_of result left.new (lent scalars.new values.new)) }
 {
+    // stays a `while`: it counts nothing, and its test is that of the program
     while take_step(left, at, loop_test(w, ends, at, kind, scalars, values))? {
         run_pass(w, ends, at, kind, scalars, values, left)?;
     }
