@@ -26,7 +26,7 @@ pub fn end_at(ends: &[u32], at: usize) -> usize
     ends[at] as usize
 }
 
-// The same of any place: 0 past the list.
+// The same of any place: 0 past the list. It stays beside `end_at`, which asks for a place in the list and tests none.
 pub fn end_or_zero(ends: &[u32], place: usize) -> usize
     ensures { result ≡ get_or ends.now place 0 }
 {

@@ -36,7 +36,8 @@ pub fn unmarked(w: &[u32], from: usize, to: usize, mask: u64) -> bool
     !any_marked(w, from, to, mask)
 }
 
-// Whether the expression in the range has no identifier.
+// Whether the expression in the range has no identifier. It stays beside `unmarked`: both ask `any_marked`, and their contracts
+// state different things.
 pub fn closed(w: &[u32], from: usize, to: usize) -> bool
     requires { to ≤ length w.now }
     ensures { Closed w.now from to result }
