@@ -24,7 +24,7 @@ fn compile(
 {
     let mut at = len;
     let mut k = a;
-    // stays a `while`: a comparison passes all its words at once
+    // stays a `while`: k goes past all the words of a comparison at once, which no iterator over them does more plainly
     while k < end {
         let next = match role_of(w[k]) {
             Role::Byte(op) => {

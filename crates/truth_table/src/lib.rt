@@ -4,7 +4,8 @@
 ghost use Rattle.std.specs.Prelude.{◌≡◌, ◌%◌, ◌≤◌, IsTrue, ◌↔◌};
 ghost use Rattle.truth_table.specs.Formula.{IsFormula, CanWork, FourBlocks, Full, GivesFour, Every, spread_of};
 
-// The bytes of a formula above those of its leaves.
+// The bytes of a formula above those of its leaves. They stay bytes: those below AND are places among the words of `fill`, and an
+// enum with a leaf's number would take two bytes, where the memory for a formula is fixed (32,776 bytes lent by `implication`).
 pub const FALSE: u8 = 16;
 
 pub const TRUE: u8 = 17;
