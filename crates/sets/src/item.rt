@@ -73,6 +73,9 @@ pub fn pair_item(f: usize, b: usize) -> FormedMember
     }
 }
 
+// `same_item`, `same_pair` and `same_words` stay three: each makes other calls, and one function that takes the calls as closures
+// would be longer than they are.
+
 // Whether the written member at `at` is the item: its antecedent by plain forms, its consequent by words.
 // Consequents first: more members of a set differ in them.
 pub fn same_item(w: &[u32], ends: &[u32], at: usize, item: FormedMember) -> bool
