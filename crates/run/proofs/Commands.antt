@@ -28,7 +28,8 @@ use Rattle.execution.specs.Run as definition
 use Rattle.execution.specs.Run.{ended, stopped, on_ended, step, assigns, turns, run}
 use Rattle.words.specs.declared.CommandWord.TheVariants.{Skip, Sequence, Assert, AssignScalar, AssignArray, If, While}
 use Rattle.words.specs.declared.CommandWord.TheVariants.{For, Call}
-use Rattle.context.specs.declared.Refusal.{Refusal}
+use Rattle.run.specs.declared.Halt.{Halt}
+use Rattle.run.specs.declared.Progress.{Progress}
 use Rattle.heads.specs.Stands.{command_at, start_place, resolved_part}
 use Rattle.heads.proofs.Parts.{runnable, command-parts}
 use Rattle.arithmetic.specs.Worked.{outcome, checked}
@@ -37,7 +38,7 @@ use Rattle.arithmetic.proofs.Signed.{back}
 use Rattle.evaluate.specs.Evaluated.{filled, Evaluates, Fills}
 use Rattle.evaluate.proofs.Places.{end_is}
 use Rattle.evaluate.proofs.Results.{after_both}
-use Rattle.run.specs.Steps.{end_of, after_step, Stepped}
+use Rattle.run.specs.Steps.{halt_number, end_of, after_step, Stepped}
 use Rattle.run.specs.Places.{RunsAs}
 use Rattle.run.specs.Turns.{loop_word, loop_test, loop_body, body_place}
 use Rattle.run.specs.Turns.{TestsLoop, EndsPass, TurnsAs, PassAs}
@@ -59,23 +60,23 @@ module _ {w ends : List ℕ} {at : ℕ} {m : Lent} {n : ℕ} where
   becomes q f = record { is = λ c p x. q ∙ f.is c p x }
 
   -- what `?` hands on
-  pub passed : {A : Type 0} (r : Result A Refusal) (e : Refusal) {l : ℕ} {m' : Lent} → IsErrAnd r (λ d. d ≡ e) →
-      RunsAs w ends at m n (stopped e.number e.place l m') → RunsAs w ends at m n (end_of r l m')
+  pub passed : {A : Type 0} (r : Result A Halt) (e : Halt) {l : Progress} {m' : Lent} → IsErrAnd r (λ d. d ≡ e) →
+      RunsAs w ends at m n (stopped (halt_number e) l.place l.left m') → RunsAs w ends at m n (end_of r l m')
   passed r e {l} {m'} h f = becomes (refused r e l m' h) f
 
-  pub turns-passed : {A : Type 0} (r : Result A Refusal) (e : Refusal) {l : ℕ} {m' : Lent} → IsErrAnd r (λ d. d ≡ e) →
-      TurnsAs w ends at m n (stopped e.number e.place l m') → TurnsAs w ends at m n (end_of r l m')
+  pub turns-passed : {A : Type 0} (r : Result A Halt) (e : Halt) {l : Progress} {m' : Lent} → IsErrAnd r (λ d. d ≡ e) →
+      TurnsAs w ends at m n (stopped (halt_number e) l.place l.left m') → TurnsAs w ends at m n (end_of r l m')
   turns-passed r e {l} {m'} h f = record { is = λ c p x. refused r e l m' h ∙ f.is c p x }
 
-started : {at n l : ℕ} (ss vs : List ℤ) (q : ℕ) {s : Result ℤ Refusal} → Stepped at n (worked (pos 1)) s l →
+started : {at n : ℕ} {l : Progress} (ss vs : List ℤ) (q : ℕ) {s : Result ℤ Halt} → Stepped at n (worked (pos 1)) s l →
     after_step s l (lent ss vs) (λ z k. ended k (lent (set ss q z) vs)) ≡ assigns (start q) at n (lent ss vs)
 unfolding evaluate
 started {at} {n} ss vs q g =
     g.is (lent ss vs) (λ z k. ended k (lent (set ss q z) vs))
     ∙ given-step at n (lent ss vs) (worked (pos 1)) (λ z. lent (set ss q z) vs)
 
-module _ {w ends : List ℕ} {at n l : ℕ} where
-  pub skip_runs : {A : Type 0} (a : A) {m : Lent} {r : Result A Refusal} → command_at w at ≡ Skip → Stepped at n (worked a) r l →
+module _ {w ends : List ℕ} {at n : ℕ} {l : Progress} where
+  pub skip_runs : {A : Type 0} (a : A) {m : Lent} {r : Result A Halt} → command_at w at ≡ Skip → Stepped at n (worked a) r l →
       RunsAs w ends at m n (end_of r l m)
   unfolding run
   skip_runs a {m} {r} h g = record {
@@ -85,7 +86,7 @@ module _ {w ends : List ℕ} {at n l : ℕ} where
   }
 
   module _ {ss vs : List ℤ} where
-    pub assert-runs : {o : Evaluation Bool} {r : Result Bool Refusal} → command_at w at ≡ Assert →
+    pub assert-runs : {o : Evaluation Bool} {r : Result Bool Halt} → command_at w at ≡ Assert →
         Evaluates syntax.Boolean w ends ss vs (at + 1) o → Stepped at n o r l →
         RunsAs w ends at (lent ss vs) n
         (after_step r l (lent ss vs) λ v k. cond v (ended k (lent ss vs)) (stopped 12 at n (lent ss vs)))
@@ -99,7 +100,7 @@ module _ {w ends : List ℕ} {at n l : ℕ} where
           ∙ sym (ap (λ y. run x.body_at y at n m) y.is);
     }
 
-    pub scalar-runs : {x : ℕ} {o : Evaluation ℤ} {r : Result ℤ Refusal} → command_at w at ≡ AssignScalar x →
+    pub scalar-runs : {x : ℕ} {o : Evaluation ℤ} {r : Result ℤ Halt} → command_at w at ≡ AssignScalar x →
         Evaluates syntax.Arithmetic w ends ss vs (at + 1) o → Stepped at n o r l →
         RunsAs w ends at (lent ss vs) n (after_step r l (lent ss vs) λ v k. ended k (lent (set ss x v) vs))
     unfolding run
@@ -114,7 +115,7 @@ module _ {w ends : List ℕ} {at n l : ℕ} where
           ∙ sym (ap (λ y. run i.body_at y at n m) t.is);
     }
 
-    pub array_runs : {A : Type 0} {a : ℕ} (q : Result A Stop) (s : List ℤ) {r : Result A Refusal} →
+    pub array_runs : {A : Type 0} {a : ℕ} (q : Result A Stop) (s : List ℤ) {r : Result A Halt} →
         command_at w at ≡ AssignArray a → Fills w ends ss vs (at + 1) (filled q s) → Stepped at n (outcome q) r l →
         RunsAs w ends at (lent ss vs) n (after_step r l (lent ss vs) λ v k. ended k (lent ss (paste vs (64 * a) s 64)))
     unfolding run
@@ -136,7 +137,7 @@ module _ {w ends : List ℕ} {at n l : ℕ} where
   -- the start of a `for`
   module _ {ss vs : List ℤ} {q r : ℕ} (h : command_at w at ≡ For q r) where
     pub for-ended : {e : definition.End} {v : ℤ} → SFits w64 v → Stepped at n (worked (pos 1)) (Ok v) l →
-        TurnsAs w ends at (lent (set ss q (to_z w64 (of_z w64 v))) vs) l e → RunsAs w ends at (lent ss vs) n e
+        TurnsAs w ends at (lent (set ss q (to_z w64 (of_z w64 v))) vs) l.left e → RunsAs w ends at (lent ss vs) n e
     unfolding run
     for-ended {v = v} k g f = record {
       is = λ c p x.
@@ -144,14 +145,14 @@ module _ {w ends : List ℕ} {at n l : ℕ} where
           let go : ℕ → Lent → definition.End = λ l m. turns l (loop_test (syntax.for q r t.first))
           (loop_body x.body_at (syntax.for q r t.first) at) at l m in
           f.is c p x
-          ∙ ap (λ y. turns l (loop_test y) (loop_body x.body_at y at) at l (lent (set ss q (to_z w64 (of_z w64 v))) vs)) t.is
-          ∙ ap (λ z. go l (lent (set ss q z) vs)) (back k)
+          ∙ ap (λ y. turns l.left (loop_test y) (loop_body x.body_at y at) at l.left (lent (set ss q (to_z w64 (of_z w64 v))) vs)) t.is
+          ∙ ap (λ z. go l.left (lent (set ss q z) vs)) (back k)
           ∙ ap (λ y. on_ended y go) (started ss vs q g)
           ∙ sym (ap (λ y. run x.body_at y at n (lent ss vs)) t.is);
     }
 
-    pub for-stopped : {d : Refusal} → Stepped at n (worked (pos 1)) (Err d) l →
-        RunsAs w ends at (lent ss vs) n (stopped d.number d.place l (lent ss vs))
+    pub for-stopped : {d : Halt} → Stepped at n (worked (pos 1)) (Err d) l →
+        RunsAs w ends at (lent ss vs) n (stopped (halt_number d) l.place l.left (lent ss vs))
     unfolding run
     for-stopped g = record {
       is = λ c p x.
@@ -201,8 +202,8 @@ module _ {w ends : List ℕ} {at n : ℕ} {m : Lent} where
 
   -- a call: one step, then the body of its procedure, which stands at q
   module _ {A : Type 0} {a : A} {k : ℕ} (h : command_at w at ≡ Call k) where
-    pub call-ended : {q l : ℕ} {e : definition.End} → Stepped at n (worked a) (Ok a) l →
-        q ≡ get_or ends (start_place w k) 0 → RunsAs w ends q m l e → RunsAs w ends at m n e
+    pub call-ended : {q : ℕ} {l : Progress} {e : definition.End} → Stepped at n (worked a) (Ok a) l →
+        q ≡ get_or ends (start_place w k) 0 → RunsAs w ends q m l.left e → RunsAs w ends at m n e
     unfolding run
     call-ended {q} {l} g j r = record {
       is = λ c p x.
@@ -211,14 +212,14 @@ module _ {w ends : List ℕ} {at n : ℕ} {m : Lent} where
           let b = x.bodies.known k t.procedure t.listed in
           let here : q ≡ x.body_at k = j ∙ b.start in
           r.is d b.past (runnable x d (placed (sym here) b.there))
-          ∙ ap (λ y. run x.body_at d y l m) here
+          ∙ ap (λ y. run x.body_at d y l.left m) here
           ∙ g.is m (λ z l. run x.body_at d (x.body_at k) l m)
           ∙ step-worked at n m a m (λ m' l. run x.body_at d (x.body_at k) l m')
           ∙ sym (ap (λ y. run x.body_at y at n m) t.is);
     }
 
-    pub call-stopped : {l : ℕ} {d : Refusal} → Stepped at n (worked a) (Err d) l →
-        RunsAs w ends at m n (stopped d.number d.place l m)
+    pub call-stopped : {l : Progress} {d : Halt} → Stepped at n (worked a) (Err d) l →
+        RunsAs w ends at m n (stopped (halt_number d) l.place l.left m)
     unfolding run
     call-stopped g = record {
       is = λ c p x.
@@ -228,11 +229,11 @@ module _ {w ends : List ℕ} {at n : ℕ} {m : Lent} where
           ∙ sym (ap (λ y. run x.body_at y at n m) t.is);
     }
 
-module _ {w ends : List ℕ} {at n l : ℕ} {ss vs : List ℤ} {o : Evaluation Bool} (h : command_at w at ≡ If)
+module _ {w ends : List ℕ} {at n : ℕ} {l : Progress} {ss vs : List ℤ} {o : Evaluation Bool} (h : command_at w at ≡ If)
     (f : Evaluates syntax.Boolean w ends ss vs (at + 1) o) where
   module _ {v : Bool} (g : Stepped at n o (Ok v) l) where
     pub then_runs : {q : ℕ} {e : definition.End} → v ≡ true → q ≡ get_or ends (at + 1) 0 →
-        RunsAs w ends q (lent ss vs) l e → RunsAs w ends at (lent ss vs) n e
+        RunsAs w ends q (lent ss vs) l.left e → RunsAs w ends at (lent ss vs) n e
     unfolding run
     then_runs {q} e j r = record {
       is = λ d p x.
@@ -245,14 +246,14 @@ module _ {w ends : List ℕ} {at n l : ℕ} {ss vs : List ℤ} {o : Evaluation B
             | false ↦ run x.body_at t.third (at + 1 + length (words t.first) + length (command_words t.second)) l m
           ] in
           r.is t.second t.last (runnable x t.second (placed same t.second_at))
-          ∙ ap (λ y. run x.body_at t.second y l m) (sym same ∙ k)
-          ∙ ap (λ y. go y l) (sym e)
+          ∙ ap (λ y. run x.body_at t.second y l.left m) (sym same ∙ k)
+          ∙ ap (λ y. go y l.left) (sym e)
           ∙ g.is m go ∙ ap (λ o. step at n m o go) (f.is t.first t.middle t.first-at)
           ∙ sym (ap (λ y. run x.body_at y at n m) t.is);
     }
 
     pub else_runs : {q o : ℕ} {e : definition.End} → v ≡ false → q ≡ get_or ends (at + 1) 0 → o ≡ get_or ends q 0 →
-        RunsAs w ends o (lent ss vs) l e → RunsAs w ends at (lent ss vs) n e
+        RunsAs w ends o (lent ss vs) l.left e → RunsAs w ends at (lent ss vs) n e
     unfolding run
     else_runs {q} {o} e j u r = record {
       is = λ d p x.
@@ -268,15 +269,15 @@ module _ {w ends : List ℕ} {at n l : ℕ} {ss vs : List ℤ} {o : Evaluation B
             | false ↦ run x.body_at t.third (at + 1 + length (words t.first) + length (command_words t.second)) l m
           ] in
           r.is t.third p (runnable x t.third (placed last t.third_at))
-          ∙ ap (λ y. run x.body_at t.third y l m)
+          ∙ ap (λ y. run x.body_at t.third y l.left m)
           (sym last ∙ k ∙ ap (λ y. y + length (command_words t.second)) i)
-          ∙ ap (λ y. go y l) (sym e)
+          ∙ ap (λ y. go y l.left) (sym e)
           ∙ g.is m go ∙ ap (λ o. step at n m o go) (f.is t.first t.middle t.first-at)
           ∙ sym (ap (λ y. run x.body_at y at n m) t.is);
     }
 
-  pub if_stopped : {d : Refusal} → Stepped at n o (Err d) l →
-      RunsAs w ends at (lent ss vs) n (stopped d.number d.place l (lent ss vs))
+  pub if_stopped : {d : Halt} → Stepped at n o (Err d) l →
+      RunsAs w ends at (lent ss vs) n (stopped (halt_number d) l.place l.left (lent ss vs))
   unfolding run
   if_stopped g = record {
     is = λ d p x.
@@ -294,7 +295,7 @@ module _ {w ends : List ℕ} {at n l : ℕ} {ss vs : List ℤ} {o : Evaluation B
 module _ {w ends : List ℕ} {at n : ℕ} {m : Lent} where
   pub pass_runs : (kind : Loop) → command_at w at ≡ loop_word kind → {q l : ℕ} {ss vs : List ℤ} →
       q ≡ body_place ends at kind → RunsAs w ends q m n (ended l (lent ss vs)) →
-      {A : Type 0} {r : Result A Refusal} {k : ℕ} {after : List ℤ} → EndsPass ss at kind l r k after →
+      {A : Type 0} {r : Result A Halt} {k : Progress} {after : List ℤ} → EndsPass ss at kind l r k after →
       PassAs w ends at m n (end_of r k (lent after vs))
   pass_runs Test h {q} {vs = vs} j f g = record {
     is = λ c p x.
@@ -333,8 +334,8 @@ module _ {w ends : List ℕ} {at n : ℕ} {m : Lent} where
         ∙ sym (ap (λ y. loop_body x.body_at y at n m) t.is);
   }
 
-  pub pass-passed : {A : Type 0} (r : Result A Refusal) (e : Refusal) {l : ℕ} {m' : Lent} → IsErrAnd r (λ d. d ≡ e) →
-      PassAs w ends at m n (stopped e.number e.place l m') → PassAs w ends at m n (end_of r l m')
+  pub pass-passed : {A : Type 0} (r : Result A Halt) (e : Halt) {l : Progress} {m' : Lent} → IsErrAnd r (λ d. d ≡ e) →
+      PassAs w ends at m n (stopped (halt_number e) l.place l.left m') → PassAs w ends at m n (end_of r l m')
   pass-passed r e {l} {m'} h f = record { is = λ c p x. refused r e l m' h ∙ f.is c p x }
 
 module _ {w ends : List ℕ} {at : ℕ} {ss vs : List ℤ} where
@@ -356,7 +357,7 @@ module _ {w ends : List ℕ} {at : ℕ} {ss vs : List ℤ} where
   }
 
 -- the increment, by the step that it is
-pub incremented : (ss : List ℤ) {at n : ℕ} {o : Evaluation ℤ} {s : Result ℤ Refusal} {l : ℕ} (vs : List ℤ) (q : ℕ) →
+pub incremented : (ss : List ℤ) {at n : ℕ} {o : Evaluation ℤ} {s : Result ℤ Halt} {l : Progress} (vs : List ℤ) (q : ℕ) →
     o ≡ checked (get_or ss q (pos 0) +ℤ pos 1) → Stepped at n o s l →
     (after_step s l (lent ss vs) λ z k. ended k (lent (set ss q z) vs)) ≡ assigns (increment q) at n (lent ss vs)
 unfolding evaluate checked

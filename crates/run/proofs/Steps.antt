@@ -13,30 +13,31 @@ use Rattle.std.specs.Prelude.{Result, Ok, Err, IsErrAnd}
 use Rattle.execution.specs.Lent.{Lent, lent}
 use Rattle.execution.specs.Evaluate.{Evaluation, worked, stops, on_worked}
 use Rattle.execution.specs.Run.{End, ended, stopped, step}
-use Rattle.context.specs.declared.Refusal.{Refusal}
 use Rattle.arithmetic.specs.Worked.{outcome}
 use Rattle.arithmetic.specs.declared.Stop.{Stop}
 use Rattle.evaluate.specs.Evaluated.{filled}
-use Rattle.run.specs.Steps.{end_of, after_step, Stepped}
+use Rattle.run.specs.declared.Halt.{Halt}
+use Rattle.run.specs.declared.Progress.{Progress}
+use Rattle.run.specs.Steps.{halt_number, end_of, after_step, Stepped}
 
 less : {A : Type 0} (at n l : ℕ) (o : Evaluation A) (m : Lent) → ended l m ≡ step at n m o (λ a k. ended k m) → l < n
 less at zero l o m e = absurd (cc)
 less at (suc n) l (worked a) m e = let q : l ≡ n = cc in omega arith
 less at (suc n) l (stops k) m e = absurd (cc)
 
-pub step_less : {A : Type 0} {at n l : ℕ} {o : Evaluation A} {a : A} → Stepped at n o (Ok a) l → l < n
+pub step_less : {A : Type 0} {at n : ℕ} {l : Progress} {o : Evaluation A} {a : A} → Stepped at n o (Ok a) l → l.left < n
 step_less {at = at} {n} {l} {o} g =
-    let m = lent [] [] in less at n l o m (g.is m (λ a k. ended k m))
+    let m = lent [] [] in less at n l.left o m (g.is m (λ a k. ended k m))
 
 -- ---- a result as an end
-pub refused : {A : Type 0} (r : Result A Refusal) (e : Refusal) (n : ℕ) (m : Lent) → IsErrAnd r (λ d. d ≡ e) →
-    end_of r n m ≡ stopped e.number e.place n m
-refused (Ok a) e n m h = absurd h
-refused (Err d) e n m h = ap (λ d. stopped d.number d.place n m) h
+pub refused : {A : Type 0} (r : Result A Halt) (e : Halt) (s : Progress) (m : Lent) → IsErrAnd r (λ d. d ≡ e) →
+    end_of r s m ≡ stopped (halt_number e) s.place s.left m
+refused (Ok a) e s m h = absurd h
+refused (Err d) e s m h = ap (λ d. stopped (halt_number d) s.place s.left m) h
 
-pub ended_as : {A : Type 0} (r : Result A Refusal) (n : ℕ) (m : Lent) → end_of r n m ≡ after_step r n m λ a l. ended l m
-ended_as (Ok a) n m = refl
-ended_as (Err d) n m = refl
+pub ended_as : {A : Type 0} (r : Result A Halt) (s : Progress) (m : Lent) → end_of r s m ≡ after_step r s m λ a l. ended l m
+ended_as (Ok a) s m = refl
+ended_as (Err d) s m = refl
 
 -- an assignment's step, by the value
 pub given-step : {A : Type 0} (at n : ℕ) (m : Lent) (o : Evaluation A) (g : A → Lent) →

@@ -17,9 +17,10 @@ use Rattle.execution.specs.Run as definition
 use Rattle.execution.specs.Run.{ended, on_ended, assigns, turns, run}
 use Rattle.words.specs.declared.CommandWord.{CommandWord}
 use Rattle.words.specs.declared.CommandWord.TheVariants.{While, For}
-use Rattle.context.specs.declared.Refusal.{Refusal}
 use Rattle.heads.specs.Stands.{Runnable}
 use Rattle.run.specs.Steps.{end_of}
+use Rattle.run.specs.declared.Halt.{Halt}
+use Rattle.run.specs.declared.Progress.{Progress}
 use Rattle.run.specs.declared.Loop.{Loop}
 use Rattle.run.specs.declared.Loop.TheVariants.{Test, Count}
 
@@ -64,11 +65,11 @@ after_body (Count q r) at n m = assigns (increment q) at n m
 pub record TestsLoop (w ends : List ℕ) (at : ℕ) (m : Lent) (o : Evaluation Bool) : Type 0 where
   pub is : (c : syntax.Command) (p : ℕ) (x : Runnable w ends c at p) → o ≡ evaluate (loop_test c) (store_of m)
 
-pub record Increments {A : Type 0} (ss : List ℤ) (q at n : ℕ) (r : Result A Refusal) (n' : ℕ) (after : List ℤ) : Type 0 where
-  pub is : (vs : List ℤ) → end_of r n' (lent after vs) ≡ assigns (increment q) at n (lent ss vs)
+pub record Increments {A : Type 0} (ss : List ℤ) (q at n : ℕ) (r : Result A Halt) (s : Progress) (after : List ℤ) : Type 0 where
+  pub is : (vs : List ℤ) → end_of r s (lent after vs) ≡ assigns (increment q) at n (lent ss vs)
 
-pub record EndsPass {A : Type 0} (ss : List ℤ) (at : ℕ) (kind : Loop) (n : ℕ) (r : Result A Refusal) (n' : ℕ) (after : List ℤ) : Type 0 where
-  pub is : (vs : List ℤ) → end_of r n' (lent after vs) ≡ after_body kind at n (lent ss vs)
+pub record EndsPass {A : Type 0} (ss : List ℤ) (at : ℕ) (kind : Loop) (n : ℕ) (r : Result A Halt) (s : Progress) (after : List ℤ) : Type 0 where
+  pub is : (vs : List ℤ) → end_of r s (lent after vs) ≡ after_body kind at n (lent ss vs)
 
 module _ (w ends : List ℕ) (at : ℕ) (m : Lent) (n : ℕ) (e : definition.End) where
   pub record TurnsAs : Type 0 where

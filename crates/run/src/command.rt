@@ -5,11 +5,10 @@ ghost use Rattle.run.specs.Steps.{end_of};
 ghost use Rattle.run.specs.Places.{CanRunAt, RunsAs};
 ghost use Rattle.run.specs.Turns.{loop_word, TurnsAs, PassAs};
 
-use super::Loop;
 use super::called::called_at;
 use super::repeat::{body_at, end_pass, loop_test};
 use super::step::{assign_array, assign_scalar, run_assert, take_step};
-use context::Refusal;
+use super::{Halt, Loop, Progress};
 use ends::end_at;
 use evaluate::boolean::eval_boolean;
 use heads::command_head;
@@ -22,23 +21,23 @@ pub fn run_command(
     at: usize,
     scalars: &mut [i64; 32],
     values: &mut [i64; 2048],
-    left: &mut u32,
-) -> Result<(), Refusal>
+    progress: &mut Progress,
+) -> Result<(), Halt>
     requires { CommandStands w.now ends.now «at» }
     ensures { RunsAs w.now ends.now «at» (lent scalars.old values.old)
-        left.old (end_of result left.new (lent scalars.new values.new)) }
+        progress.old.left (end_of result progress.new (lent scalars.new values.new)) }
 {
     let head = command_head(w, at);
     match head {
-        CommandWord::Skip => take_step(left, at, Ok(())),
-        CommandWord::Sequence => run_sequence(w, ends, at, scalars, values, left),
-        CommandWord::Assert => run_assert(w, ends, at, scalars, values, left),
-        CommandWord::AssignScalar(x) => assign_scalar(w, ends, at, x, scalars, values, left),
-        CommandWord::AssignArray(a) => assign_array(w, ends, at, a, scalars, values, left),
-        CommandWord::If => run_if(w, ends, at, scalars, values, left),
-        CommandWord::While => run_turns(w, ends, at, Loop::Test, scalars, values, left),
-        CommandWord::For(q, m) => run_for(w, ends, at, q, m, scalars, values, left),
-        CommandWord::Call(p) => run_call(w, ends, at, p, scalars, values, left),
+        CommandWord::Skip => take_step(progress, at, Ok(())),
+        CommandWord::Sequence => run_sequence(w, ends, at, scalars, values, progress),
+        CommandWord::Assert => run_assert(w, ends, at, scalars, values, progress),
+        CommandWord::AssignScalar(x) => assign_scalar(w, ends, at, x, scalars, values, progress),
+        CommandWord::AssignArray(a) => assign_array(w, ends, at, a, scalars, values, progress),
+        CommandWord::If => run_if(w, ends, at, scalars, values, progress),
+        CommandWord::While => run_turns(w, ends, at, Loop::Test, scalars, values, progress),
+        CommandWord::For(q, m) => run_for(w, ends, at, q, m, scalars, values, progress),
+        CommandWord::Call(p) => run_call(w, ends, at, p, scalars, values, progress),
         CommandWord::Other => unreachable!(),
     }
 }
@@ -51,15 +50,15 @@ fn run_sequence(
     at: usize,
     scalars: &mut [i64; 32],
     values: &mut [i64; 2048],
-    left: &mut u32,
-) -> Result<(), Refusal>
+    progress: &mut Progress,
+) -> Result<(), Halt>
     requires { CanRunAt w.now ends.now «at» CommandWord.Sequence }
     ensures { RunsAs w.now ends.now «at» (lent scalars.old values.old)
-        left.old (end_of result left.new (lent scalars.new values.new)) }
+        progress.old.left (end_of result progress.new (lent scalars.new values.new)) }
 {
-    run_command(w, ends, at + 1, scalars, values, left)?;
+    run_command(w, ends, at + 1, scalars, values, progress)?;
     let second = end_at(ends, at + 1);
-    run_command(w, ends, second, scalars, values, left)
+    run_command(w, ends, second, scalars, values, progress)
 }
 
 #[cycle(run_call_run_command_run_for_run_if_run_pass_run_sequence_run_turns)]
@@ -69,19 +68,19 @@ fn run_if(
     at: usize,
     scalars: &mut [i64; 32],
     values: &mut [i64; 2048],
-    left: &mut u32,
-) -> Result<(), Refusal>
+    progress: &mut Progress,
+) -> Result<(), Halt>
     requires { CanRunAt w.now ends.now «at» CommandWord.If }
     ensures { RunsAs w.now ends.now «at» (lent scalars.old values.old)
-        left.old (end_of result left.new (lent scalars.new values.new)) }
+        progress.old.left (end_of result progress.new (lent scalars.new values.new)) }
 {
-    let test = take_step(left, at, eval_boolean(w, ends, at + 1, scalars, values))?;
+    let test = take_step(progress, at, eval_boolean(w, ends, at + 1, scalars, values))?;
     let first = end_at(ends, at + 1);
     if test {
-        run_command(w, ends, first, scalars, values, left)
+        run_command(w, ends, first, scalars, values, progress)
     } else {
         let second = end_at(ends, first);
-        run_command(w, ends, second, scalars, values, left)
+        run_command(w, ends, second, scalars, values, progress)
     }
 }
 
@@ -94,15 +93,15 @@ fn run_call(
     p: u32,
     scalars: &mut [i64; 32],
     values: &mut [i64; 2048],
-    left: &mut u32,
-) -> Result<(), Refusal>
+    progress: &mut Progress,
+) -> Result<(), Halt>
     requires { CanRunAt w.now ends.now «at» (CommandWord.Call p) }
     ensures { RunsAs w.now ends.now «at» (lent scalars.old values.old)
-        left.old (end_of result left.new (lent scalars.new values.new)) }
+        progress.old.left (end_of result progress.new (lent scalars.new values.new)) }
 {
-    take_step(left, at, Ok(()))?;
+    take_step(progress, at, Ok(()))?;
     let body = called_at(w, ends, p);
-    run_command(w, ends, body, scalars, values, left)
+    run_command(w, ends, body, scalars, values, progress)
 }
 
 // The start of a `for`, which is one step, then its turns.
@@ -115,14 +114,14 @@ fn run_for(
     m: u32,
     scalars: &mut [i64; 32],
     values: &mut [i64; 2048],
-    left: &mut u32,
-) -> Result<(), Refusal>
+    progress: &mut Progress,
+) -> Result<(), Halt>
     requires { CanRunAt w.now ends.now «at» (CommandWord.For q m) }
     ensures { RunsAs w.now ends.now «at» (lent scalars.old values.old)
-        left.old (end_of result left.new (lent scalars.new values.new)) }
+        progress.old.left (end_of result progress.new (lent scalars.new values.new)) }
 {
-    scalars[q as usize] = take_step(left, at, Ok(1))?;
-    run_turns(w, ends, at, Loop::Count(q, m), scalars, values, left)
+    scalars[q as usize] = take_step(progress, at, Ok(1))?;
+    run_turns(w, ends, at, Loop::Count(q, m), scalars, values, progress)
 }
 
 // A while, or a `for` from its test on. Each turn takes a step, so the steps left fall.
@@ -134,15 +133,15 @@ fn run_turns(
     kind: Loop,
     scalars: &mut [i64; 32],
     values: &mut [i64; 2048],
-    left: &mut u32,
-) -> Result<(), Refusal>
+    progress: &mut Progress,
+) -> Result<(), Halt>
     requires { CanRunAt w.now ends.now «at» (loop_word kind) }
     ensures { TurnsAs w.now ends.now «at» (lent scalars.old values.old)
-        left.old (end_of result left.new (lent scalars.new values.new)) }
+        progress.old.left (end_of result progress.new (lent scalars.new values.new)) }
 {
     // stays a `while`: it counts nothing, and its test is that of the program
-    while take_step(left, at, loop_test(w, ends, at, kind, scalars, values))? {
-        run_pass(w, ends, at, kind, scalars, values, left)?;
+    while take_step(progress, at, loop_test(w, ends, at, kind, scalars, values))? {
+        run_pass(w, ends, at, kind, scalars, values, progress)?;
     }
     Ok(())
 }
@@ -156,13 +155,13 @@ fn run_pass(
     kind: Loop,
     scalars: &mut [i64; 32],
     values: &mut [i64; 2048],
-    left: &mut u32,
-) -> Result<(), Refusal>
+    progress: &mut Progress,
+) -> Result<(), Halt>
     requires { CanRunAt w.now ends.now «at» (loop_word kind) }
     ensures { PassAs w.now ends.now «at» (lent scalars.old values.old)
-        left.old (end_of result left.new (lent scalars.new values.new)) }
+        progress.old.left (end_of result progress.new (lent scalars.new values.new)) }
 {
     let place = body_at(ends, at, kind);
-    run_command(w, ends, place, scalars, values, left)?;
-    end_pass(scalars, at, kind, left)
+    run_command(w, ends, place, scalars, values, progress)?;
+    end_pass(scalars, at, kind, progress)
 }

@@ -5,10 +5,9 @@ ghost use Rattle.arithmetic.specs.Worked.{outcome};
 ghost use Rattle.run.specs.Places.{CanRunAt};
 ghost use Rattle.run.specs.Turns.{loop_word, body_place, CountsIn, TestsLoop, Increments, EndsPass};
 
-use super::Loop;
 use super::step::take_step;
+use super::{Halt, Loop, Progress};
 use arithmetic::{Stop, at_most, sum};
-use context::Refusal;
 use ends::end_at;
 use evaluate::boolean::eval_boolean;
 
@@ -45,22 +44,27 @@ pub fn end_pass(
     scalars: &mut [i64; 32],
     at: usize,
     kind: Loop,
-    left: &mut u32,
-) -> Result<(), Refusal>
+    progress: &mut Progress,
+) -> Result<(), Halt>
     requires { CountsIn kind }
-    ensures { EndsPass scalars.old «at» kind left.old result left.new scalars.new }
+    ensures { EndsPass scalars.old «at» kind progress.old.left result progress.new scalars.new }
 {
     match kind {
         Loop::Test => Ok(()),
-        Loop::Count(q, _) => increment(scalars, q as usize, at, left),
+        Loop::Count(q, _) => increment(scalars, q as usize, at, progress),
     }
 }
 
-fn increment(scalars: &mut [i64; 32], q: usize, at: usize, left: &mut u32) -> Result<(), Refusal>
+fn increment(
+    scalars: &mut [i64; 32],
+    q: usize,
+    at: usize,
+    progress: &mut Progress,
+) -> Result<(), Halt>
     requires { q < 32 }
-    ensures { Increments scalars.old q «at» left.old result left.new scalars.new }
+    ensures { Increments scalars.old q «at» progress.old.left result progress.new scalars.new }
 {
-    let next = take_step(left, at, sum(scalars[q], 1))?;
+    let next = take_step(progress, at, sum(scalars[q], 1))?;
     scalars[q] = next;
     Ok(())
 }

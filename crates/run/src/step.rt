@@ -4,35 +4,33 @@ ghost use Rattle.arithmetic.specs.Worked.{outcome};
 ghost use Rattle.run.specs.Steps.{end_of, Stepped};
 ghost use Rattle.run.specs.Places.{CanRunAt, RunsAs};
 
+use super::{Halt, Progress};
 use arithmetic::Stop;
-use context::Refusal;
 use evaluate::boolean::eval_boolean;
 use evaluate::expression::{eval_array, eval_operand};
 use words::CommandWord;
 
 // A step, by what its operands came to: refused if none is left, or if they stopped.
 pub fn take_step<A: Copy>(
-    left: &mut u32,
+    progress: &mut Progress,
     at: usize,
     operands: Result<A, Stop>,
-) -> Result<A, Refusal>
-    ensures { Stepped «at» left.old (outcome operands) result left.new }
+) -> Result<A, Halt>
+    ensures { Stepped «at» progress.old.left (outcome operands) result progress.new }
 {
-    if *left == 0 {
-        return Err(Refusal {
-            place: at,
-            number: 13,
-        });
+    if progress.left == 0 {
+        progress.place = at;
+        return Err(Halt::NoStepLeft);
     }
     match operands {
         Ok(a) => {
-            *left -= 1;
+            progress.left -= 1;
             Ok(a)
         }
-        Err(stop) => Err(Refusal {
-            place: at,
-            number: stop.number(),
-        }),
+        Err(stop) => {
+            progress.place = at;
+            Err(Halt::from(stop))
+        }
     }
 }
 
@@ -43,22 +41,22 @@ pub fn run_assert(
     at: usize,
     scalars: &[i64; 32],
     values: &[i64; 2048],
-    left: &mut u32,
-) -> Result<(), Refusal>
+    progress: &mut Progress,
+) -> Result<(), Halt>
     requires { CanRunAt w.now ends.now «at» CommandWord.Assert }
     ensures { RunsAs w.now ends.now «at» (lent scalars.now values.now)
-        left.old (end_of result left.new (lent scalars.now values.now)) }
+        progress.old.left (end_of result progress.new (lent scalars.now values.now)) }
 {
-    let before = *left;
-    let test = take_step(left, at, eval_boolean(w, ends, at + 1, scalars, values))?;
+    let before = progress.left;
+    let test = take_step(progress, at, eval_boolean(w, ends, at + 1, scalars, values))?;
     if test {
         return Ok(());
     }
-    *left = before;
-    Err(Refusal {
+    *progress = Progress {
+        left: before,
         place: at,
-        number: 12,
-    })
+    };
+    Err(Halt::FalseAssertion)
 }
 
 // An assignment to the scalar x stands at the place.
@@ -69,13 +67,13 @@ pub fn assign_scalar(
     x: u32,
     scalars: &mut [i64; 32],
     values: &[i64; 2048],
-    left: &mut u32,
-) -> Result<(), Refusal>
+    progress: &mut Progress,
+) -> Result<(), Halt>
     requires { CanRunAt w.now ends.now «at» (CommandWord.AssignScalar x) }
     ensures { RunsAs w.now ends.now «at» (lent scalars.old values.now)
-        left.old (end_of result left.new (lent scalars.new values.now)) }
+        progress.old.left (end_of result progress.new (lent scalars.new values.now)) }
 {
-    let v = take_step(left, at, eval_operand(w, ends, at + 1, scalars, values))?;
+    let v = take_step(progress, at, eval_operand(w, ends, at + 1, scalars, values))?;
     scalars[x as usize] = v;
     Ok(())
 }
@@ -88,15 +86,15 @@ pub fn assign_array(
     a: u32,
     scalars: &[i64; 32],
     values: &mut [i64; 2048],
-    left: &mut u32,
-) -> Result<(), Refusal>
+    progress: &mut Progress,
+) -> Result<(), Halt>
     requires { CanRunAt w.now ends.now «at» (CommandWord.AssignArray a) }
     ensures { RunsAs w.now ends.now «at» (lent scalars.now values.old)
-        left.old (end_of result left.new (lent scalars.now values.new)) }
+        progress.old.left (end_of result progress.new (lent scalars.now values.new)) }
 {
     let mut scratch = [0i64; 64];
     take_step(
-        left,
+        progress,
         at,
         eval_array(w, ends, at + 1, scalars, values, &mut scratch),
     )?;

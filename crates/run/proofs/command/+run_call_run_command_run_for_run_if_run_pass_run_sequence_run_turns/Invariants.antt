@@ -13,28 +13,28 @@ abbrev pub left : ℕ → ℕ → ℕ
 left n at = 40965 * n + 5 * (8192 - at)
 
 abbrev pub decreases-run_call : goal.decreases-run_call
-decreases-run_call l = left l.left.now l.at + 1
+decreases-run_call l = left l.progress.now.left l.at + 1
 
 abbrev pub decreases-run_command : goal.decreases-run_command
-decreases-run_command l = left l.left.now l.at + 5
+decreases-run_command l = left l.progress.now.left l.at + 5
 
 abbrev pub decreases-run_for : goal.decreases-run_for
-decreases-run_for l = left l.left.now l.at + 4
+decreases-run_for l = left l.progress.now.left l.at + 4
 
 abbrev pub decreases-run_if : goal.decreases-run_if
-decreases-run_if l = left l.left.now l.at + 1
+decreases-run_if l = left l.progress.now.left l.at + 1
 
 abbrev pub decreases-run_pass : goal.decreases-run_pass
-decreases-run_pass l = left l.left.now l.at + 1
+decreases-run_pass l = left l.progress.now.left l.at + 1
 
 abbrev pub decreases-run_sequence : goal.decreases-run_sequence
-decreases-run_sequence l = left l.left.now l.at + 1
+decreases-run_sequence l = left l.progress.now.left l.at + 1
 
 abbrev pub decreases-run_turns : goal.decreases-run_turns
-decreases-run_turns l = left l.left.now l.at + 3
+decreases-run_turns l = left l.progress.now.left l.at + 3
 
 abbrev pub invariant-run_turns-loop-scalars : goal.invariant-run_turns-loop-scalars
-invariant-run_turns-loop-scalars l = LoopGoing l.w l.ends l.at (lent l.initial.scalars l.initial.values) l.initial.left (lent l.scalars l.values) l.left
+invariant-run_turns-loop-scalars l = LoopGoing l.w l.ends l.at (lent l.initial.scalars l.initial.values) l.initial.progress.left (lent l.scalars l.values) l.progress.left
 
 abbrev pub decreases-run_turns-loop-scalars : goal.decreases-run_turns-loop-scalars
-decreases-run_turns-loop-scalars l = l.left
+decreases-run_turns-loop-scalars l = l.progress.left

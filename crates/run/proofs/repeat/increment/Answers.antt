@@ -29,7 +29,7 @@ returns c =
     let g : SFits w64 c.in_ok-next.next = search rules in
     record {
       is = λ vs.
-          ap (λ z. ended c.take_step.new.left (lent (set c.args.scalars.now c.args.q z) vs)) (back g)
+          ap (λ z. ended c.take_step.new.progress.left (lent (set c.args.scalars.now c.args.q z) vs)) (back g)
           ∙ incremented c.args.scalars.now vs c.args.q (c.sum.ensures ∙ ap (λ z. checked (z +ℤ pos 1)) (back f))
           c.in_ok-next.ensures;
     }

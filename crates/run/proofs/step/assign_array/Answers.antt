@@ -29,6 +29,6 @@ slice_bounds-copy_from_slice-end c =
 pub returns : goal.returns
 returns c =
     becomes
-    (ap (λ z. ended c.take_step.new.left (lent c.args.scalars.now z))
+    (ap (λ z. ended c.take_step.new.progress.left (lent c.args.scalars.now z))
     (put_mid-paste _ _ _ _ _ 64 c.copy_from_slice.ensures.after (omega arith) (omega arith)))
     (array_runs _ _ c.requires.head c.eval_array.ensures c.in_ok-take_step.ensures)

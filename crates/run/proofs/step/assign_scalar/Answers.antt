@@ -33,5 +33,5 @@ bounds-scalars-x c =
 pub returns : goal.returns
 returns c =
     let f : SFits w64 c.in_ok-v.v = search rules in
-    becomes (ap (λ z. ended c.take_step.new.left (lent (set c.args.scalars.now c.args.x z) c.args.values.now)) (back f))
+    becomes (ap (λ z. ended c.take_step.new.progress.left (lent (set c.args.scalars.now c.args.x z) c.args.values.now)) (back f))
     (scalar-runs c.requires.head c.eval_operand.ensures c.in_ok-v.ensures)
