@@ -1,7 +1,8 @@
 -- Refusals 10 and 11, and the run of a file's command.
 -- Assumes nothing.
 --     over-budget, ill_scalars, ill_values    10 and 11
---     left-within, reported                   the steps left are within the budget; the run
+--     left-within                             the steps left are within the budget
+--     reports-done, reports-refused           what a run came to
 use mathlib.Core.Path.{◌≡◌, refl, sym, ap, ap₂, subst, ◌∙◌}
 use mathlib.Core.Bool.{Bool, true, false}
 use mathlib.Core.List.{List}
@@ -11,14 +12,15 @@ use lib.ListN.{length}
 use Rattle.std.specs.Prelude.{Result, Ok, Err}
 use Rattle.layout.specs.File.{File}
 use Rattle.execution.specs.Lent.{Lent}
-use Rattle.execution.specs.Run.{run}
+use Rattle.execution.specs.Run.{stopped, run}
 use Rattle.execution.specs.Ran.{not_run, ran_of, well_sized, body_place, run_file}
-use Rattle.context.specs.declared.Refusal.{Refusal}
+use Rattle.context.specs.Contexts.{refusal}
 use Rattle.heads.specs.Stands.{Runnable}
-use Rattle.run.specs.Steps.{end_of}
+use Rattle.run.specs.declared.Halt.{Halt}
+use Rattle.run.specs.declared.Progress.{Progress}
+use Rattle.run.specs.Steps.{halt_number, end_of}
 use Rattle.run.specs.Places.{RunsAs}
 use Rattle.run.proofs.Bounds.{Bounded, command-bounded}
-use Rattle.runner.specs.Ran.{answer_meant}
 use Rattle.runner.specs.Running.{ran_at, refused_at, RanFile, CanRunCopied}
 use Rattle.runner.specs.declared.Ran.{Ran}
 
@@ -64,29 +66,39 @@ module _ {w ends : List ℕ} {start : ℕ} (budget : ℕ) (m : Lent) {r : Ran} w
   ill_values l k h e = record { is = λ f p x i j. ap (λ r. ran_at r m) e ∙ sym (ill_is f budget m l (no-values m k h)) }
 
 -- ---- a run, by its end
-ran-as : {A : Type 0} (r : Result A Refusal) (budget l : ℕ) (m : Lent) →
-    record { answer = answer_meant r; steps = budget - l; store = m } ≡ ran_of budget (end_of r l m)
-ran-as (Ok a) budget l m = refl
-ran-as (Err x) budget l m = refl
-
-left-bounded : {A : Type 0} (r : Result A Refusal) (b n l : ℕ) (m : Lent) → Bounded b n (end_of r l m) → l ≤ n
-left-bounded (Ok a) b n l m h = h
-left-bounded (Err x) b n l m h = h.0
+left-bounded : {A : Type 0} (r : Result A Halt) (b n : ℕ) (s : Progress) (m : Lent) → Bounded b n (end_of r s m) → s.left ≤ n
+left-bounded (Ok a) b n s m h = h
+left-bounded (Err x) b n s m h = h.0
 
 -- the run from the copies m₁ of the store to m₂, which are put back as m₃
 module _ {w ends : List ℕ} {start : ℕ} {m m₁ : Lent} {budget : ℕ} (c : CanRunCopied w ends start m budget) (to : m₁ ≡ m)
-    {A : Type 0} (r : Result A Refusal) (l : ℕ) (m₂ : Lent) (f : RunsAs w ends start m₁ budget (end_of r l m₂)) where
-  pub left-within : l ≤ budget
+    {A : Type 0} (r : Result A Halt) (s : Progress) (m₂ : Lent) (f : RunsAs w ends start m₁ budget (end_of r s m₂)) where
+  pub left-within : s.left ≤ budget
   left-within =
       let d = c.command in
-      left-bounded r 8192 budget l m₂
+      left-bounded r 8192 budget s m₂
       (subst (Bounded 8192 budget) (sym (f.is d.tree d.past d.there)) (command-bounded d.tree d.there budget m₁))
 
-  pub reported : {m₃ : Lent} → m₃ ≡ m₂ → (y : File) (p : ℕ) (x : Runnable w ends y.main.command start p) →
-      x.body_at ≡ body_place y → y.main.start ≡ start →
-      record { answer = answer_meant r; steps = budget - l; store = m₃ } ≡ run_file y budget m
-  reported back y p x e h =
-      ap (λ m. record { answer = answer_meant r; steps = budget - l; store = m }) back
-      ∙ ran-as r budget l m₂ ∙ ap (ran_of budget) (f.is y.main.command p x ∙ ap (run x.body_at y.main.command start budget) to)
+  ran : (y : File) (p : ℕ) (x : Runnable w ends y.main.command start p) → x.body_at ≡ body_place y → y.main.start ≡ start →
+      ran_of budget (end_of r s m₂) ≡ run_file y budget m
+  ran y p x e h =
+      ap (ran_of budget) (f.is y.main.command p x ∙ ap (run x.body_at y.main.command start budget) to)
       ∙ ap₂ (λ i at. ran_of budget (run i y.main.command at budget m)) e (sym h)
       ∙ sym (run_is y budget m c.few (both-sized m c.scalars-sized c.values-sized))
+
+  module _ {m₃ : Lent} (back : m₃ ≡ m₂) where
+    pub reports-done : {a : A} → r ≡ Ok a → RanFile w ends start budget m (record { answer = Ok tt; steps = budget - s.left }) m₃
+    reports-done e = record {
+      is = λ y p x i h.
+          ap (ran_at (record { answer = Ok tt; steps = budget - s.left })) back
+          ∙ ap (λ r. ran_of budget (end_of r s m₂)) (sym e) ∙ ran y p x i h;
+    }
+
+    pub reports-refused : {d : Halt} {k : ℕ} → r ≡ Err d → k ≡ halt_number d →
+        RanFile w ends start budget m (record { answer = Err (refusal k s.place); steps = budget - s.left }) m₃
+    reports-refused {k = k} e q = record {
+      is = λ y p x i h.
+          ap (ran_at (record { answer = Err (refusal k s.place); steps = budget - s.left })) back
+          ∙ ap (λ k. ran_of budget (stopped k s.place s.left m₂)) q
+          ∙ ap (λ r. ran_of budget (end_of r s m₂)) (sym e) ∙ ran y p x i h;
+    }

@@ -9,6 +9,7 @@ ghost use Rattle.runner.specs.Running.{refused_at, CanRunCopied, RanFile, RanBy}
 use super::Ran;
 use context::{Context, Refusal};
 use file::read_file;
+use run::Progress;
 use run::command::run_command;
 
 // A refusal before the run: no step is finished.
@@ -39,13 +40,26 @@ fn run_copied(
 {
     own_scalars.copy_from_slice(scalars);
     own_values.copy_from_slice(values);
-    let mut left = budget as u32;
-    let answer = run_command(w, ends, start, own_scalars, own_values, &mut left);
+    let mut progress = Progress {
+        left: budget as u32,
+        place: 0,
+    };
+    let ended = run_command(w, ends, start, own_scalars, own_values, &mut progress);
     scalars.copy_from_slice(own_scalars);
     values.copy_from_slice(own_values);
-    Ran {
-        answer,
-        steps: budget - left as usize,
+    let steps = budget - progress.left as usize;
+    match ended {
+        Ok(()) => Ran {
+            answer: Ok(()),
+            steps,
+        },
+        Err(halt) => Ran {
+            answer: Err(Refusal {
+                place: progress.place,
+                number: halt.number(),
+            }),
+            steps,
+        },
     }
 }
 
