@@ -14,7 +14,8 @@ pub struct Context {
 }
 
 // A refusal's number and place (document 01, "Judging order"). The place is first: in an answer it then stands where the place
-// that a reader goes on from would.
+// that a reader goes on from would. The number stays a number: it is the document's own, which the answers for C, the printed line and the
+// definitions state, and an enum would have to be turned back into it at each.
 #[derive(Clone, Copy, Debug, PartialEq, Eq)]
 pub struct Refusal {
     pub place: usize,

@@ -1,4 +1,5 @@
-// Kinds and words by name (document 01, "Layout"; document 02, request [3]): a word is its kind × KIND + its payload.
+// Kinds and words by name (document 01, "Layout"; document 02, request [3]): a word is its kind × KIND + its payload. They stay numbers, as
+// they stand in the file, which whole words are compared with; `decode` makes enums of what a reader is due.
 pub const KIND: u32 = 67108864;
 
 // Arithmetic.
