@@ -1,22 +1,12 @@
--- Which child of a rule, and of which rule (document 01, flow rules 1 to 14).
+-- Of which rule a child is (document 01, flow rules 1 to 14).
 -- Assumes nothing.
---     last-of_three    a child's number that is none of those before it
---     of-rule          what a child's goal is worked out from, by the rule's number
---     last-rule        a rule with children that is none of those before the last
-use mathlib.Core.Path.{◌≡◌, subst}
+--     last-rule    a rule with children that is none of those before the last
+use mathlib.Core.Path.{◌≡◌}
 use mathlib.Core.List.{List}
-use Prim.Native.Nat.{ℕ, ◌<◌}
-use native.Mathlib.Omega.{arith}
+use Prim.Native.Nat.{ℕ}
 use borrow.Author.Tests.{ne_eqb}
 use Rattle.rule_laws.proofs.Trying.{only-rule}
 use Rattle.flow_compound.specs.Children.{CanFlowChild}
-
-pub last-of_three : {k : ℕ} → k < 3 → (k ≡ 0 → ⊥) → (k ≡ 1 → ⊥) → k ≡ 2
-last-of_three l h i = omega arith
-
-pub of-rule : {ends : List ℕ} {rule n p c q at k : ℕ} → rule ≡ n → CanFlowChild ends rule p c q at k →
-    CanFlowChild ends n p c q at k
-of-rule {ends} {p = p} {c} {q} {at} {k} e x = subst (λ i. CanFlowChild ends i p c q at k) e x
 
 pub last-rule : {ends : List ℕ} {n p c q at k : ℕ} → CanFlowChild ends n p c q at k → (n ≡ 2 → ⊥) → (n ≡ 6 → ⊥) →
     (n ≡ 7 → ⊥) → (n ≡ 8 → ⊥) → (n ≡ 9 → ⊥) → (n ≡ 11 → ⊥) → (n ≡ 12 → ⊥) → (n ≡ 13 → ⊥) → n ≡ 14

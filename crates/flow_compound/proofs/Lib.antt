@@ -3,7 +3,7 @@
 --     SequenceRules       a sequence
 --     BranchRules         an if
 --     LoopRules           loops
---     Children            which child of a rule, and of which rule
+--     Children            of which rule a child is
 pub mod Goal
 pub mod SequenceRules
 pub mod BranchRules

@@ -1,7 +1,7 @@
 // The rules of flow (document 01, rules 1 to 14; document 02, rule 31), at the evidence word at `at`, of kind 33, for the set at p, the
 // command at c and the set at q; those of compound commands are in `flow_compound`. `rule_` with a rule's number tries
-// its conditions, `child_` gives the goal of its k-th child, 0 the first. They are called alike, so that
-// some do not use all that they are given; no rule of flow has an implication of its own, and none uses the context.
+// its conditions, `child_` gives the goal of its k-th child, 0 the first. They are called alike, so that some do not use
+// all that they are given; no rule of flow has an implication of its own, and none uses the context.
 #![tactic(auto)]
 
 pub mod atomic; // rules 1, 3, 4 and 5: commands of one step

@@ -6,7 +6,7 @@ use Rattle.rule_laws.proofs.Trying.{can-try, last-rule, step-head}
 use Rattle.flow_rules.proofs.flow_condition.Goals as goal
 
 pub offset_bounds-file-at : goal.offset_bounds-file-at
-offset_bounds-file-at c = let i = step-head c.requires in omega arith
+offset_bounds-file-at c = omega (arith, step-head c.requires)
 
 pub bounds-file-at : goal.bounds-file-at
 bounds-file-at c = step-head c.requires

@@ -16,8 +16,7 @@ bounds-file-c c = command-head c.requires.can
 
 pub returns-in_err-ensure : goal.returns-in_err-ensure
 returns-in_err-ensure c =
-    exits-unequal (err_from_is_err_and _ c.from_residual.ensures.1) c.in_err-ensure.ensures
-    (not-if c.requires)
+    exits-unequal (err_from_is_err_and _ c.from_residual.ensures.1) c.in_err-ensure.ensures (not-if c.requires)
 
 pub count-requires : goal.count-requires
 count-requires c = after-head c.requires.can
@@ -25,21 +24,16 @@ count-requires c = after-head c.requires.can
 pub returns-in_err-ensure-2 : goal.returns-in_err-ensure-2
 returns-in_err-ensure-2 c =
     exits-unequal (err_from_is_err_and _ c.from_residual-in_err-ensure-2.ensures.1) c.in_err-ensure-2.ensures
-    (λ h. not-one_after c.requires (is-equal c.in_ok-ensure.ensures) (λ e. h (c.count.ensures ∙ e)))
+    (λ n. not-one_after c.requires (is-equal c.in_ok-ensure.ensures) (λ e. n (c.count.ensures ∙ e)))
 
 pub same_branches-requires : goal.same_branches-requires
 same_branches-requires c =
-    rw (c.end_or_zero-f.ensures, c.end_or_zero-t.ensures) (can-branch
-    c.requires
-    (is-equal c.in_ok-ensure.ensures))
+    rw (c.end_or_zero-f.ensures, c.end_or_zero-t.ensures)
+    (can-branch c.requires (is-equal c.in_ok-ensure.ensures))
 
 pub returns : goal.returns
 returns c =
-    rw c.ensure-3.ensures (if_comes
-    c.requires
-    (is-equal c.in_ok-ensure.ensures)
-    (sym c.count.ensures ∙ (is-equal c.in_ok-ensure-2.ensures))
-    (rw (
-      c.end_or_zero-f.ensures,
-      c.end_or_zero-t.ensures,
-    ) at c.same_branches.ensures))
+    rw c.ensure-3.ensures
+    (if_comes c.requires (is-equal c.in_ok-ensure.ensures)
+    (sym c.count.ensures ∙ is-equal c.in_ok-ensure-2.ensures)
+    (rw (c.end_or_zero-f.ensures, c.end_or_zero-t.ensures) at c.same_branches.ensures))

@@ -15,8 +15,7 @@ bounds-file-c c = command-head c.requires.can
 
 pub returns-in_err-ensure : goal.returns-in_err-ensure
 returns-in_err-ensure c =
-    exits-unequal (err_from_is_err_and _ c.from_residual.ensures.1) c.in_err-ensure.ensures
-    (not-while c.requires)
+    exits-unequal (err_from_is_err_and _ c.from_residual.ensures.1) c.in_err-ensure.ensures (not-while c.requires)
 
 pub same_written-requires : goal.same_written-requires
 same_written-requires c = can-two c.requires.can
@@ -31,6 +30,6 @@ test_stands-requires c = can-test c.requires (is-equal c.in_ok-ensure.ensures)
 
 pub returns : goal.returns
 returns c =
-    rw c.ensure-3.ensures (while-comes c.requires
-    (is-equal c.in_ok-ensure.ensures) c.same_written.ensures
+    rw c.ensure-3.ensures
+    (while-comes c.requires (is-equal c.in_ok-ensure.ensures) c.same_written.ensures
     (ensured _ c.in_ok-ensure-2.ensures) c.test_stands.ensures)

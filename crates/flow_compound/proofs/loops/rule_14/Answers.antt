@@ -15,13 +15,11 @@ bounds-file-c c = command-head c.requires.can
 
 pub returns-in_err-ensure : goal.returns-in_err-ensure
 returns-in_err-ensure c =
-    exits-unequal (err_from_is_err_and _ c.from_residual.ensures.1) c.in_err-ensure.ensures
-    (not-for c.requires)
+    exits-unequal (err_from_is_err_and _ c.from_residual.ensures.1) c.in_err-ensure.ensures (not-for c.requires)
 
 pub is_meaning-requires : goal.is_meaning-requires
 is_meaning-requires c = can-mean c.requires (is-equal c.in_ok-ensure.ensures)
 
 pub returns : goal.returns
 returns c =
-    rw c.ensure-2.ensures (for-comes c.requires
-    (is-equal c.in_ok-ensure.ensures) c.is_meaning.ensures)
+    rw c.ensure-2.ensures (for-comes c.requires (is-equal c.in_ok-ensure.ensures) c.is_meaning.ensures)

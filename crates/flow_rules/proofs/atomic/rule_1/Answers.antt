@@ -15,13 +15,10 @@ bounds-file-c c = command-head c.requires.can
 
 pub returns-in_err-ensure : goal.returns-in_err-ensure
 returns-in_err-ensure c =
-    exits-unequal (err_from_is_err_and _ c.from_residual.ensures.1) c.in_err-ensure.ensures
-    (not-skip c.requires)
+    exits-unequal (err_from_is_err_and _ c.from_residual.ensures.1) c.in_err-ensure.ensures (not-skip c.requires)
 
 pub same_written-requires : goal.same_written-requires
 same_written-requires c = can-two c.requires.can
 
 pub returns : goal.returns
-returns c =
-    rw c.ensure-2.ensures (skip-comes c.requires
-    (is-equal c.in_ok-ensure.ensures) c.same_written.ensures)
+returns c = rw c.ensure-2.ensures (skip-comes c.requires (is-equal c.in_ok-ensure.ensures) c.same_written.ensures)

@@ -15,16 +15,12 @@ bounds-file-c c = command-head c.requires.can
 
 pub returns-in_err-ensure : goal.returns-in_err-ensure
 returns-in_err-ensure c =
-    exits-unequal (err_from_is_err_and _ c.from_residual.ensures.1) c.in_err-ensure.ensures
-    (not_scalar c.requires)
+    exits-unequal (err_from_is_err_and _ c.from_residual.ensures.1) c.in_err-ensure.ensures (not_scalar c.requires)
 
 pub same_replaced-requires : goal.same_replaced-requires
-same_replaced-requires c =
-    rw c.end_or_zero-to.ensures (can-replace_scalar c.requires.can
-    (is-equal c.in_ok-ensure.ensures))
+same_replaced-requires c = rw c.end_or_zero-to.ensures (can-replace_scalar c.requires.can (is-equal c.in_ok-ensure.ensures))
 
 pub returns : goal.returns
 returns c =
-    rw c.ensure-2.ensures (scalar-comes c.requires
-    (is-equal c.in_ok-ensure.ensures)
-    (rw c.end_or_zero-to.ensures at c.same_replaced.ensures))
+    rw c.ensure-2.ensures
+    (scalar-comes c.requires (is-equal c.in_ok-ensure.ensures) (rw c.end_or_zero-to.ensures at c.same_replaced.ensures))

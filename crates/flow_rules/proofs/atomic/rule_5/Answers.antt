@@ -15,13 +15,10 @@ bounds-file-c c = command-head c.requires.can
 
 pub returns-in_err-ensure : goal.returns-in_err-ensure
 returns-in_err-ensure c =
-    exits-unequal (err_from_is_err_and _ c.from_residual.ensures.1) c.in_err-ensure.ensures
-    (not-assert c.requires)
+    exits-unequal (err_from_is_err_and _ c.from_residual.ensures.1) c.in_err-ensure.ensures (not-assert c.requires)
 
 pub same_under-requires : goal.same_under-requires
 same_under-requires c = can-assert c.requires.can (is-equal c.in_ok-ensure.ensures)
 
 pub returns : goal.returns
-returns c =
-    rw c.ensure-2.ensures (assert-comes c.requires
-    (is-equal c.in_ok-ensure.ensures) c.same_under.ensures)
+returns c = rw c.ensure-2.ensures (assert-comes c.requires (is-equal c.in_ok-ensure.ensures) c.same_under.ensures)

@@ -6,9 +6,7 @@ use Rattle.flow_rules.proofs.UnionRules.{can-first, can-second, union_fails, uni
 use Rattle.flow_rules.proofs.union.rule_9.Goals as goal
 
 pub same_union-requires : goal.same_union-requires
-same_union-requires c =
-    rw (c.end_or_zero-t.ensures, c.end_or_zero-s1.ensures) (can-first
-    c.requires)
+same_union-requires c = rw (c.end_or_zero-t.ensures, c.end_or_zero-s1.ensures) (can-first c.requires)
 
 pub returns-in_err-ensure : goal.returns-in_err-ensure
 returns-in_err-ensure c =
@@ -17,23 +15,12 @@ returns-in_err-ensure c =
 
 pub same_union-requires-2 : goal.same_union-requires-2
 same_union-requires-2 c =
-    rw (
-      c.end_or_zero-t1.ensures,
-      c.end_or_zero-t.ensures,
-      c.end_or_zero-s1.ensures,
-    ) (can-second
-    c.requires)
+    rw (c.end_or_zero-t1.ensures, c.end_or_zero-t.ensures, c.end_or_zero-s1.ensures) (can-second c.requires)
 
 pub returns : goal.returns
 returns c =
-    rw c.ensure-2.ensures (union_comes
-    c.requires
-    (rw (
-      c.end_or_zero-t.ensures,
-      c.end_or_zero-s1.ensures,
-    ) at c.same_union.ensures)
-    (ensured _ c.in_ok-ensure.ensures) (rw (
-      c.end_or_zero-t1.ensures,
-      c.end_or_zero-t.ensures,
-      c.end_or_zero-s1.ensures,
-    ) at c.same_union-2.ensures))
+    rw c.ensure-2.ensures
+    (union_comes c.requires
+    (rw (c.end_or_zero-t.ensures, c.end_or_zero-s1.ensures) at c.same_union.ensures)
+    (ensured _ c.in_ok-ensure.ensures)
+    (rw (c.end_or_zero-t1.ensures, c.end_or_zero-t.ensures, c.end_or_zero-s1.ensures) at c.same_union-2.ensures))

@@ -19,6 +19,5 @@ is_kept-requires c = can-keep_set c.requires c.args.file.now.masks_of
 
 pub returns : goal.returns
 returns c =
-    rw c.ensure-2.ensures (set-kept c.requires
-    c.same_written.ensures (ensured _ c.in_ok-ensure.ensures)
-    c.is_kept.ensures)
+    rw c.ensure-2.ensures
+    (set-kept c.requires c.same_written.ensures (ensured _ c.in_ok-ensure.ensures) c.is_kept.ensures)
