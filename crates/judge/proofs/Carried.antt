@@ -4,8 +4,8 @@
 --                                                 carried; at one that is not, and past the last
 --     row-of                                      the row of a goal, by its judgement
 use mathlib.Core.Path.{◌≡◌, refl, sym, ap, subst, ◌∙◌}
-use mathlib.Core.Bool.{Bool, true, false}
-use mathlib.Core.List.{List, [], ◌∷◌}
+use mathlib.Core.Bool.{true, false}
+use mathlib.Core.List.{List, ◌∷◌}
 use mathlib.Core.Option.{Option}
 use Prim.Native.Nat.{ℕ, ◌+◌, ◌-◌, ◌<◌, ◌≤◌}
 use native.Mathlib.Omega.{arith}
@@ -20,7 +20,7 @@ use Rattle.words.specs.declared.rows.Item.TheVariants.{Assertion}
 use Rattle.goals.specs.declared.Goal.{Goal}
 use Rattle.goals.specs.Children.{judgement_of, carried_off, past_carried}
 use Rattle.ends.specs.Places.{end_at}
-use Rattle.judge.specs.Row.{is_carried, PastCarried}
+use Rattle.judge.specs.Row.{is_carried}
 
 -- of a row whose items stand from `at` on, those from number i on are left from next on
 pub record Passing (ends : List ℕ) (row : List code.Item) (at i next : ℕ) : Type 0 where
