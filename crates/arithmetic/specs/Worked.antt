@@ -1,5 +1,5 @@
 -- What the arithmetic answers, as outcomes of the runner's definition.
--- Working: `operation-worked`, `select-worked` and `update-filled` of evaluate/proofs/Results tie outcomes to the
+-- Working: `operation-second`, `select-second` and `update-third` of evaluate/proofs/Results tie outcomes to the
 -- definition's `evaluate`. Assumes nothing.
 --     refusal_number            the number of the refusal that a stop is
 --     outcome, index_outcome    a result or a stop, an index or a stop

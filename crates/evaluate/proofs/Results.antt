@@ -4,7 +4,7 @@
 --     passed, passed-filled                                                a stop that `?` hands on
 --     becomes, becomes-filled                                              an outcome that is another
 --     indexed                                                              an index as the code holds it
---     after_both                                                           one outcome after another
+--     after_both, onward                                                   one outcome after another; going on from one operand to the next
 --     constant-worked, scalar-worked, operation-first, operation-second    arithmetic
 --     element_worked, select-first, select-second                          a select, from an array of the store and from any
 --     identifier-filled, zeros-filled, update-first, update-second,
@@ -55,6 +55,12 @@ on-index {A} (worked (pos m)) f g h = go (leb 0 m && leb m 63) refl
     go false e = refl
 on-index (worked (negsuc m)) f g h = refl
 on-index (stops k) f g h = refl
+
+-- going on from one operand to the next: f has what was worked out, and a stop is handed on
+pub onward : {A B : Type 0} (o : Evaluation A) (f : A → Evaluation B) (r : Result A Stop) (q : Result B Stop) → outcome r ≡ o →
+    ((a : A) → r ≡ Ok a → outcome q ≡ f a) → ((x : Stop) → r ≡ Err x → q ≡ Err x) → outcome q ≡ on_worked o f
+onward o f (Ok a) q e h k = h a refl ∙ ap (λ z. on_worked z f) e
+onward o f (Err x) q e h k = ap outcome (k x refl) ∙ ap (λ z. on_worked z f) e
 
 -- one outcome after another
 pub after_both : {A B C : Type 0} (o : Evaluation A) (f : A → Evaluation B) (g : B → Evaluation C) →

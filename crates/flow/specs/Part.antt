@@ -1,6 +1,6 @@
 -- The parts of an accepted file, and what the calls answer of them (document 02, request [6]).
--- Working: `precondition`, `postcondition` and the three calls for C have the layout's own definitions in their contracts, which these are for
--- each part. Assumes nothing.
+-- Working: `bytes-precondition` of proofs/Parts and its like tie these to the layout's own definitions, which the calls have in their contracts.
+-- Assumes nothing.
 --     range_in, range_at     a part's first place and the place past its last, in a program; by the places
 --     bytes_of, places_of    its bytes, none of a refused file; its places as one number, 0 of a refused file
 use Rattle.std.specs.Prelude.{List, [], ℕ}

@@ -37,6 +37,7 @@ pub fn flow_condition(file: &File, at: usize, p: usize, c: usize, q: usize) -> R
     ensures { StepIn file.now (Flow p c q) «at» result }
 {
     let rule = file.words[at] % KIND;
+    // stays a match on the number: a table of functions would be function pointers, each of which a call has to show that it may call
     match rule {
         1 => rule_1(file, at, p, c, q),
         2 => rule_2(file, at, p, c, q),
@@ -70,6 +71,7 @@ pub fn flow_child(
     requires { CanFlowChild ends.now rule p c q «at» k }
     ensures { result ≡ flow_child ends.now p c q rule «at» k }
 {
+    // stays a match, as above
     match rule {
         2 => child_2(ends, at, p, c, q, k),
         6 => child_6(ends, at, p, c, q, k),

@@ -1,5 +1,6 @@
 -- What rules and judging ask for and promise of a file with what was worked out of it.
--- Working: each is a contract of `Goals`, of the words, the list of ends and the context of the file. Assumes nothing.
+-- Working: each is a contract of Goals, of the words, the list of ends and the context of the file: `judged-failed` and `judged-passed` of
+-- judge/proofs/Going say what these come to. Assumes nothing.
 --     context_for                    the context that a file is judged under
 --     CanStepIn, CanTryIn, StepIn    the contract of a rule
 --     CanJudgeIn, JudgedIn           a contract for evidence judged

@@ -32,6 +32,7 @@ pub fn pre_condition(file: &File, at: usize, f: usize, c: usize, g: usize) -> Re
     ensures { StepIn file.now (Pre f c g) «at» result }
 {
     let rule = file.words[at] % KIND;
+    // stays a match on the number: a table of functions would be function pointers, each of which a call has to show that it may call
     match rule {
         20 => rule_20(file, at, f, c, g),
         21 => rule_21(file, at, f, c, g),
@@ -54,6 +55,7 @@ pub fn pre_child(file: &File, rule: u32, at: usize, f: usize, c: usize, g: usize
     requires { CanPreChild file.now.words.now file.now.ends.now rule f c g «at» k }
     ensures { result ≡ child_at file.now.words.now file.now.ends.now (Pre f c g) rule «at» k }
 {
+    // stays a match, as above
     match rule {
         20 => child_20(file, at, f, c, g, k),
         21 => child_21(file, at, f, c, g, k),

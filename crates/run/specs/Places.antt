@@ -1,5 +1,5 @@
 -- What running the command at a place asks for, and what it promises.
--- Working: `reported` of runner/proofs/Programs ties it to the definition's `run_file`. Assumes nothing.
+-- Working: `reports-done` and `reports-refused` of runner/proofs/Programs tie it to the definition's `run_file`. Assumes nothing.
 --     CanRunAt    a command stands at a place, and its first word is known
 --     RunsAs      the end and the store then are those of the definition, of the command that stands there
 use Rattle.std.specs.Prelude.{◌≡◌, List, ℕ}

@@ -1,5 +1,5 @@
 -- The answer of a scan for the first fault (refusals 7 and 16), from the layout's `first_place`.
--- Working: `FirstFound` of Steady and the contract of `calls::first_wrong_call` state both answers by it. Assumes nothing.
+-- Working: `found_here` and `found_none` of proofs/Tests say so of refusal 7; the contract of the scan for a wrong call has it of 16. Assumes nothing.
 --     fault_place    the place, or that there is none, as the code answers it
 use Rattle.std.specs.Prelude.{ℕ, Option, Some, None}
 use Rattle.std.proofs.Math.Option as Math

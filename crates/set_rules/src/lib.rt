@@ -29,6 +29,7 @@ pub fn set_condition(file: &File, at: usize, p: usize, q: usize) -> Result<(), F
     ensures { StepIn file.now (Set p q) «at» result }
 {
     let rule = file.words[at] % KIND;
+    // stays a match on the number: a table of functions would be function pointers, each of which a call has to show that it may call
     match rule {
         13 => rule_13(file, at, p, q),
         14 => rule_14(file, at, p, q),
@@ -46,6 +47,7 @@ pub fn set_child(ends: &[u32], rule: u32, at: usize, p: usize, q: usize, k: usiz
     requires { («at» < 8192) × (k < length (of_rule rule (set_children ends.now p q «at»))) }
     ensures { result ≡ set_child ends.now p q rule «at» k }
 {
+    // stays a match, as above
     match rule {
         16 => child_16(ends, at, p, q, k),
         _ => child_17(ends, at, p, q, k),

@@ -1,7 +1,7 @@
 -- Laws about sets compared by the halves of their members.
 --     Places     the places of a member
 --     Steps      members passed one by one by their places
---     Items      cursors after members as the rules make them
+--     Items      members as the rules make them
 --     Equal      sameness of halves as a test
 --     Piles      lists joined and left out, and piles by what they are
 --     Aligned    members in the same order
