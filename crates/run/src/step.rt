@@ -78,7 +78,9 @@ pub fn assign_scalar(
     Ok(())
 }
 
-// An assignment to the array a stands at the place. Its values are worked out before any of the store is written.
+// An assignment to the array a stands at the place. Its values are worked out before any of the store is written. Not inlined: its 512
+// bytes would stand in each frame of the cycle.
+#[inline(never)]
 pub fn assign_array(
     w: &[u32; 8192],
     ends: &[u32; 8753],
