@@ -6,7 +6,7 @@ use mathlib.Core.Path.{◌≡◌}
 use mathlib.Core.Bool.{Bool}
 use mathlib.Core.List.{List}
 use Prim.Native.Nat.{ℕ}
-use Rattle.std.specs.Prelude.{Option, Some}
+use Rattle.std.specs.Prelude.{Result, Ok}
 use Rattle.matching.specs.Matching.{came, same_numbers, exchanged}
 use Rattle.ends.specs.Places.{end_at, PartKnown}
 use Rattle.matching.specs.Places.{part, CanMatchAny, Matched}
@@ -35,8 +35,8 @@ module _ (file ends : List ℕ) (at : ℕ) (p : PartKnown file ends at) {r : Boo
   unfolding consequent_numbers
   consequent-written form a e h = rw e h
 
-  pub consequent-replaced : (form : Consequent) (a : ℕ) (put : Put) (m : Option ℕ) → form ≡ Exchanged a put →
-      Matched file ends (Some at) a put m → r ≡ came m (end_at ends at) →
+  pub consequent-replaced : (form : Consequent) (a : ℕ) (put : Put) (m : Result ℕ ℕ) → form ≡ Exchanged a put →
+      Matched file ends (Ok at) a put m → r ≡ came m (end_at ends at) →
       r ≡ same_numbers (part file ends at) (consequent_numbers file ends form)
   unfolding consequent_numbers
   consequent-replaced form a put m e h g = rw e (came-to file ends at p m (exchanged file put (part file ends a)) h.is g)

@@ -23,7 +23,7 @@ pub fn same_consequent(w: &[u32], ends: &[u32], at: usize, form: Consequent) -> 
     match form {
         Consequent::Written(a) => same_parts(w, ends, at, a),
         Consequent::Replaced(a, put) => {
-            let end = match_expression(w, ends, at, a, put);
+            let end = match_expression(w, ends, Ok(at), a, put);
             came_to_end(ends, end, at)
         }
     }

@@ -27,7 +27,7 @@ fn same_changed(w: &[u32], ends: &[u32], f: usize, g: usize, change: Change) -> 
     match change {
         Change::Unchanged => same_parts(w, ends, f, g),
         Change::Replaced(put) => {
-            let end = match_boolean(w, ends, f, g, put);
+            let end = match_boolean(w, ends, Ok(f), g, put);
             came_to_end(ends, end, f)
         }
     }

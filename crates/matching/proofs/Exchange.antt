@@ -11,7 +11,7 @@ use mathlib.Core.List.{List, [], ◌∷◌, ◌++◌, append_assoc, append-nil}
 use Prim.Native.Nat.{ℕ, zero, suc, ◌+◌, ◌-◌, ◌<◌, ◌≤◌}
 use native.Mathlib.Omega.{arith}
 use lib.ListN.{length, get_or}
-use Rattle.std.specs.Prelude.{Option, Some, None}
+use Rattle.std.specs.Prelude.{Result, Ok, Err}
 use Rattle.language.specs.Syntax.{Sort}
 use Rattle.ends.specs.Ends.{EndsOf}
 use Rattle.matching.specs.Matching.{between, matched, put_for, exchanged}
@@ -37,7 +37,7 @@ module _ (file : List ℕ) (put : Put) where
   exchanged-append (x ∷ k) l = rw (append_assoc, exchanged-append k l)
 
   -- the place past the numbers between two places, with what is put for a word
-  pub record After (m : Option ℕ) (a : ℕ) (n : Option ℕ) (p : ℕ) : Type 0 where
+  pub record After (m : Result ℕ ℕ) (a : ℕ) (n : Result ℕ ℕ) (p : ℕ) : Type 0 where
     pub is : n ≡ matched file m (exchanged file put (between file a p))
     pub order : a ≤ p
     pub within : p ≤ length file
@@ -47,11 +47,11 @@ module _ (file : List ℕ) (put : Put) where
       between_first file b (b + 1) (omega arith) (omega arith)
       ∙ ap (λ l. get_or file b 0 ∷ l) (between_none file (b + 1) (b + 1) (omega arith))
 
--- so many operands of the expression at b are left, after what stood so far from `at` on
-pub record Walked (file ends : List ℕ) (put : Put) (at b : ℕ) (m : Option ℕ) (p n : ℕ) : Type 0 where
+-- so many operands of the expression at b are left, after what stood so far
+pub record Walked (file ends : List ℕ) (put : Put) (from : Result ℕ ℕ) (b : ℕ) (m : Result ℕ ℕ) (p n : ℕ) : Type 0 where
   pub past : b < p
   pub left : Chained file ends n p (end_at ends b)
-  pub so-far : After file put (Some at) b m p
+  pub so-far : After file put from b m p
 
 module _ (file ends : List ℕ) where
   further : (n p e : ℕ) → Chained file ends n p e → p ≤ e
@@ -62,7 +62,7 @@ module _ (file ends : List ℕ) where
       omega arith
 
 module _ {file : List ℕ} {put : Put} where
-  then : {m n r : Option ℕ} {a q p : ℕ} → After file put m a n q → After file put n q r p → After file put m a r p
+  then : {m n r : Result ℕ ℕ} {a q p : ℕ} → After file put m a n q → After file put n q r p → After file put m a r p
   then {m} {n} {r} {a} {q} {p} x y = record {
     is =
         y.is
@@ -74,7 +74,7 @@ module _ {file : List ℕ} {put : Put} where
     within = y.within;
   }
 
-  after-word : {m n : Option ℕ} {b : ℕ} → b < length file → n ≡ matched file m (put_for file put (get_or file b 0)) →
+  after-word : {m n : Result ℕ ℕ} {b : ℕ} → b < length file → n ≡ matched file m (put_for file put (get_or file b 0)) →
       After file put m b n (b + 1)
   unfolding exchanged
   after-word {m} {n} {b} h e = record {
@@ -88,43 +88,43 @@ module _ {file : List ℕ} {put : Put} where
 
   module _ {ends : List ℕ} where
     -- what did not stand is not made good by what follows
-    pub walked-lost : {at b p n : ℕ} {r : Option ℕ} → AnyAt file ends b → Walked file ends put at b None p n → r ≡ None →
-        Matched file ends (Some at) b put r
-    walked-lost {at} {b} {p} {n} y x e = record {
+    pub walked-lost : {from r : Result ℕ ℕ} {b p n q : ℕ} → AnyAt file ends b → Walked file ends put from b (Err q) p n → r ≡ Err q →
+        Matched file ends from b put r
+    walked-lost {b = b} {p} {n} {q} y x e = record {
       is =
           e ∙ (then x.so-far
           (record {
-            is = matched-lost file (exchanged file put (between file p (end_at ends b)));
+            is = matched-lost file q (exchanged file put (between file p (end_at ends b)));
             order = further file ends n p (end_at ends b) x.left;
             within = (any-inside y).within;
           })).is;
     }
 
-    pub walked-head : (n : ℕ) {at b : ℕ} {m : Option ℕ} → b < length file → m ≡ matched file (Some at) (put_for file put (get_or file b 0)) →
-        Chained file ends n (b + 1) (end_at ends b) → Walked file ends put at b m (b + 1) n
+    pub walked-head : (n : ℕ) {from m : Result ℕ ℕ} {b : ℕ} → b < length file → m ≡ matched file from (put_for file put (get_or file b 0)) →
+        Chained file ends n (b + 1) (end_at ends b) → Walked file ends put from b m (b + 1) n
     walked-head n i h c = record { past = omega arith; left = c; so-far = after-word i h }
 
     -- the first word doesn't stand there
-    pub head-lost : {at b : ℕ} {r : Option ℕ} → EndsOf file ends → AnyAt file ends b →
-        None ≡ matched file (Some at) (put_for file put (get_or file b 0)) → r ≡ None → Matched file ends (Some at) b put r
+    pub head-lost : {from r : Result ℕ ℕ} {b q : ℕ} → EndsOf file ends → AnyAt file ends b →
+        Err q ≡ matched file from (put_for file put (get_or file b 0)) → r ≡ Err q → Matched file ends from b put r
     head-lost {b = b} o x h e = walked-lost x (walked-head _ (any-first x) h (operands file ends b _ o x refl)) e
 
-    pub walked-on : {at b e p q n : ℕ} {r : Option ℕ} → Walked file ends put at b (Some e) p (suc n) → Matched file ends (Some e) p put r →
-        q ≡ end_at ends p → Walked file ends put at b r q n
-    walked-on {at} {b} {e} {p} {q} {n} {r} x h k =
+    pub walked-on : {from r : Result ℕ ℕ} {b e p q n : ℕ} → Walked file ends put from b (Ok e) p (suc n) → Matched file ends (Ok e) p put r →
+        q ≡ end_at ends p → Walked file ends put from b r q n
+    walked-on {from} {r} {b} {e} {p} {q} {n} x h k =
         let i = any-inside x.left.0 in
         let s = i.start in
         let l = x.past in
-        subst (λ q. Walked file ends put at b r q n) (sym k)
+        subst (λ q. Walked file ends put from b r q n) (sym k)
         (record {
           past = omega arith;
           left = x.left.1;
           so-far = then x.so-far (record { is = h.is; order = omega arith; within = i.within });
         })
 
-    pub walked-all : {at b p : ℕ} {m : Option ℕ} → Walked file ends put at b m p 0 → Matched file ends (Some at) b put m
-    walked-all {at} {b} {p} {m} x =
-        record { is = subst (λ p. m ≡ matched file (Some at) (exchanged file put (between file b p))) x.left x.so-far.is }
+    pub walked-all : {from m : Result ℕ ℕ} {b p : ℕ} → Walked file ends put from b m p 0 → Matched file ends from b put m
+    walked-all {from} {m} {b} {p} x =
+        record { is = subst (λ p. m ≡ matched file from (exchanged file put (between file b p))) x.left x.so-far.is }
 
 -- an operand's place is in the list of ends too
 pub any-listed : {file ends : List ℕ} {at : ℕ} → EndsOf file ends → AnyAt file ends at → at < length ends
@@ -138,8 +138,8 @@ pub any-of : {file ends : List ℕ} {k : Sort} {b : ℕ} {put : Put} → CanMatc
 any-of p = record { sort = _; expression = p.expression }
 
 -- what a call on an operand asks for: it can be matched, and lies further on
-pub can-operand : {file ends : List ℕ} {put : Put} {k : Sort} {at b p n t : ℕ} {m : Option ℕ} → CanMatch file ends k b put →
-    Walked file ends put at b m p (suc n) → left file b ≡ t → (left file p + 1 < t) × CanMatchAny file ends p put
+pub can-operand : {file ends : List ℕ} {put : Put} {k : Sort} {from m : Result ℕ ℕ} {b p n t : ℕ} → CanMatch file ends k b put →
+    Walked file ends put from b m p (suc n) → left file b ≡ t → (left file p + 1 < t) × CanMatchAny file ends p put
 can-operand c x e =
     let i = any-inside x.left.0 in
     let s = i.start in

@@ -15,9 +15,8 @@ use Prim.Native.Nat.{ℕ, ◌-◌, ◌≤◌}
 use native.Mathlib.Omega.{arith}
 use lib.Dec.{eqb}
 use lib.ListN.{length, get_or, take, drop}
-use Rattle.std.specs.Prelude.{Option, Some, None}
+use Rattle.std.specs.Prelude.{Result, Ok, Err}
 use Rattle.std.specs.Cmp.Lexicographic.{pointwise}
-use Rattle.std.proofs.lemmas.Option.{none-some, same_Some}
 use Rattle.laws.proofs.Bools.{clash}
 use Rattle.laws.proofs.Decides.{Decides, decides_same, decides_map, decides_and, decides_yes, decides_no, eqb-decides}
 use Rattle.rules.specs.Words.{Word, same_words}
@@ -45,10 +44,10 @@ same_numbers-decides (x ∷ k) (y ∷ l) =
     (decides_and (eqb-decides x y) (same_numbers-decides k l))
 
 -- a place past numbers is another
-came-decides : (m : Option ℕ) (to : ℕ) → Decides (came m to) (m ≡ Some to)
+came-decides : (m : Result ℕ ℕ) (to : ℕ) → Decides (came m to) (m ≡ Ok to)
 unfolding came
-came-decides None to = decides_no (none-some to)
-came-decides (Some at) to = decides_map (λ h. ap Some h) (same_Some at to) (eqb-decides at to)
+came-decides (Err at) to = decides_no (λ h. absurd (cc))
+came-decides (Ok at) to = decides_map (λ h. ap Ok h) (λ h. let e : at ≡ to = cc in e) (eqb-decides at to)
 
 -- `==` on slices
 pointwise-same : (k l : List ℕ) → pointwise eqb k l ≡ same_numbers k l
@@ -72,12 +71,12 @@ pub numbers-differ : (k l : List ℕ) {r : Bool} → r ≡ same_numbers k l → 
 numbers-differ k l e h s = clash ((same_numbers-decides k l).complete s) (sym e ∙ h)
 
 -- the numbers l are asked for from a place on
-module _ (file : List ℕ) (m : Option ℕ) (l : List ℕ) (at to : ℕ) (order : at ≤ to) (within : to ≤ length file)
-    (e : m ≡ matched file (Some at) l) where
-  reached : between file at to ≡ l → m ≡ Some to
-  reached h = e ∙ ap (matched file (Some at)) (sym h) ∙ whole-complete file at to order within
+module _ (file : List ℕ) (m : Result ℕ ℕ) (l : List ℕ) (at to : ℕ) (order : at ≤ to) (within : to ≤ length file)
+    (e : m ≡ matched file (Ok at) l) where
+  reached : between file at to ≡ l → m ≡ Ok to
+  reached h = e ∙ ap (matched file (Ok at)) (sym h) ∙ whole-complete file at to order within
 
-  passed : m ≡ Some to → between file at to ≡ l
+  passed : m ≡ Ok to → between file at to ≡ l
   passed h = whole-sound file l at to (omega arith) (sym e ∙ h)
 
   pub came_same : came m to ≡ same_numbers (between file at to) l
@@ -140,7 +139,7 @@ module _ (file ends : List ℕ) (f g : ℕ) (p : PartKnown file ends f) (q : Par
 
 -- the test whether all stood up to the end of the part at a place
 module _ (file ends : List ℕ) (at : ℕ) (p : PartKnown file ends at) {r : Bool} where
-  pub came-to : (m : Option ℕ) (l : List ℕ) → m ≡ matched file (Some at) l → r ≡ came m (end_at ends at) →
+  pub came-to : (m : Result ℕ ℕ) (l : List ℕ) → m ≡ matched file (Ok at) l → r ≡ came m (end_at ends at) →
       r ≡ same_numbers (part file ends at) l
   came-to m l e h =
       let s = p.start in

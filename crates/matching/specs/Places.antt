@@ -4,8 +4,8 @@
 --     part                            the numbers of what starts at a place, up to its end in the list of ends
 --     ExpressionAt, AnyAt, Chained    an expression of a sort; one of any sort; so many of them, one after the other
 --     CanMatch, CanMatchAny           what the functions ask for
---     Matched                         what they promise: the place past its numbers, with others in the place of a word
-use Rattle.std.specs.Prelude.{◌≡◌, Option, List, ℕ, zero, suc, ◌≤◌, length}
+--     Matched                         what they promise: past its numbers too, with others in the place of a word
+use Rattle.std.specs.Prelude.{◌≡◌, Result, List, ℕ, zero, suc, ◌≤◌, length}
 use Rattle.language.specs.Syntax.{Sort, Expr}
 use Rattle.ends.specs.Ends.{EndsOf}
 use Rattle.ends.specs.Places.{end_at, WrittenAt}
@@ -38,5 +38,5 @@ module _ (file ends : List ℕ) where
     pub any : AnyAt at
     pub inside : put.to ≤ length file
 
-pub record Matched (file ends : List ℕ) (m : Option ℕ) (b : ℕ) (put : Put) (r : Option ℕ) : Type 0 where
+pub record Matched (file ends : List ℕ) (m : Result ℕ ℕ) (b : ℕ) (put : Put) (r : Result ℕ ℕ) : Type 0 where
   pub is : r ≡ matched file m (exchanged file put (between file b (end_at ends b)))

@@ -1,4 +1,4 @@
-ghost use Rattle.std.specs.Prelude.{◌≡◌, ◌<◌, ◌≤◌, length};
+ghost use Rattle.std.specs.Prelude.{◌≡◌, ◌<◌, ◌≤◌, ◌+◌, ◌-◌, Ok, length};
 ghost use Rattle.matching.specs.Matching.{matched_word, matched, between, put_for};
 
 use crate::equal::same_words;
@@ -11,53 +11,78 @@ pub struct Put {
     pub to: usize,
 }
 
-// The place past the word x, if it stands at `at`.
-#[tactic(auto, using(std::proofs::lemmas::Option::gets), unfolding(crate::specs::Matching::matched_word))]
-pub fn match_word(w: &[u32], at: usize, x: u32) -> Option<usize>
-    ensures { result ≡ matched_word w.now (Some «at») x }
+// The place past all that was asked for so far; or, where one word did not stand there, the place where it was missing. A failure absorbs
+// what follows.
+pub type Match = Result<usize, usize>;
+
+// Past the word x too.
+pub fn match_word(w: &[u32], m: Match, x: u32) -> Match
+    ensures { result ≡ matched_word w.now m x }
 {
-    if *w.get(at)? == x { Some(at + 1) } else { None }
+    let at = m?;
+    if w.len() <= at {
+        return Err(at);
+    }
+    if w[at] == x { Ok(at + 1) } else { Err(at) }
 }
 
-// The place past some words, if they stand from `at` on.
-pub fn match_words(w: &[u32], at: usize, words: &[u32]) -> Option<usize>
-    ensures { result ≡ matched w.now (Some «at») words.now }
+// Past some words too.
+pub fn match_words(w: &[u32], m: Match, words: &[u32]) -> Match
+    ensures { result ≡ matched w.now m words.now }
+{
+    let mut at = m?;
+    for x in words {
+        at = match_word(w, Ok(at), *x)?;
+    }
+    Ok(at)
+}
+
+// Past the words from `from` up to `to` too, for which there is room from `at` on. Whole blocks are compared, and then what is left; the
+// place where a word is missing is looked for in one of these alone.
+fn match_inside(w: &[u32], at: usize, from: usize, to: usize) -> Match
+    requires { (from ≤ to) × (to ≤ length w.now) × («at» + (to - from) ≤ length w.now) }
+    ensures { result ≡ matched w.now (Ok «at») (between w.now from to) }
 {
     let mut next = at;
-    for x in words {
-        next = match_word(w, next, *x)?;
+    let mut rest = from;
+    // stays a `while`: it goes by blocks
+    while 8 <= to - rest {
+        if !same_words(w, next, next + 8, rest, rest + 8) {
+            return match_words(w, Ok(next), &w[rest..to]);
+        }
+        next += 8;
+        rest += 8;
     }
-    Some(next)
+    let end = next + (to - rest);
+    if same_words(w, next, end, rest, to) {
+        return Ok(end);
+    }
+    match_words(w, Ok(next), &w[rest..to])
 }
 
-// The place past the words from `from` up to `to`, if they stand from `at` on.
-pub fn match_range(w: &[u32], at: usize, from: usize, to: usize) -> Option<usize>
+// Past the words from `from` up to `to` too.
+pub fn match_range(w: &[u32], m: Match, from: usize, to: usize) -> Match
     requires { to ≤ length w.now }
-    ensures { result ≡ matched w.now (Some «at») (between w.now from to) }
+    ensures { result ≡ matched w.now m (between w.now from to) }
 {
+    let at = m?;
     if to <= from {
-        return Some(at);
+        return Ok(at);
     }
-    let count = to - from;
-    if w.len().saturating_sub(at) < count {
-        return None;
+    if to - from <= w.len().saturating_sub(at) {
+        return match_inside(w, at, from, to);
     }
-    let end = at + count;
-    if same_words(w, at, end, from, to) {
-        Some(end)
-    } else {
-        None
-    }
+    match_words(w, Ok(at), &w[from..to])
 }
 
-// The place past the word x, or past what is put for it, if that stands at `at`.
-pub fn match_head(w: &[u32], at: usize, x: u32, put: Put) -> Option<usize>
+// Past the word x, or past what is put for it, too.
+pub fn match_head(w: &[u32], m: Match, x: u32, put: Put) -> Match
     requires { put.to ≤ length w.now }
-    ensures { result ≡ matched w.now (Some «at») (put_for w.now put x) }
+    ensures { result ≡ matched w.now m (put_for w.now put x) }
 {
     if x == put.word {
-        match_range(w, at, put.from, put.to)
+        match_range(w, m, put.from, put.to)
     } else {
-        match_word(w, at, x)
+        match_word(w, m, x)
     }
 }

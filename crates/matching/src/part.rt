@@ -3,26 +3,26 @@ ghost use Rattle.matching.specs.Matching.{matched, came, same_numbers};
 ghost use Rattle.ends.specs.Places.{end_at, PartKnown};
 ghost use Rattle.matching.specs.Places.{part};
 
-use crate::cursor::match_range;
+use crate::cursor::{Match, match_range};
 use crate::equal::same_words;
 use ends::end_at;
 
-// The place past the words of the part at a, if they stand at `at`.
-pub fn match_part(w: &[u32], ends: &[u32], at: usize, a: usize) -> Option<usize>
+// Past the words of the part at a too.
+pub fn match_part(w: &[u32], ends: &[u32], m: Match, a: usize) -> Match
     requires { PartKnown w.now ends.now a }
-    ensures { result ≡ matched w.now (Some «at») (part w.now ends.now a) }
+    ensures { result ≡ matched w.now m (part w.now ends.now a) }
 {
     let to = end_at(ends, a);
-    match_range(w, at, a, to)
+    match_range(w, m, a, to)
 }
 
 // Whether all stood there, up to the end of the part at `at`.
 #[tactic(auto, unfolding(crate::specs::Matching::came))]
-pub fn came_to_end(ends: &[u32], end: Option<usize>, at: usize) -> bool
+pub fn came_to_end(ends: &[u32], m: Match, at: usize) -> bool
     requires { «at» < length ends.now }
-    ensures { result ≡ came end (end_at ends.now «at») }
+    ensures { result ≡ came m (end_at ends.now «at») }
 {
-    end == Some(end_at(ends, at))
+    m == Ok(end_at(ends, at))
 }
 
 // Whether the words of the parts at f and g are the same. Two of one length differ more often at their end than at their

@@ -8,7 +8,7 @@ use mathlib.Core.List.{List, [], ◌∷◌, ◌++◌}
 use Prim.Native.Nat.{ℕ, ◌+◌, ◌/◌, ◌%◌, ◌≤◌}
 use native.Mathlib.Omega.{arith}
 use lib.IntN.{pos}
-use Rattle.std.specs.Prelude.{Option, Some}
+use Rattle.std.specs.Prelude.{Result, Ok}
 use Rattle.language.specs.Syntax.{Command}
 use Rattle.language.specs.Runs.{meaning}
 use Rattle.rules.specs.Context.{Context}
@@ -28,17 +28,17 @@ use Rattle.rule_laws.proofs.Commands.{ForParts, parts_of-for}
 use Rattle.rule_laws.proofs.Passing.{same-command}
 
 -- the words before the body, the body's, and those after it, one after the other
-module _ (file ends : List ℕ) (at c : ℕ) where
-  pub parts-matched : {m n r : Option ℕ} → m ≡ matched file (Some at) (start_numbers (payload_at file c % 32) (payload_at file c / 32)) →
+module _ (file ends : List ℕ) (from : Result ℕ ℕ) (c : ℕ) where
+  pub parts-matched : {m n r : Result ℕ ℕ} → m ≡ matched file from (start_numbers (payload_at file c % 32) (payload_at file c / 32)) →
       n ≡ matched file m (part file ends (c + 1)) → r ≡ matched file n (next_numbers (payload_at file c % 32)) →
-      r ≡ matched file (Some at) (meaning_numbers file ends c)
+      r ≡ matched file from (meaning_numbers file ends c)
   unfolding meaning_numbers
   parts-matched {m} s b e =
       e
       ∙ ap (λ n. matched file n (next_numbers (payload_at file c % 32))) b
       ∙ sym (matched-append file m (part file ends (c + 1)) (next_numbers (payload_at file c % 32)))
       ∙ ap (λ n. matched file n (part file ends (c + 1) ++ next_numbers (payload_at file c % 32))) s
-      ∙ sym (matched-append file (Some at) (start_numbers (payload_at file c % 32) (payload_at file c / 32)) _)
+      ∙ sym (matched-append file from (start_numbers (payload_at file c % 32) (payload_at file c / 32)) _)
 
 -- 25:0 27:q 1:1 30:0 8:2 2:q 2:m 25:0
 abbrev start_words : ℕ → ℕ → List Word
@@ -105,10 +105,10 @@ module _ {file ends : List ℕ} {c : ℕ} (o : EndsOf file ends) where
       ∙ ap (λ l. numbers (start_words q m) ++ l) (sym (numbers-append (command_words e) (next_words q)))
       ∙ sym (numbers-append (start_words q m) (command_words e ++ next_words q)))
 
-  pub meaning-at : {d : ℕ} {n : Option ℕ} {r : Bool} → n ≡ matched file (Some d) (meaning_numbers file ends c) →
+  pub meaning-at : {d : ℕ} {n : Result ℕ ℕ} {r : Bool} → n ≡ matched file (Ok d) (meaning_numbers file ends c) →
       r ≡ came n (end_at ends d) → MeaningAt file ends d c r
   meaning-at {d} {n} s h = record {
     is = λ Γ e q m a x y.
         let parts = parts_of-for o y in
-        h ∙ same-command _ x (in-range q m a parts) (s ∙ ap (matched file (Some d)) (means q m a parts));
+        h ∙ same-command _ x (in-range q m a parts) (s ∙ ap (matched file (Ok d)) (means q m a parts));
   }

@@ -7,7 +7,7 @@ use mathlib.Core.Path.{◌≡◌, ap, ◌∙◌}
 use mathlib.Core.Bool.{Bool}
 use mathlib.Core.List.{List}
 use Prim.Native.Nat.{ℕ}
-use Rattle.std.specs.Prelude.{Option, Some}
+use Rattle.std.specs.Prelude.{Result, Ok}
 use native.Mathlib.Omega.{arith}
 use Rattle.language.specs.Syntax.{Command}
 use Rattle.rules.specs.Context.{Context}
@@ -30,8 +30,8 @@ use Rattle.compare.proofs.Halves.{is-written, antecedent-same, is-verbatim, cons
 use Rattle.rule_laws.specs.Sameness.{CanSame, CanSameAssertion, SameAssertionAt, SameAt}
 
 module _ {file ends : List ℕ} where
-  pub same-command : {Γ : Context} {c : Command} {at : ℕ} (l : List Word) {m : Option ℕ} → CommandAt file ends Γ c at →
-      AllInRange l → m ≡ matched file (Some at) (numbers l) → came m (end_at ends at) ≡ same_words (command_words c) l
+  pub same-command : {Γ : Context} {c : Command} {at : ℕ} (l : List Word) {m : Result ℕ ℕ} → CommandAt file ends Γ c at →
+      AllInRange l → m ≡ matched file (Ok at) (numbers l) → came m (end_at ends at) ≡ same_words (command_words c) l
   same-command {Γ} {c} {at} l {m} x f p =
       let i = node_inside x in
       let s = i.start in

@@ -6,7 +6,7 @@ ghost use Rattle.rule_laws.specs.Sameness.{CanMean, MeaningAt};
 
 use compare::antecedent::{Antecedent, same_antecedent};
 use compare::consequent::{Consequent, same_consequent};
-use matching::cursor::match_words;
+use matching::cursor::{Match, match_words};
 use matching::part::{came_to_end, match_part};
 use words::kinds::{
     AT_MOST_WORD, KIND, ONE_WORD, PLUS_WORD, SCALAR_WORD, SEQUENCE_WORD, TO_SCALAR_WORD, WHILE_WORD,
@@ -28,12 +28,11 @@ pub fn is_same_consequent(w: &[u32], ends: &[u32], f: usize, g: usize) -> bool
     same_consequent(w, ends, f, Consequent::Written(g))
 }
 
-// The place past the words before the body, if they stand at `at`: 25:0 27:q 1:1 30:0 8:2 2:q 2:m 25:0, that is
-// q := 1; while q ≤ m do (..
+// Past the words before the body: 25:0 27:q 1:1 30:0 8:2 2:q 2:m 25:0, that is q := 1; while q ≤ m do (..
 #[tactic(auto, unfolding(crate::specs::Sameness::start_numbers))]
-fn match_start(w: &[u32], at: usize, q: u32, bound: u32) -> Option<usize>
+fn match_start(w: &[u32], m: Match, q: u32, bound: u32) -> Match
     requires { (q ≤ 67108863) × (bound ≤ 67108863) }
-    ensures { result ≡ matched w.now (Some «at») (start_numbers q bound) }
+    ensures { result ≡ matched w.now m (start_numbers q bound) }
 {
     let words = [
         SEQUENCE_WORD,
@@ -45,28 +44,28 @@ fn match_start(w: &[u32], at: usize, q: u32, bound: u32) -> Option<usize>
         SCALAR_WORD + bound,
         SEQUENCE_WORD,
     ];
-    match_words(w, at, &words)
+    match_words(w, m, &words)
 }
 
-// The place past the words after it: 27:q 3:0 2:q 1:1, that is q := q + 1.
+// Past the words after it: 27:q 3:0 2:q 1:1, that is q := q + 1.
 #[tactic(auto, unfolding(crate::specs::Sameness::next_numbers))]
-fn match_next(w: &[u32], at: usize, q: u32) -> Option<usize>
+fn match_next(w: &[u32], m: Match, q: u32) -> Match
     requires { q ≤ 67108863 }
-    ensures { result ≡ matched w.now (Some «at») (next_numbers q) }
+    ensures { result ≡ matched w.now m (next_numbers q) }
 {
     let words = [TO_SCALAR_WORD + q, PLUS_WORD, SCALAR_WORD + q, ONE_WORD];
-    match_words(w, at, &words)
+    match_words(w, m, &words)
 }
 
-// The place past the words of what the `for` at c means, if they stand at `at`.
-fn match_meaning(w: &[u32], ends: &[u32], at: usize, c: usize) -> Option<usize>
+// Past the words of what the `for` at c means.
+fn match_meaning(w: &[u32], ends: &[u32], m: Match, c: usize) -> Match
     requires { (c < length w.now) × PartKnown w.now ends.now (c + 1) }
-    ensures { result ≡ matched w.now (Some «at») (meaning_numbers w.now ends.now c) }
+    ensures { result ≡ matched w.now m (meaning_numbers w.now ends.now c) }
 {
     let p = w[c] % KIND;
     let q = p % 32;
-    let body = match_start(w, at, q, p / 32)?;
-    let next = match_part(w, ends, body, c + 1)?;
+    let body = match_start(w, m, q, p / 32);
+    let next = match_part(w, ends, body, c + 1);
     match_next(w, next, q)
 }
 
@@ -75,5 +74,5 @@ pub fn is_meaning(w: &[u32], ends: &[u32], d: usize, c: usize) -> bool
     requires { CanMean w.now ends.now d c }
     ensures { MeaningAt w.now ends.now d c result }
 {
-    came_to_end(ends, match_meaning(w, ends, d, c), d)
+    came_to_end(ends, match_meaning(w, ends, Ok(d), c), d)
 }

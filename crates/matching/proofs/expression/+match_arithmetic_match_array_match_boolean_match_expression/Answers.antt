@@ -6,6 +6,7 @@ use mathlib.Core.Path.{refl}
 use native.Mathlib.Omega.{arith}
 use Rattle.matching.proofs.Operands.{arithmetic-none, arithmetic-two, boolean-none, boolean-one, boolean-two}
 use Rattle.matching.proofs.Operands.{array-none, array-three, is-arithmetic, is-boolean, is-array}
+use Rattle.matching.proofs.Matching.{handed_on}
 use Rattle.matching.proofs.Exchange.{any-first, any-of, any-listed, walked-head, walked-on, walked-all, walked-lost, head-lost}
 use Rattle.matching.proofs.Exchange.{can-operand, can-sort}
 use Rattle.matching.proofs.expression.+match_arithmetic_match_array_match_boolean_match_expression.Goals as goal
@@ -20,7 +21,7 @@ match_arithmetic-bounds-w-b t c =
 
 pub match_arithmetic-returns-in_err-head : goal.match_arithmetic-returns-in_err-head
 match_arithmetic-returns-in_err-head t c =
-    let p = c.requires in head-lost p.ends_of (any-of p) c.in_err-head.ensures c.from_residual.ensures
+    let p = c.requires in head-lost p.ends_of (any-of p) c.in_err-head.ensures (handed_on c.from_residual.ensures.1)
 
 pub match_arithmetic-returns-then-x-lt-OPERATOR : goal.match_arithmetic-returns-then-x-lt-OPERATOR
 match_arithmetic-returns-then-x-lt-OPERATOR t c =
@@ -45,7 +46,7 @@ match_arithmetic-returns-in_err-left t c =
     let p = c.requires in
     walked-lost (any-of p)
     (walked-on (walked-head 2 (any-first (any-of p)) c.in_ok-head.ensures (arithmetic-two p.ends_of p.expression c.if-x-lt-OPERATOR.false)) c.in_err-left.ensures refl)
-    c.from_residual-in_err-left.ensures
+    (handed_on c.from_residual-in_err-left.ensures.1)
 
 pub match_arithmetic-end_at-second-requires : goal.match_arithmetic-end_at-second-requires
 match_arithmetic-end_at-second-requires t c =
@@ -77,7 +78,7 @@ match_boolean-bounds-w-b t c =
 
 pub match_boolean-returns-in_err-head : goal.match_boolean-returns-in_err-head
 match_boolean-returns-in_err-head t c =
-    let p = c.requires in head-lost p.ends_of (any-of p) c.in_err-head.ensures c.from_residual.ensures
+    let p = c.requires in head-lost p.ends_of (any-of p) c.in_err-head.ensures (handed_on c.from_residual.ensures.1)
 
 pub match_boolean-returns-then-kind-eq-TRUTH : goal.match_boolean-returns-then-kind-eq-TRUTH
 match_boolean-returns-then-kind-eq-TRUTH t c =
@@ -116,7 +117,7 @@ match_boolean-returns-in_err-left t c =
     let p = c.requires in
     walked-lost (any-of p)
     (walked-on (walked-head 2 (any-first (any-of p)) c.in_ok-head.ensures (boolean-two p.ends_of p.expression c.if-kind-eq-TRUTH.false c.if-kind-eq-NOT.false)) c.in_err-left.ensures refl)
-    c.from_residual-in_err-left.ensures
+    (handed_on c.from_residual-in_err-left.ensures.1)
 
 pub match_boolean-end_at-second-requires : goal.match_boolean-end_at-second-requires
 match_boolean-end_at-second-requires t c =
@@ -148,7 +149,7 @@ match_array-bounds-w-b t c =
 
 pub match_array-returns-in_err-head : goal.match_array-returns-in_err-head
 match_array-returns-in_err-head t c =
-    let p = c.requires in head-lost p.ends_of (any-of p) c.in_err-head.ensures c.from_residual.ensures
+    let p = c.requires in head-lost p.ends_of (any-of p) c.in_err-head.ensures (handed_on c.from_residual.ensures.1)
 
 pub match_array-returns-then-x-lt-UPDATE : goal.match_array-returns-then-x-lt-UPDATE
 match_array-returns-then-x-lt-UPDATE t c =
@@ -173,7 +174,7 @@ match_array-returns-in_err-array t c =
     let p = c.requires in
     walked-lost (any-of p)
     (walked-on (walked-head 3 (any-first (any-of p)) c.in_ok-head.ensures (array-three p.ends_of p.expression c.if-x-lt-UPDATE.false)) c.in_err-array.ensures refl)
-    c.from_residual-in_err-array.ensures
+    (handed_on c.from_residual-in_err-array.ensures.1)
 
 pub match_array-end_at-second-requires : goal.match_array-end_at-second-requires
 match_array-end_at-second-requires t c =
@@ -194,7 +195,7 @@ match_array-returns-in_err-index t c =
     (walked-on
     (walked-on (walked-head 3 (any-first (any-of p)) c.in_ok-head.ensures (array-three p.ends_of p.expression c.if-x-lt-UPDATE.false)) c.in_ok-array.ensures c.end_at-second.ensures)
     c.in_err-index.ensures refl)
-    c.from_residual-in_err-index.ensures
+    (handed_on c.from_residual-in_err-index.ensures.1)
 
 pub match_array-end_at-third-requires : goal.match_array-end_at-third-requires
 match_array-end_at-third-requires t c =
