@@ -19,16 +19,16 @@ pub fn read_command(w: &[u32], at: usize, left: usize) -> Result<usize, Refusal>
             let second = read_command(w, first.next, first.below)?;
             read_command(w, second, first.below)
         }
-        CommandWord::Assert => read_operand(Sort::Boolean, w, first.next, first.below),
+        CommandWord::Assert => read_operand(Sort::Boolean, w, Ok(first.next), first.below),
         CommandWord::AssignScalar(_) => read_arithmetic(w, first.next, first.below),
         CommandWord::AssignArray(_) => read_array(w, first.next, first.below),
         CommandWord::If => {
-            let then = read_operand(Sort::Boolean, w, first.next, first.below)?;
+            let then = read_operand(Sort::Boolean, w, Ok(first.next), first.below)?;
             let other = read_command(w, then, first.below)?;
             read_command(w, other, first.below)
         }
         CommandWord::While => {
-            let body = read_operand(Sort::Boolean, w, first.next, first.below)?;
+            let body = read_operand(Sort::Boolean, w, Ok(first.next), first.below)?;
             read_command(w, body, first.below)
         }
         CommandWord::For(_, _) => read_command(w, first.next, first.below),

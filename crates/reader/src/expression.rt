@@ -1,8 +1,8 @@
-// Expressions: a function for each sort, each calling on the others by way of `read_operand`. The words left fall.
+// Expressions: a function for each sort, each calling on the others by way of `operand_at`. The words left fall.
 ghost use Rattle.std.specs.Prelude.{◌≡◌};
 ghost use Rattle.language.specs.Syntax as syntax;
 ghost use Rattle.layout.specs.Read.{expression};
-ghost use Rattle.reader.specs.Walk.{walk_of, sort_meant};
+ghost use Rattle.reader.specs.Walk.{walk_of, onward, sort_meant};
 
 use super::Sort;
 use super::leaf::is_leaf;
@@ -11,7 +11,7 @@ use context::Refusal;
 use words::decode::{arithmetic_word, array_word, boolean_word};
 use words::{ArithmeticWord, ArrayWord, BooleanWord};
 
-#[cycle(read_arithmetic_read_array_read_boolean_read_operand)]
+#[cycle(operand_at_read_arithmetic_read_array_read_boolean)]
 pub fn read_arithmetic(w: &[u32], at: usize, left: usize) -> Result<usize, Refusal>
     ensures { result ≡ walk_of (expression w.now left syntax.Arithmetic at) }
 {
@@ -20,12 +20,12 @@ pub fn read_arithmetic(w: &[u32], at: usize, left: usize) -> Result<usize, Refus
         ArithmeticWord::Constant(_) => Ok(first.next),
         ArithmeticWord::Scalar(_) => Ok(first.next),
         ArithmeticWord::Operation(_) => {
-            let second = read_operand(Sort::Arithmetic, w, first.next, first.below)?;
-            read_operand(Sort::Arithmetic, w, second, first.below)
+            let second = operand_at(Sort::Arithmetic, w, first.next, first.below)?;
+            operand_at(Sort::Arithmetic, w, second, first.below)
         }
         ArithmeticWord::Select => {
-            let index = read_operand(Sort::Array, w, first.next, first.below)?;
-            read_operand(Sort::Arithmetic, w, index, first.below)
+            let index = operand_at(Sort::Array, w, first.next, first.below)?;
+            operand_at(Sort::Arithmetic, w, index, first.below)
         }
         ArithmeticWord::Other => Err(Refusal {
             number: 5,
@@ -34,26 +34,26 @@ pub fn read_arithmetic(w: &[u32], at: usize, left: usize) -> Result<usize, Refus
     }
 }
 
-#[cycle(read_arithmetic_read_array_read_boolean_read_operand)]
+#[cycle(operand_at_read_arithmetic_read_array_read_boolean)]
 pub fn read_boolean(w: &[u32], at: usize, left: usize) -> Result<usize, Refusal>
     ensures { result ≡ walk_of (expression w.now left syntax.Boolean at) }
 {
     let first = word_due(w, at, left)?;
     match boolean_word(first.kind, first.payload) {
         BooleanWord::Compare(_) => {
-            let second = read_operand(Sort::Arithmetic, w, first.next, first.below)?;
-            read_operand(Sort::Arithmetic, w, second, first.below)
+            let second = operand_at(Sort::Arithmetic, w, first.next, first.below)?;
+            operand_at(Sort::Arithmetic, w, second, first.below)
         }
         BooleanWord::Truth(_) => Ok(first.next),
         BooleanWord::And => {
-            let second = read_operand(Sort::Boolean, w, first.next, first.below)?;
-            read_operand(Sort::Boolean, w, second, first.below)
+            let second = operand_at(Sort::Boolean, w, first.next, first.below)?;
+            operand_at(Sort::Boolean, w, second, first.below)
         }
         BooleanWord::Or => {
-            let second = read_operand(Sort::Boolean, w, first.next, first.below)?;
-            read_operand(Sort::Boolean, w, second, first.below)
+            let second = operand_at(Sort::Boolean, w, first.next, first.below)?;
+            operand_at(Sort::Boolean, w, second, first.below)
         }
-        BooleanWord::Not => read_operand(Sort::Boolean, w, first.next, first.below),
+        BooleanWord::Not => operand_at(Sort::Boolean, w, first.next, first.below),
         BooleanWord::Other => Err(Refusal {
             number: 5,
             place: at,
@@ -61,7 +61,7 @@ pub fn read_boolean(w: &[u32], at: usize, left: usize) -> Result<usize, Refusal>
     }
 }
 
-#[cycle(read_arithmetic_read_array_read_boolean_read_operand)]
+#[cycle(operand_at_read_arithmetic_read_array_read_boolean)]
 pub fn read_array(w: &[u32], at: usize, left: usize) -> Result<usize, Refusal>
     ensures { result ≡ walk_of (expression w.now left syntax.Array at) }
 {
@@ -70,9 +70,9 @@ pub fn read_array(w: &[u32], at: usize, left: usize) -> Result<usize, Refusal>
         ArrayWord::Identifier(_) => Ok(first.next),
         ArrayWord::Zeros => Ok(first.next),
         ArrayWord::Update => {
-            let index = read_operand(Sort::Array, w, first.next, first.below)?;
-            let value = read_operand(Sort::Arithmetic, w, index, first.below)?;
-            read_operand(Sort::Arithmetic, w, value, first.below)
+            let index = operand_at(Sort::Array, w, first.next, first.below)?;
+            let value = operand_at(Sort::Arithmetic, w, index, first.below)?;
+            operand_at(Sort::Arithmetic, w, value, first.below)
         }
         ArrayWord::Other => Err(Refusal {
             number: 5,
@@ -81,9 +81,9 @@ pub fn read_array(w: &[u32], at: usize, left: usize) -> Result<usize, Refusal>
     }
 }
 
-// An operand of a sort. One of one word makes no call of the cycle.
-#[cycle(read_arithmetic_read_array_read_boolean_read_operand)]
-pub fn read_operand(sort: Sort, w: &[u32], at: usize, left: usize) -> Result<usize, Refusal>
+// An operand of a sort at a place. One of one word makes no call of the cycle.
+#[cycle(operand_at_read_arithmetic_read_array_read_boolean)]
+fn operand_at(sort: Sort, w: &[u32], at: usize, left: usize) -> Result<usize, Refusal>
     ensures { result ≡ walk_of (expression w.now left (sort_meant sort) at) }
 {
     if is_leaf(sort, w, at, left) {
@@ -94,4 +94,16 @@ pub fn read_operand(sort: Sort, w: &[u32], at: usize, left: usize) -> Result<usi
         Sort::Boolean => read_boolean(w, at, left),
         Sort::Array => read_array(w, at, left),
     }
+}
+
+// An operand of a sort, from where the walk so far goes on.
+pub fn read_operand(
+    sort: Sort,
+    w: &[u32],
+    from: Result<usize, Refusal>,
+    left: usize,
+) -> Result<usize, Refusal>
+    ensures { result ≡ onward from (λ p. walk_of (expression w.now left (sort_meant sort) p)) }
+{
+    operand_at(sort, w, from?, left)
 }

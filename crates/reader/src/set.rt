@@ -34,13 +34,13 @@ fn sort_at(w: &[u32], at: usize) -> Sort
 fn read_consequent(w: &[u32], at: usize, left: usize) -> Result<usize, Refusal>
     ensures { result ≡ walk_of (consequent_at w.now left at) }
 {
-    read_operand(sort_at(w, at), w, at, left)
+    read_operand(sort_at(w, at), w, Ok(at), left)
 }
 
 fn read_member(w: &[u32], at: usize, left: usize) -> Result<usize, Refusal>
     ensures { result ≡ walk_of (member_at w.now left at) }
 {
-    let consequent = read_operand(Sort::Boolean, w, at, left)?;
+    let consequent = read_operand(Sort::Boolean, w, Ok(at), left)?;
     read_consequent(w, consequent, left)
 }
 

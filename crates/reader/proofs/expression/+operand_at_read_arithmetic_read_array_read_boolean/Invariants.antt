@@ -3,7 +3,7 @@
 -- Assumes nothing.
 use Prim.Native.Nat.{◌+◌, ◌-◌, ◌*◌}
 use Rattle.layout.specs.Bytes.{word_count}
-use Rattle.reader.proofs.expression.+read_arithmetic_read_array_read_boolean_read_operand.Given as goal
+use Rattle.reader.proofs.expression.+operand_at_read_arithmetic_read_array_read_boolean.Given as goal
 
 abbrev pub decreases-read_arithmetic : goal.decreases-read_arithmetic
 decreases-read_arithmetic l = 2 * (word_count l.w.now - l.at)
@@ -14,5 +14,5 @@ decreases-read_array l = 2 * (word_count l.w.now - l.at)
 abbrev pub decreases-read_boolean : goal.decreases-read_boolean
 decreases-read_boolean l = 2 * (word_count l.w.now - l.at)
 
-abbrev pub decreases-read_operand : goal.decreases-read_operand
-decreases-read_operand l = 2 * (word_count l.w.now - l.at) + 1
+abbrev pub decreases-operand_at : goal.decreases-operand_at
+decreases-operand_at l = 2 * (word_count l.w.now - l.at) + 1
