@@ -1,4 +1,5 @@
-# ./library --prefix: what is installed is enough to build and run a program in C and one in C++; the pages of manual.
+# ./library --prefix: what is installed is enough to build and run a program in C and one in C++, and takes no more from outside than it did; the
+# pages of manual.
 
 # a program that checks, finds a part, runs, says what a number means, and uses masks and settings, in C and C++ alike
 user_program() {
@@ -87,6 +88,14 @@ pages() {
     done
 }
 
+# what the library takes from outside: these two functions of the C library, or of a freestanding program's own, and nothing else
+taken_from_outside() {
+    tried 1
+    printf 'memcpy\nmemset\n' > due
+    nm -u "$prefix/lib/libflowcheck.a" | awk '$1 == "U" { print $2 }' | LC_ALL=C sort -u > got
+    diff due got || wrong "what libflowcheck.a takes from outside"
+}
+
 install_cases() {
     prefix=$work/installed
     tried 1
@@ -102,6 +111,7 @@ install_cases() {
         "$root/library" $words_of_use > got 2> got-err
         [ $? -eq 2 ] && [ "$(cat got-err)" = 'usage: library [--prefix DIR]' ] || wrong "./library $words_of_use"
     done
+    taken_from_outside
     user_programs
     header_alone
     pages

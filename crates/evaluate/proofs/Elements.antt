@@ -1,19 +1,21 @@
 -- The values of an array at 0 to 63, as a list.
 -- Assumes nothing.
 --     elements-length, elements-at    how many; the value at an index
---     fetched, cleared                the values of an array of the store; zero everywhere
+--     fetched, fetched-next           the values of an array of the store; one more of them
+--     cleared                         zero everywhere
 --     set-elements                    a value replaced
-use mathlib.Core.Path.{◌≡◌, refl, sym, ap, subst, ◌∙◌}
+use mathlib.Core.Path.{◌≡◌, refl, sym, ap, ap₂, subst, ◌∙◌}
 use mathlib.Core.Bool.{Bool, true, false, cond}
-use mathlib.Core.List.{List}
+use mathlib.Core.List.{List, [], ◌∷◌, ◌++◌}
 use Prim.Native.Nat.{ℕ, zero, suc, ◌+◌, ◌*◌, ◌<◌}
 use native.Mathlib.Omega.{arith}
+use native.Mathlib.Numerals.{add-one}
 use borrow.Author.Tests.{eqb-true, eqb-false}
 use lib.Dec.{eqb}
 use lib.IntN.{ℤ, pos}
 use lib.ListN.{length, get_or, take, drop, set, replicate, length-take, length-drop, length-set}
 use lib.ListN.{get_or-replicate}
-use lib.Seq.{ext_get_or, get_or-take, get_or-drop, get_or-set_same, get_or-set_other}
+use lib.Seq.{take-suc, take-suc-set, ext_get_or, get_or-take, get_or-drop, get_or-set_same, get_or-set_other}
 use Rattle.language.specs.Store.{same_integer, put}
 use Rattle.execution.specs.Lent.{element_at, elements_from, elements}
 
@@ -47,6 +49,15 @@ fetched vs a e ha hv =
     ∙ listed (take 64 (drop (64 * a) vs)) (element_at vs a)
     (simp (length-take, length-drop) (omega arith))
     (λ j h. get_or-take 64 (drop (64 * a) vs) j (pos 0) h ∙ get_or-drop (64 * a) vs j (pos 0))
+
+-- one value more
+pub fetched-next : (s vs : List ℤ) (a n : ℕ) (v : ℤ) → n < length s → 64 * a + n < length vs → v ≡ get_or vs (64 * a + n) (pos 0) →
+    take n s ≡ take n (drop (64 * a) vs) → take (n + 1) (set s n v) ≡ take (n + 1) (drop (64 * a) vs)
+fetched-next s vs a n v h k e f =
+    let m : n + 1 ≡ suc n = add-one n in
+    rw m
+    (take-suc-set s n v h ∙ ap₂ (λ l x. l ++ (x ∷ [])) f (e ∙ sym (get_or-drop (64 * a) vs n (pos 0)))
+    ∙ sym (take-suc (drop (64 * a) vs) n (pos 0) (rw length-drop (omega arith))))
 
 pub cleared : replicate 64 (pos 0) ≡ elements (λ i. pos 0)
 cleared = listed (replicate 64 (pos 0)) (λ i. pos 0) refl (λ j k. get_or-replicate 64 j (pos 0) (pos 0) k)

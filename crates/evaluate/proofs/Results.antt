@@ -4,7 +4,9 @@
 --     passed, passed-filled                                                a stop that `?` hands on
 --     becomes, becomes-filled                                              an outcome that is another
 --     indexed                                                              an index as the code holds it
---     after_both, onward                                                   one outcome after another; going on from one operand to the next
+--     onward, stopped, went-on                                             going on from one operand to the next; from one that stops, from one
+--                                                                          that has a value
+--     after_both                                                           one outcome after another
 --     constant-worked, scalar-worked, operation-first, operation-second    arithmetic
 --     element_worked, select-first, select-second                          a select, from an array of the store and from any
 --     identifier-filled, zeros-filled, update-first, update-second,
@@ -61,6 +63,18 @@ pub onward : {A B : Type 0} (o : Evaluation A) (f : A → Evaluation B) (r : Res
     ((a : A) → r ≡ Ok a → outcome q ≡ f a) → ((x : Stop) → r ≡ Err x → q ≡ Err x) → outcome q ≡ on_worked o f
 onward o f (Ok a) q e h k = h a refl ∙ ap (λ z. on_worked z f) e
 onward o f (Err x) q e h k = ap outcome (k x refl) ∙ ap (λ z. on_worked z f) e
+
+-- a first operand that stops is all that is worked out: what follows it hands the stop on
+stopped : {A B : Type 0} {o : Evaluation A} (x : Stop) (f : A → Evaluation B) → stops (refusal_number x) ≡ o →
+    stops (refusal_number x) ≡ on_worked o f
+stopped {A} {B} {o} x f e =
+    onward o f (Err x) (Err x) e (λ a h. absurd (cc)) (λ y h. let z : x ≡ y = cc in ap Err z)
+
+-- one that has a value goes on to what follows it, which comes to q
+went-on : {A B : Type 0} {o : Evaluation A} (a : A) (f : A → Evaluation B) (q : Result B Stop) → worked a ≡ o → outcome q ≡ f a →
+    outcome q ≡ on_worked o f
+went-on {A} {B} {o} a f q e h =
+    onward o f (Ok a) q e (λ b k. let z : a ≡ b = cc in h ∙ ap f z) (λ y k. absurd (cc))
 
 -- one outcome after another
 pub after_both : {A B C : Type 0} (o : Evaluation A) (f : A → Evaluation B) (g : B → Evaluation C) →
@@ -191,67 +205,67 @@ module _ {w ends : List ℕ} {ss vs : List ℤ} {at : ℕ} where
           ap (λ y. on_worked y λ v. worked (not v)) (f.is t.first p t.first-at) ∙ sym (ap (λ y. evaluate y m) t.is);
     }
 
-  module _ {k : ℕ} where
-    pub operation-first : {o : Operator} → Evaluates syntax.Arithmetic w ends ss vs (at + 1) (stops k) →
-        arithmetic_at w at ≡ Operation o → Evaluates syntax.Arithmetic w ends ss vs at (stops k)
+  module _ (k : Stop) where
+    pub operation-first : {o : Operator} → Evaluates syntax.Arithmetic w ends ss vs (at + 1) (stops (refusal_number k)) →
+        arithmetic_at w at ≡ Operation o → Evaluates syntax.Arithmetic w ends ss vs at (stops (refusal_number k))
     unfolding evaluate checked
     operation-first {o} f h = record {
       is = λ e p x. let m = store_of (lent ss vs) in
           let t = arithmetic-parts e x h in
-          ap (λ y. on_worked y λ v. on_worked (evaluate t.second m) λ z. checked (apply (operator_meant o) v z))
+          stopped k (λ v. on_worked (evaluate t.second m) λ z. checked (apply (operator_meant o) v z))
           (f.is t.first t.middle t.first-at)
           ∙ sym (ap (λ y. evaluate y m) t.is);
     }
 
-    pub compare-first : {c : Comparison} → Evaluates syntax.Arithmetic w ends ss vs (at + 1) (stops k) →
-        boolean_at w at ≡ Compare c → Evaluates syntax.Boolean w ends ss vs at (stops k)
+    pub compare-first : {c : Comparison} → Evaluates syntax.Arithmetic w ends ss vs (at + 1) (stops (refusal_number k)) →
+        boolean_at w at ≡ Compare c → Evaluates syntax.Boolean w ends ss vs at (stops (refusal_number k))
     unfolding evaluate
     compare-first {c} f h = record {
       is = λ e p x. let m = store_of (lent ss vs) in
           let t = boolean-parts e x h in
-          ap (λ y. on_worked y λ v. on_worked (evaluate t.second m) λ z. worked (relate (comparison_meant c) v z))
+          stopped k (λ v. on_worked (evaluate t.second m) λ z. worked (relate (comparison_meant c) v z))
           (f.is t.first t.middle t.first-at)
           ∙ sym (ap (λ y. evaluate y m) t.is);
     }
 
-    pub and-first : Evaluates syntax.Boolean w ends ss vs (at + 1) (stops k) → boolean_at w at ≡ And →
-        Evaluates syntax.Boolean w ends ss vs at (stops k)
+    pub and-first : Evaluates syntax.Boolean w ends ss vs (at + 1) (stops (refusal_number k)) → boolean_at w at ≡ And →
+        Evaluates syntax.Boolean w ends ss vs at (stops (refusal_number k))
     unfolding evaluate
     and-first f h = record {
       is = λ e p x. let m = store_of (lent ss vs) in
           let t = boolean-parts e x h in
-          ap (λ y. on_worked y λ v. cond v (evaluate t.second m) (worked false)) (f.is t.first t.middle t.first-at)
+          stopped k (λ v. cond v (evaluate t.second m) (worked false)) (f.is t.first t.middle t.first-at)
           ∙ sym (ap (λ y. evaluate y m) t.is);
     }
 
-    pub or-first : Evaluates syntax.Boolean w ends ss vs (at + 1) (stops k) → boolean_at w at ≡ Or →
-        Evaluates syntax.Boolean w ends ss vs at (stops k)
+    pub or-first : Evaluates syntax.Boolean w ends ss vs (at + 1) (stops (refusal_number k)) → boolean_at w at ≡ Or →
+        Evaluates syntax.Boolean w ends ss vs at (stops (refusal_number k))
     unfolding evaluate
     or-first f h = record {
       is = λ e p x. let m = store_of (lent ss vs) in
           let t = boolean-parts e x h in
-          ap (λ y. on_worked y λ v. cond v (worked true) (evaluate t.second m)) (f.is t.first t.middle t.first-at)
+          stopped k (λ v. cond v (worked true) (evaluate t.second m)) (f.is t.first t.middle t.first-at)
           ∙ sym (ap (λ y. evaluate y m) t.is);
     }
 
-    pub select-first : Fills w ends ss vs (at + 1) (stops k) → arithmetic_at w at ≡ Select →
-        Evaluates syntax.Arithmetic w ends ss vs at (stops k)
+    pub select-first : Fills w ends ss vs (at + 1) (stops (refusal_number k)) → arithmetic_at w at ≡ Select →
+        Evaluates syntax.Arithmetic w ends ss vs at (stops (refusal_number k))
     unfolding evaluate
     select-first f h = record {
       is = λ e p x. let m = store_of (lent ss vs) in
           let t = arithmetic-parts e x h in
-          ap (λ y. on_worked y (entered (evaluate t.second m))) (f.is t.first t.middle t.first-at)
+          stopped k (entered (evaluate t.second m)) (f.is t.first t.middle t.first-at)
           ∙ select-is (evaluate t.first m) (evaluate t.second m)
           ∙ sym (ap (λ y. evaluate y m) t.is);
     }
 
-    pub update-first : Fills w ends ss vs (at + 1) (stops k) → array_at w at ≡ Update →
-        Fills w ends ss vs at (stops k)
+    pub update-first : Fills w ends ss vs (at + 1) (stops (refusal_number k)) → array_at w at ≡ Update →
+        Fills w ends ss vs at (stops (refusal_number k))
     unfolding evaluate
     update-first f h = record {
       is = λ e p x. let m = store_of (lent ss vs) in
           let t = array_parts e x h in
-          ap (λ y. on_worked y (replaced (evaluate t.second m) (evaluate t.third m))) (f.is t.first t.middle t.first-at)
+          stopped k (replaced (evaluate t.second m) (evaluate t.third m)) (f.is t.first t.middle t.first-at)
           ∙ update-is (evaluate t.first m) (evaluate t.second m) (evaluate t.third m)
           ∙ sym (ap (λ y. on_worked (evaluate y m) λ f. worked (elements f)) t.is);
     }
@@ -310,27 +324,27 @@ module _ {w ends : List ℕ} {ss vs : List ℤ} {at : ℕ} where
       }
 
     -- the left side does not settle the test, so that the right side's outcome is the test's
-    module _ {a : Bool} {o : Evaluation Bool} (f : Evaluates syntax.Boolean w ends ss vs (at + 1) (worked a))
-        (g : Evaluates syntax.Boolean w ends ss vs q o) where
-      pub and-second : boolean_at w at ≡ And → a ≡ true → Evaluates syntax.Boolean w ends ss vs at o
+    module _ {a : Bool} (r : Result Bool Stop) (f : Evaluates syntax.Boolean w ends ss vs (at + 1) (worked a))
+        (g : Evaluates syntax.Boolean w ends ss vs q (outcome r)) where
+      pub and-second : boolean_at w at ≡ And → a ≡ true → Evaluates syntax.Boolean w ends ss vs at (outcome r)
       unfolding evaluate
       and-second h i = record {
         is = λ e p x. let m = store_of (lent ss vs) in
             let t = boolean-parts e x h in
-            g.is t.second p (moved t.first next t.first-at t.second_at)
-            ∙ ap (λ a. cond a (evaluate t.second m) (worked false)) (sym i)
-            ∙ ap (λ y. on_worked y λ v. cond v (evaluate t.second m) (worked false)) (f.is t.first t.middle t.first-at)
+            went-on a (λ v. cond v (evaluate t.second m) (worked false)) r (f.is t.first t.middle t.first-at)
+            (g.is t.second p (moved t.first next t.first-at t.second_at)
+            ∙ ap (λ a. cond a (evaluate t.second m) (worked false)) (sym i))
             ∙ sym (ap (λ y. evaluate y m) t.is);
       }
 
-      pub or-second : boolean_at w at ≡ Or → a ≡ false → Evaluates syntax.Boolean w ends ss vs at o
+      pub or-second : boolean_at w at ≡ Or → a ≡ false → Evaluates syntax.Boolean w ends ss vs at (outcome r)
       unfolding evaluate
       or-second h i = record {
         is = λ e p x. let m = store_of (lent ss vs) in
             let t = boolean-parts e x h in
-            g.is t.second p (moved t.first next t.first-at t.second_at)
-            ∙ ap (λ a. cond a (worked true) (evaluate t.second m)) (sym i)
-            ∙ ap (λ y. on_worked y λ v. cond v (worked true) (evaluate t.second m)) (f.is t.first t.middle t.first-at)
+            went-on a (λ v. cond v (worked true) (evaluate t.second m)) r (f.is t.first t.middle t.first-at)
+            (g.is t.second p (moved t.first next t.first-at t.second_at)
+            ∙ ap (λ a. cond a (worked true) (evaluate t.second m)) (sym i))
             ∙ sym (ap (λ y. evaluate y m) t.is);
       }
 

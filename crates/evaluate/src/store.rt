@@ -7,5 +7,8 @@ pub fn fetch(values: &[i64], array: usize, scratch: &mut [i64])
     requires { (array < 32) × (length values.now ≡ 2048) × (length scratch.old ≡ 64) }
     ensures { scratch.new ≡ elements (element_at values.now array) }
 {
-    scratch.copy_from_slice(&values[64 * array..64 * array + 64]);
+    // not by `copy_from_slice`, which may call `memmove`: the library for C asks for no such function
+    for n in 0..64 {
+        scratch[n] = values[64 * array + n];
+    }
 }

@@ -1,5 +1,8 @@
 -- Numbers in the place of as many.
 -- Assumes nothing.
+--     Copying            so many numbers are copied
+--     copying-none, copying-more, copying-length, copying-all
+--                        before the first turn; after a turn; the length; after the last
 --     spliced-length, spliced-before, spliced-in, spliced-after
 --                        its length, and its numbers by their place
 --     same_word          the word at a place, by the bytes there
@@ -7,18 +10,45 @@
 --     loaded_at          words loaded from a place on
 --     front-spliced      the front of a spliced list
 use mathlib.Core.Path.{◌≡◌, sym, ap, ap₂, ◌∙◌}
-use mathlib.Core.List.{List, [], ◌++◌, append-nil}
+use mathlib.Core.List.{List, [], ◌++◌, append_assoc, append-nil}
 use mathlib.Core.Logic.{inl, inr}
 use Prim.Native.Nat.{ℕ, ◌+◌, ◌*◌, ◌-◌, ◌/◌, ◌%◌, ◌<◌, ◌≤◌}
 use native.Mathlib.Omega.{arith}
-use lib.ListN.{length, get_or, take, drop, length-append, length-drop, drop_of_length-le, get_or-append}
-use lib.Seq.{ext_get_or, get_or-append-add, get_or-take, get_or-drop, length-take-le, take-length, take_all, drop-drop}
+use native.Mathlib.Numerals.{add-one}
+use lib.ListN.{length, get_or, take, drop, set, length-append, length-drop, drop_of_length-le, get_or-append}
+use lib.Seq.{ext_get_or, get_or-append-add, get_or-take, get_or-drop, length-take-le, take-length, take_all, drop-drop, paste, paste-zero, paste-suc, length-paste}
 use Rattle.layout.specs.Bytes.{words_of}
 use borrow.Rule.Slice.PartMut.{mid_of, post_of, put_mid}
 use Rattle.words.specs.Load.{word_at, Loaded}
 use Rattle.words.proofs.Loading.{words-length, words-at, lesser-first}
 use Rattle.ends.proofs.Sizes.{lt_or_le}
 use Rattle.splice.specs.Splice.{spliced}
+
+pub record Copying (m l : List ℕ) (at : ℕ) (to : List ℕ) (i : ℕ) : Type 0 where
+  pub list : to ≡ paste l at m i
+  pub inside : i ≤ length m
+
+module _ {m l : List ℕ} {at : ℕ} (room : at + length m ≤ length l) where
+  pub copying-none : Copying m l at l 0
+  copying-none = record { list = paste-zero l at m; inside = omega arith }
+
+  pub copying-length : {to : List ℕ} {i : ℕ} → Copying m l at to i → length to ≡ length l
+  copying-length {i = i} c = ap length c.list ∙ length-paste l at m i (omega (arith, c.inside)) c.inside
+
+  pub copying-more : {to : List ℕ} {i : ℕ} → Copying m l at to i → i < length m → Copying m l at (set to (at + i) (get_or m i 0)) (i + 1)
+  copying-more {i = i} c h = record {
+    list =
+        ap (λ k. set k (at + i) (get_or m i 0)) c.list ∙ paste-suc l at m i 0 (omega arith) h
+        ∙ ap (paste l at m) (sym (add-one i));
+    inside = omega arith;
+  }
+
+  pub copying-all : {to : List ℕ} {i : ℕ} → Copying m l at to i → length m ≤ i → to ≡ spliced l at m
+  copying-all {i = i} c h =
+      let e : i ≡ length m = omega (arith, c.inside) in
+      c.list ∙ ap (λ k. take at l ++ take k m ++ drop (at + k) l) e
+      ∙ ap (λ k. take at l ++ k ++ drop (at + length m) l) (take-length m)
+      ∙ append_assoc (take at l) m (drop (at + length m) l)
 
 module _ (l : List ℕ) (at : ℕ) (m : List ℕ) (room : at + length m ≤ length l) where
   front : length (take at l) ≡ at

@@ -5,6 +5,7 @@ use borrow.Author.Rules.{rules}
 use mathlib.Core.Path.{sym, ap, ◌∙◌}
 use mir.Syntax.{w64}
 use mir.Val.{SFits}
+use Rattle.std.specs.Prelude.{Ok, Err}
 use Rattle.language.specs.Store.{relate}
 use Rattle.execution.specs.Evaluate.{worked}
 use Rattle.words.specs.Meaning.{comparison_meant}
@@ -102,7 +103,7 @@ eval_boolean-requires-in-Not t c =
 
 pub returns-in_err-a-in-Compare : goal.returns-in_err-a-in-Compare
 returns-in_err-a-in-Compare t c =
-    passed _ c.in_err-a-in-Compare.field-0.0 c.from_residual.ensures.1 (compare-first c.in_err-a-in-Compare.ensures (sym c.boolean_head-head.ensures ∙ c.in-Compare.is))
+    passed _ c.in_err-a-in-Compare.field-0.0 c.from_residual.ensures.1 (compare-first c.in_err-a-in-Compare.field-0.0 c.in_err-a-in-Compare.ensures (sym c.boolean_head-head.ensures ∙ c.in-Compare.is))
 
 pub returns-in_err-b-in-Compare : goal.returns-in_err-b-in-Compare
 returns-in_err-b-in-Compare t c =
@@ -113,12 +114,12 @@ returns-in_err-b-in-Compare t c =
 pub returns-in_err-a-in-And : goal.returns-in_err-a-in-And
 returns-in_err-a-in-And t c =
     passed _ c.in_err-a-in-And.field-0.0 c.from_residual-in_err-a-in-And.ensures.1
-    (and-first c.in_err-a-in-And.ensures (sym c.boolean_head-head.ensures ∙ c.in-And.is))
+    (and-first c.in_err-a-in-And.field-0.0 c.in_err-a-in-And.ensures (sym c.boolean_head-head.ensures ∙ c.in-And.is))
 
 pub returns-in_err-a-in-Or : goal.returns-in_err-a-in-Or
 returns-in_err-a-in-Or t c =
     passed _ c.in_err-a-in-Or.field-0.0 c.from_residual-in_err-a-in-Or.ensures.1
-    (or-first c.in_err-a-in-Or.ensures (sym c.boolean_head-head.ensures ∙ c.in-Or.is))
+    (or-first c.in_err-a-in-Or.field-0.0 c.in_err-a-in-Or.ensures (sym c.boolean_head-head.ensures ∙ c.in-Or.is))
 
 pub returns-in_err-a-in-Not : goal.returns-in_err-a-in-Not
 returns-in_err-a-in-Not t c =
@@ -145,23 +146,23 @@ returns-in-Truth t c =
 pub returns-in_err-eval_boolean-in-And : goal.returns-in_err-eval_boolean-in-And
 returns-in_err-eval_boolean-in-And t c =
     passed _ c.in_err-eval_boolean-in-And.field-0.0 c.from_residual-in_err-eval_boolean-in-And.ensures.1
-    (and-second c.end_at.ensures c.in_ok-a-in-And.ensures c.in_err-eval_boolean-in-And.ensures
+    (and-second c.end_at.ensures (Err c.in_err-eval_boolean-in-And.field-0.0) c.in_ok-a-in-And.ensures c.in_err-eval_boolean-in-And.ensures
     (sym c.boolean_head-head.ensures ∙ c.in-And.is) c.if-a.true)
 
 pub returns-in_ok-eval_boolean-in-And : goal.returns-in_ok-eval_boolean-in-And
 returns-in_ok-eval_boolean-in-And t c =
-    and-second c.end_at.ensures c.in_ok-a-in-And.ensures c.in_ok-eval_boolean-in-And.ensures
+    and-second c.end_at.ensures (Ok c.in_ok-eval_boolean-in-And.field-0) c.in_ok-a-in-And.ensures c.in_ok-eval_boolean-in-And.ensures
     (sym c.boolean_head-head.ensures ∙ c.in-And.is) c.if-a.true
 
 pub returns-in_err-eval_boolean-in-Or : goal.returns-in_err-eval_boolean-in-Or
 returns-in_err-eval_boolean-in-Or t c =
     passed _ c.in_err-eval_boolean-in-Or.field-0.0 c.from_residual-in_err-eval_boolean-in-Or.ensures.1
-    (or-second c.end_at-else-a-2.ensures c.in_ok-a-in-Or.ensures c.in_err-eval_boolean-in-Or.ensures
+    (or-second c.end_at-else-a-2.ensures (Err c.in_err-eval_boolean-in-Or.field-0.0) c.in_ok-a-in-Or.ensures c.in_err-eval_boolean-in-Or.ensures
     (sym c.boolean_head-head.ensures ∙ c.in-Or.is) c.if-a-2.false)
 
 pub returns-in_ok-eval_boolean-in-Or : goal.returns-in_ok-eval_boolean-in-Or
 returns-in_ok-eval_boolean-in-Or t c =
-    or-second c.end_at-else-a-2.ensures c.in_ok-a-in-Or.ensures c.in_ok-eval_boolean-in-Or.ensures
+    or-second c.end_at-else-a-2.ensures (Ok c.in_ok-eval_boolean-in-Or.field-0) c.in_ok-a-in-Or.ensures c.in_ok-eval_boolean-in-Or.ensures
     (sym c.boolean_head-head.ensures ∙ c.in-Or.is) c.if-a-2.false
 
 pub returns-else-a : goal.returns-else-a

@@ -92,7 +92,7 @@ eval_arithmetic-unreachable-requires t c =
 pub eval_arithmetic-returns-in_err-a-in-Operation : goal.eval_arithmetic-returns-in_err-a-in-Operation
 eval_arithmetic-returns-in_err-a-in-Operation t c =
     passed _ c.in_err-a-in-Operation.field-0.0 c.from_residual.ensures.1
-    (operation-first c.in_err-a-in-Operation.ensures (sym c.arithmetic_head-head.ensures ∙ c.in-Operation.is))
+    (operation-first c.in_err-a-in-Operation.field-0.0 c.in_err-a-in-Operation.ensures (sym c.arithmetic_head-head.ensures ∙ c.in-Operation.is))
 
 pub eval_arithmetic-returns-in_err-b-in-Operation : goal.eval_arithmetic-returns-in_err-b-in-Operation
 eval_arithmetic-returns-in_err-b-in-Operation t c =
@@ -175,7 +175,7 @@ eval_array-returns-in-Zeros t c =
 pub eval_array-returns-in_err-eval_array-in-Update : goal.eval_array-returns-in_err-eval_array-in-Update
 eval_array-returns-in_err-eval_array-in-Update t c =
     passed-filled _ _ c.in_err-eval_array-in-Update.field-0.0 c.from_residual.ensures.1
-    (update-first c.in_err-eval_array-in-Update.ensures (sym c.array_head-head.ensures ∙ c.in-Update.is))
+    (update-first c.in_err-eval_array-in-Update.field-0.0 c.in_err-eval_array-in-Update.ensures (sym c.array_head-head.ensures ∙ c.in-Update.is))
 
 pub eval_array-returns-in_err-i-in-Update : goal.eval_array-returns-in_err-i-in-Update
 eval_array-returns-in_err-i-in-Update t c =
@@ -277,7 +277,7 @@ select_whole-eval_operand-requires t c =
 pub select_whole-returns-in_err-eval_array : goal.select_whole-returns-in_err-eval_array
 select_whole-returns-in_err-eval_array t c =
     passed _ c.in_err-eval_array.field-0.0 c.from_residual.ensures.1
-    (select-first c.in_err-eval_array.ensures c.requires.head)
+    (select-first c.in_err-eval_array.field-0.0 c.in_err-eval_array.ensures c.requires.head)
 
 pub select_whole-returns-in_err-i : goal.select_whole-returns-in_err-i
 select_whole-returns-in_err-i t c =
