@@ -7,7 +7,7 @@ ghost use Rattle.run.specs.Turns.{loop_word, TurnsAs, PassAs};
 
 use super::called::called_at;
 use super::repeat::{body_at, end_pass, loop_test};
-use super::step::{assign_array, assign_scalar, run_assert, take_step};
+use super::step::{assign_array, assign_scalar, run_assert, take_plain_step, take_step};
 use super::{Halt, Loop, Progress};
 use ends::end_at;
 use evaluate::boolean::eval_boolean;
@@ -99,7 +99,7 @@ fn run_call(
     ensures { RunsAs w.now ends.now «at» (lent scalars.old values.old)
         progress.old.left (end_of result progress.new (lent scalars.new values.new)) }
 {
-    take_step(progress, at, Ok(()))?;
+    take_plain_step(progress, at)?;
     let body = called_at(w, ends, p);
     run_command(w, ends, body, scalars, values, progress)
 }
@@ -124,7 +124,9 @@ fn run_for(
     run_turns(w, ends, at, Loop::Count(q, m), scalars, values, progress)
 }
 
-// A while, or a `for` from its test on. Each turn takes a step, so the steps left fall.
+// A while, or a `for` from its test on. Each turn takes a step, so the steps left fall. Inlined in both places: a loop of few turns would else
+// cost a call, and its kind a place in memory.
+#[inline(always)]
 #[cycle(run_call_run_command_run_for_run_if_run_pass_run_sequence_run_turns)]
 fn run_turns(
     w: &[u32; 8192],

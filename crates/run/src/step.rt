@@ -1,5 +1,6 @@
 // What one step does: 13 is tried first, 14 and 15 as its operands are worked out, 12 last.
 ghost use Rattle.execution.specs.Lent.{lent};
+ghost use Rattle.execution.specs.Evaluate.{worked};
 ghost use Rattle.arithmetic.specs.Worked.{outcome};
 ghost use Rattle.run.specs.Steps.{end_of, Stepped};
 ghost use Rattle.run.specs.Places.{CanRunAt, RunsAs};
@@ -32,6 +33,14 @@ pub fn take_step<A: Copy>(
             Err(Halt::from(stop))
         }
     }
+}
+
+// A step without operands. Not inlined: the call of a body that follows it in `run_call` is then made a jump.
+#[inline(never)]
+pub fn take_plain_step(progress: &mut Progress, at: usize) -> Result<(), Halt>
+    ensures { Stepped «at» progress.old.left (worked tt) result progress.new }
+{
+    take_step(progress, at, Ok(()))
 }
 
 // An assertion stands at the place. Refusal 12: it is false.

@@ -17,19 +17,19 @@ use Rattle.run.proofs.Commands.{sequence-ended, sequence-stopped, then_runs, els
 use Rattle.run.proofs.Commands.{call-stopped, body-stopped, pass_runs}
 use Rattle.run.proofs.command.+run_call_run_command_run_for_run_if_run_pass_run_sequence_run_turns.Goals as goal
 
-pub run_call-returns-in_err-take_step : goal.run_call-returns-in_err-take_step
-run_call-returns-in_err-take_step t c =
-    passed _ c.in_err-take_step.field-0.0 c.from_residual.ensures.1
-    (call-stopped c.requires.head c.in_err-take_step.ensures)
+pub run_call-returns-in_err-take_plain_step : goal.run_call-returns-in_err-take_plain_step
+run_call-returns-in_err-take_plain_step t c =
+    passed _ c.in_err-take_plain_step.field-0.0 c.from_residual.ensures.1
+    (call-stopped c.requires.head c.in_err-take_plain_step.ensures)
 
 pub run_call-run_command-requires : goal.run_call-run_command-requires
 run_call-run_command-requires t c =
-    let m = c.decreases in let g = step_less c.in_ok-take_step.ensures in
+    let m = c.decreases in let g = step_less c.in_ok-take_plain_step.ensures in
     (omega arith, call-body c.requires c.called_at-body.ensures)
 
 pub run_call-returns : goal.run_call-returns
 run_call-returns t c =
-    call-ended c.requires.head c.in_ok-take_step.ensures c.called_at-body.ensures c.run_command.ensures
+    call-ended c.requires.head c.in_ok-take_plain_step.ensures c.called_at-body.ensures c.run_command.ensures
 
 pub run_command-command_head-head-requires : goal.run_command-command_head-head-requires
 run_command-command_head-head-requires t c =
