@@ -7,6 +7,7 @@
 --     Replaced    the numbers of an expression with another in the place of an identifier
 --     Whole       numbers that lead from one place to another are those between them
 --     SameNumbers equality of numbers as a test, of what stands at a place and of two parts
+--     CommonPrefix how many numbers stand at the front of both of two lists
 pub mod Ranges
 pub mod Matching
 pub mod Operands
@@ -15,3 +16,4 @@ pub mod Numbers
 pub mod Replaced
 pub mod Whole
 pub mod SameNumbers
+pub mod CommonPrefix

@@ -3,6 +3,7 @@
 --     handed_on                           a failure that `?` hands on
 --     word_out, word-here, word-other     one number: past the file's end, that one, another
 --     word-lost, matched-lost, all-lost   where one was missing, what follows changes nothing
+--     all-out                             at or past the file's end the first is missing
 --     matched-from                        where none was, the place is where what follows is asked for
 --     matched-append                      one list after the other
 --     words-step, words-done              the words of a list, one by one
@@ -13,6 +14,7 @@ use mathlib.Core.List.{List, [], ◌∷◌, ◌++◌}
 use Prim.Native.Nat.{ℕ, ◌+◌, ◌<◌, ◌≤◌}
 use borrow.Author.Tests.{eq-eqb, ne_eqb, lt-ltb, le-ltb}
 use native.Mathlib.Numerals.{add-one}
+use native.Mathlib.Omega.{arith}
 use lib.ListN.{length, get_or, drop, drop_of_length-le}
 use lib.Seq.{drop-cons}
 use Rattle.std.specs.Prelude.{Result, Ok, Err, IsErrAnd}
@@ -53,6 +55,12 @@ module _ (file : List ℕ) where
 
   pub all-lost : {m r : Result ℕ ℕ} {at : ℕ} (l : List ℕ) → m ≡ Err at → IsErrAnd r (λ d. d ≡ at) → r ≡ matched file m l
   all-lost l e h = handed_on h ∙ matched-lost _ l ∙ ap (λ m. matched file m l) (sym e)
+
+  -- at or past the file's end
+  pub all-out : (l : List ℕ) (at : ℕ) → length file ≤ at → 0 < length l → Err at ≡ matched file (Ok at) l
+  unfolding matched
+  all-out [] at h k = absurd (omega arith)
+  all-out (x ∷ l) at h k = matched-lost at l ∙ ap (λ m. matched file m l) (word_out at x h)
 
   -- from where all stood so far
   pub matched-from : {m : Result ℕ ℕ} {at : ℕ} (l : List ℕ) → m ≡ Ok at → matched file (Ok at) l ≡ matched file m l

@@ -2,7 +2,6 @@
 -- Assumes nothing.
 --     whole-sound, whole-complete    numbers that lead from one place to another are those between them, and back
 --     whole-past                     the place past them lies as many further on
---     range_same, range-on           the numbers between two places stand from a place on; those after them too
 use mathlib.Core.Path.{◌≡◌, refl, sym, ap, ◌∙◌}
 use mathlib.Core.Bool.{Bool, true, false, ◌&&◌, cond}
 use mathlib.Core.List.{List, [], ◌∷◌}
@@ -14,8 +13,8 @@ use lib.ListN.{length, get_or}
 use Rattle.std.specs.Prelude.{Ok, Err}
 use Rattle.laws.proofs.Bools.{and_left, and_right}
 use Rattle.matching.specs.Matching.{between, matched_word, matched}
-use Rattle.matching.proofs.Ranges.{between_none, between_first, between_join}
-use Rattle.matching.proofs.Matching.{matched-lost, matched-append, word-here}
+use Rattle.matching.proofs.Ranges.{between_none, between_first}
+use Rattle.matching.proofs.Matching.{matched-lost, word-here}
 
 module _ (file : List ℕ) where
   -- the numbers stand from one place up to another
@@ -66,19 +65,3 @@ module _ (file : List ℕ) where
 
   pub whole-complete : (at to : ℕ) → at ≤ to → to ≤ length file → matched file (Ok at) (between file at to) ≡ Ok to
   whole-complete at to h k = reaches (to - at) at to (omega arith) k
-
-  module _ (at from to : ℕ) (inside : to ≤ length file) where
-    pub range_same : at + (to - from) ≤ length file → between file at (at + (to - from)) ≡ between file from to →
-        Ok (at + (to - from)) ≡ matched file (Ok at) (between file from to)
-    range_same h e = sym (ap (matched file (Ok at)) (sym e) ∙ whole-complete at (at + (to - from)) (omega arith) h)
-
-    -- and those after them, up to e
-    pub range-on : (end e : ℕ) → end ≡ at + (to - from) → from ≤ to → to ≤ e → e ≤ length file → end ≤ length file →
-        between file at end ≡ between file from to →
-        matched file (Ok end) (between file to e) ≡ matched file (Ok at) (between file from e)
-    range-on end e q h k l r s =
-        let room : at + (to - from) ≤ length file = omega arith in
-        let same : between file at (at + (to - from)) ≡ between file from to = ap (between file at) (sym q) ∙ s in
-        ap (λ m. matched file m (between file to e)) (ap Ok q ∙ range_same room same)
-        ∙ sym (matched-append file (Ok at) (between file from to) (between file to e))
-        ∙ ap (matched file (Ok at)) (sym (between_join file from to e h k l))
