@@ -1,18 +1,23 @@
 -- What is worked out at a place is the definition's outcome of the tree that stands there, by its first word. A law whose
 -- name ends in -first is of a first operand that stops; one that ends in -second or -third has the outcome of that operand.
+-- One that ends in -stopped or -answered says the same of a `Stop` or a `Result` of the code, and rests on `onward`.
 -- Assumes nothing.
 --     passed, passed-filled                                                a stop that `?` hands on
 --     becomes, becomes-filled                                              an outcome that is another
 --     indexed                                                              an index as the code holds it
 --     onward, stopped, went-on                                             going on from one operand to the next; from one that stops, from one
 --                                                                          that has a value
+--     any-stop, any-outcome                                                the same of a stop with any number, of any outcome
 --     after_both                                                           one outcome after another
---     constant-worked, scalar-worked, operation-first, operation-second    arithmetic
---     element_worked, select-first, select-second                          a select, from an array of the store and from any
---     identifier-filled, zeros-filled, update-first, update-second,
---     update-third                                                         arrays
---     truth-tested, compare-first, compare-second, not_tested              booleans
---     and-first, and-second, and-settled, or-first, or-second, or-settled
+--     constant-worked, scalar-worked, operation-first, operation-stopped,
+--     operation-second                                                     arithmetic
+--     element_worked, select-first, select-stopped, select-second          a select, from an array of the store and from any
+--     identifier-filled, zeros-filled, update-first, update-stopped,
+--     update-second, update-third                                          arrays
+--     truth-tested, compare-first, compare-stopped, compare-second,
+--     not_tested, and-first, and-stopped, and-second, and-answered,
+--     and-settled, or-first, or-stopped, or-second, or-answered, or-settled
+--                                                                          booleans
 use mathlib.Core.Path.{◌≡◌, refl, sym, ap, ◌∙◌}
 use mathlib.Core.Bool.{Bool, true, false, not, cond, ◌&&◌}
 use mathlib.Core.List.{List}
@@ -65,16 +70,23 @@ onward o f (Ok a) q e h k = h a refl ∙ ap (λ z. on_worked z f) e
 onward o f (Err x) q e h k = ap outcome (k x refl) ∙ ap (λ z. on_worked z f) e
 
 -- a first operand that stops is all that is worked out: what follows it hands the stop on
-stopped : {A B : Type 0} {o : Evaluation A} (x : Stop) (f : A → Evaluation B) → stops (refusal_number x) ≡ o →
+stopped : (x : Stop) (A B : Type 0) (o : Evaluation A) (f : A → Evaluation B) → stops (refusal_number x) ≡ o →
     stops (refusal_number x) ≡ on_worked o f
-stopped {A} {B} {o} x f e =
+stopped x A B o f e =
     onward o f (Err x) (Err x) e (λ a h. absurd (cc)) (λ y h. let z : x ≡ y = cc in ap Err z)
 
+any-stop : (k : ℕ) (A B : Type 0) (o : Evaluation A) (f : A → Evaluation B) → stops k ≡ o → stops k ≡ on_worked o f
+any-stop k A B o f e = ap (λ y. on_worked y f) e
+
 -- one that has a value goes on to what follows it, which comes to q
-went-on : {A B : Type 0} {o : Evaluation A} (a : A) (f : A → Evaluation B) (q : Result B Stop) → worked a ≡ o → outcome q ≡ f a →
+went-on : {A B : Type 0} (a : A) (q : Result B Stop) (o : Evaluation A) (f : A → Evaluation B) → worked a ≡ o → outcome q ≡ f a →
     outcome q ≡ on_worked o f
-went-on {A} {B} {o} a f q e h =
+went-on {A} {B} a q o f e h =
     onward o f (Ok a) q e (λ b k. let z : a ≡ b = cc in h ∙ ap f z) (λ y k. absurd (cc))
+
+any-outcome : {A B : Type 0} (a : A) (q : Evaluation B) (o : Evaluation A) (f : A → Evaluation B) → worked a ≡ o → q ≡ f a →
+    q ≡ on_worked o f
+any-outcome a q o f e h = h ∙ ap (λ y. on_worked y f) e
 
 -- one outcome after another
 pub after_both : {A B C : Type 0} (o : Evaluation A) (f : A → Evaluation B) (g : B → Evaluation C) →
@@ -205,70 +217,121 @@ module _ {w ends : List ℕ} {ss vs : List ℤ} {at : ℕ} where
           ap (λ y. on_worked y λ v. worked (not v)) (f.is t.first p t.first-at) ∙ sym (ap (λ y. evaluate y m) t.is);
     }
 
-  module _ (k : Stop) where
-    pub operation-first : {o : Operator} → Evaluates syntax.Arithmetic w ends ss vs (at + 1) (stops (refusal_number k)) →
-        arithmetic_at w at ≡ Operation o → Evaluates syntax.Arithmetic w ends ss vs at (stops (refusal_number k))
+  -- a first operand that stops, whose stop is handed on
+  module _ (k : ℕ) (on : (A B : Type 0) (o : Evaluation A) (f : A → Evaluation B) → stops k ≡ o → stops k ≡ on_worked o f) where
+    operation-on : {o : Operator} → Evaluates syntax.Arithmetic w ends ss vs (at + 1) (stops k) →
+        arithmetic_at w at ≡ Operation o → Evaluates syntax.Arithmetic w ends ss vs at (stops k)
     unfolding evaluate checked
-    operation-first {o} f h = record {
+    operation-on {o} f h = record {
       is = λ e p x. let m = store_of (lent ss vs) in
           let t = arithmetic-parts e x h in
-          stopped k (λ v. on_worked (evaluate t.second m) λ z. checked (apply (operator_meant o) v z))
+          on _ _ _ (λ v. on_worked (evaluate t.second m) λ z. checked (apply (operator_meant o) v z))
           (f.is t.first t.middle t.first-at)
           ∙ sym (ap (λ y. evaluate y m) t.is);
     }
 
-    pub compare-first : {c : Comparison} → Evaluates syntax.Arithmetic w ends ss vs (at + 1) (stops (refusal_number k)) →
-        boolean_at w at ≡ Compare c → Evaluates syntax.Boolean w ends ss vs at (stops (refusal_number k))
+    compare-on : {c : Comparison} → Evaluates syntax.Arithmetic w ends ss vs (at + 1) (stops k) →
+        boolean_at w at ≡ Compare c → Evaluates syntax.Boolean w ends ss vs at (stops k)
     unfolding evaluate
-    compare-first {c} f h = record {
+    compare-on {c} f h = record {
       is = λ e p x. let m = store_of (lent ss vs) in
           let t = boolean-parts e x h in
-          stopped k (λ v. on_worked (evaluate t.second m) λ z. worked (relate (comparison_meant c) v z))
+          on _ _ _ (λ v. on_worked (evaluate t.second m) λ z. worked (relate (comparison_meant c) v z))
           (f.is t.first t.middle t.first-at)
           ∙ sym (ap (λ y. evaluate y m) t.is);
     }
 
-    pub and-first : Evaluates syntax.Boolean w ends ss vs (at + 1) (stops (refusal_number k)) → boolean_at w at ≡ And →
-        Evaluates syntax.Boolean w ends ss vs at (stops (refusal_number k))
+    and-on : Evaluates syntax.Boolean w ends ss vs (at + 1) (stops k) → boolean_at w at ≡ And →
+        Evaluates syntax.Boolean w ends ss vs at (stops k)
     unfolding evaluate
-    and-first f h = record {
+    and-on f h = record {
       is = λ e p x. let m = store_of (lent ss vs) in
           let t = boolean-parts e x h in
-          stopped k (λ v. cond v (evaluate t.second m) (worked false)) (f.is t.first t.middle t.first-at)
+          on _ _ _ (λ v. cond v (evaluate t.second m) (worked false)) (f.is t.first t.middle t.first-at)
           ∙ sym (ap (λ y. evaluate y m) t.is);
     }
 
-    pub or-first : Evaluates syntax.Boolean w ends ss vs (at + 1) (stops (refusal_number k)) → boolean_at w at ≡ Or →
-        Evaluates syntax.Boolean w ends ss vs at (stops (refusal_number k))
+    or-on : Evaluates syntax.Boolean w ends ss vs (at + 1) (stops k) → boolean_at w at ≡ Or →
+        Evaluates syntax.Boolean w ends ss vs at (stops k)
     unfolding evaluate
-    or-first f h = record {
+    or-on f h = record {
       is = λ e p x. let m = store_of (lent ss vs) in
           let t = boolean-parts e x h in
-          stopped k (λ v. cond v (worked true) (evaluate t.second m)) (f.is t.first t.middle t.first-at)
+          on _ _ _ (λ v. cond v (worked true) (evaluate t.second m)) (f.is t.first t.middle t.first-at)
           ∙ sym (ap (λ y. evaluate y m) t.is);
     }
 
-    pub select-first : Fills w ends ss vs (at + 1) (stops (refusal_number k)) → arithmetic_at w at ≡ Select →
-        Evaluates syntax.Arithmetic w ends ss vs at (stops (refusal_number k))
+    select-on : Fills w ends ss vs (at + 1) (stops k) → arithmetic_at w at ≡ Select →
+        Evaluates syntax.Arithmetic w ends ss vs at (stops k)
     unfolding evaluate
-    select-first f h = record {
+    select-on f h = record {
       is = λ e p x. let m = store_of (lent ss vs) in
           let t = arithmetic-parts e x h in
-          stopped k (entered (evaluate t.second m)) (f.is t.first t.middle t.first-at)
+          on _ _ _ (entered (evaluate t.second m)) (f.is t.first t.middle t.first-at)
           ∙ select-is (evaluate t.first m) (evaluate t.second m)
           ∙ sym (ap (λ y. evaluate y m) t.is);
     }
 
-    pub update-first : Fills w ends ss vs (at + 1) (stops (refusal_number k)) → array_at w at ≡ Update →
-        Fills w ends ss vs at (stops (refusal_number k))
+    update-on : Fills w ends ss vs (at + 1) (stops k) → array_at w at ≡ Update → Fills w ends ss vs at (stops k)
     unfolding evaluate
-    update-first f h = record {
+    update-on f h = record {
       is = λ e p x. let m = store_of (lent ss vs) in
           let t = array_parts e x h in
-          stopped k (replaced (evaluate t.second m) (evaluate t.third m)) (f.is t.first t.middle t.first-at)
+          on _ _ _ (replaced (evaluate t.second m) (evaluate t.third m)) (f.is t.first t.middle t.first-at)
           ∙ update-is (evaluate t.first m) (evaluate t.second m) (evaluate t.third m)
           ∙ sym (ap (λ y. on_worked (evaluate y m) λ f. worked (elements f)) t.is);
     }
+
+  -- by any number
+  module _ {k : ℕ} where
+    pub operation-first : {o : Operator} → Evaluates syntax.Arithmetic w ends ss vs (at + 1) (stops k) →
+        arithmetic_at w at ≡ Operation o → Evaluates syntax.Arithmetic w ends ss vs at (stops k)
+    operation-first f h = operation-on k (any-stop k) f h
+
+    pub compare-first : {c : Comparison} → Evaluates syntax.Arithmetic w ends ss vs (at + 1) (stops k) →
+        boolean_at w at ≡ Compare c → Evaluates syntax.Boolean w ends ss vs at (stops k)
+    compare-first f h = compare-on k (any-stop k) f h
+
+    pub and-first : Evaluates syntax.Boolean w ends ss vs (at + 1) (stops k) → boolean_at w at ≡ And →
+        Evaluates syntax.Boolean w ends ss vs at (stops k)
+    and-first f h = and-on k (any-stop k) f h
+
+    pub or-first : Evaluates syntax.Boolean w ends ss vs (at + 1) (stops k) → boolean_at w at ≡ Or →
+        Evaluates syntax.Boolean w ends ss vs at (stops k)
+    or-first f h = or-on k (any-stop k) f h
+
+    pub select-first : Fills w ends ss vs (at + 1) (stops k) → arithmetic_at w at ≡ Select →
+        Evaluates syntax.Arithmetic w ends ss vs at (stops k)
+    select-first f h = select-on k (any-stop k) f h
+
+    pub update-first : Fills w ends ss vs (at + 1) (stops k) → array_at w at ≡ Update → Fills w ends ss vs at (stops k)
+    update-first f h = update-on k (any-stop k) f h
+
+  -- by a stop of the code, which `?` hands on
+  module _ (k : Stop) where
+    pub operation-stopped : {o : Operator} → Evaluates syntax.Arithmetic w ends ss vs (at + 1) (stops (refusal_number k)) →
+        arithmetic_at w at ≡ Operation o → Evaluates syntax.Arithmetic w ends ss vs at (stops (refusal_number k))
+    operation-stopped f h = operation-on (refusal_number k) (stopped k) f h
+
+    pub compare-stopped : {c : Comparison} → Evaluates syntax.Arithmetic w ends ss vs (at + 1) (stops (refusal_number k)) →
+        boolean_at w at ≡ Compare c → Evaluates syntax.Boolean w ends ss vs at (stops (refusal_number k))
+    compare-stopped f h = compare-on (refusal_number k) (stopped k) f h
+
+    pub and-stopped : Evaluates syntax.Boolean w ends ss vs (at + 1) (stops (refusal_number k)) → boolean_at w at ≡ And →
+        Evaluates syntax.Boolean w ends ss vs at (stops (refusal_number k))
+    and-stopped f h = and-on (refusal_number k) (stopped k) f h
+
+    pub or-stopped : Evaluates syntax.Boolean w ends ss vs (at + 1) (stops (refusal_number k)) → boolean_at w at ≡ Or →
+        Evaluates syntax.Boolean w ends ss vs at (stops (refusal_number k))
+    or-stopped f h = or-on (refusal_number k) (stopped k) f h
+
+    pub select-stopped : Fills w ends ss vs (at + 1) (stops (refusal_number k)) → arithmetic_at w at ≡ Select →
+        Evaluates syntax.Arithmetic w ends ss vs at (stops (refusal_number k))
+    select-stopped f h = select-on (refusal_number k) (stopped k) f h
+
+    pub update-stopped : Fills w ends ss vs (at + 1) (stops (refusal_number k)) → array_at w at ≡ Update →
+        Fills w ends ss vs at (stops (refusal_number k))
+    update-stopped f h = update-on (refusal_number k) (stopped k) f h
 
   -- the left side settles the test
   pub and-settled : {a : Bool} → Evaluates syntax.Boolean w ends ss vs (at + 1) (worked a) → boolean_at w at ≡ And →
@@ -324,29 +387,47 @@ module _ {w ends : List ℕ} {ss vs : List ℤ} {at : ℕ} where
       }
 
     -- the left side does not settle the test, so that the right side's outcome is the test's
-    module _ {a : Bool} (r : Result Bool Stop) (f : Evaluates syntax.Boolean w ends ss vs (at + 1) (worked a))
-        (g : Evaluates syntax.Boolean w ends ss vs q (outcome r)) where
-      pub and-second : boolean_at w at ≡ And → a ≡ true → Evaluates syntax.Boolean w ends ss vs at (outcome r)
+    module _ {a : Bool} {o : Evaluation Bool} (on : (y : Evaluation Bool) (f : Bool → Evaluation Bool) → worked a ≡ y → o ≡ f a → o ≡ on_worked y f)
+        (f : Evaluates syntax.Boolean w ends ss vs (at + 1) (worked a)) (g : Evaluates syntax.Boolean w ends ss vs q o) where
+      and-due : boolean_at w at ≡ And → a ≡ true → Evaluates syntax.Boolean w ends ss vs at o
       unfolding evaluate
-      and-second h i = record {
+      and-due h i = record {
         is = λ e p x. let m = store_of (lent ss vs) in
             let t = boolean-parts e x h in
-            went-on a (λ v. cond v (evaluate t.second m) (worked false)) r (f.is t.first t.middle t.first-at)
+            on _ (λ v. cond v (evaluate t.second m) (worked false)) (f.is t.first t.middle t.first-at)
             (g.is t.second p (moved t.first next t.first-at t.second_at)
             ∙ ap (λ a. cond a (evaluate t.second m) (worked false)) (sym i))
             ∙ sym (ap (λ y. evaluate y m) t.is);
       }
 
-      pub or-second : boolean_at w at ≡ Or → a ≡ false → Evaluates syntax.Boolean w ends ss vs at (outcome r)
+      or-due : boolean_at w at ≡ Or → a ≡ false → Evaluates syntax.Boolean w ends ss vs at o
       unfolding evaluate
-      or-second h i = record {
+      or-due h i = record {
         is = λ e p x. let m = store_of (lent ss vs) in
             let t = boolean-parts e x h in
-            went-on a (λ v. cond v (worked true) (evaluate t.second m)) r (f.is t.first t.middle t.first-at)
+            on _ (λ v. cond v (worked true) (evaluate t.second m)) (f.is t.first t.middle t.first-at)
             (g.is t.second p (moved t.first next t.first-at t.second_at)
             ∙ ap (λ a. cond a (worked true) (evaluate t.second m)) (sym i))
             ∙ sym (ap (λ y. evaluate y m) t.is);
       }
+
+    -- any outcome
+    module _ {a : Bool} {o : Evaluation Bool} (f : Evaluates syntax.Boolean w ends ss vs (at + 1) (worked a))
+        (g : Evaluates syntax.Boolean w ends ss vs q o) where
+      pub and-second : boolean_at w at ≡ And → a ≡ true → Evaluates syntax.Boolean w ends ss vs at o
+      and-second h i = and-due (any-outcome a o) f g h i
+
+      pub or-second : boolean_at w at ≡ Or → a ≡ false → Evaluates syntax.Boolean w ends ss vs at o
+      or-second h i = or-due (any-outcome a o) f g h i
+
+    -- what the code has for it
+    module _ {a : Bool} (r : Result Bool Stop) (f : Evaluates syntax.Boolean w ends ss vs (at + 1) (worked a))
+        (g : Evaluates syntax.Boolean w ends ss vs q (outcome r)) where
+      pub and-answered : boolean_at w at ≡ And → a ≡ true → Evaluates syntax.Boolean w ends ss vs at (outcome r)
+      and-answered h i = and-due (went-on a r) f g h i
+
+      pub or-answered : boolean_at w at ≡ Or → a ≡ false → Evaluates syntax.Boolean w ends ss vs at (outcome r)
+      or-answered h i = or-due (went-on a r) f g h i
 
     -- an index, worked out to i and tested to j
     module _ {i j : Evaluation ℤ} (g : Evaluates syntax.Arithmetic w ends ss vs q i) (k : j ≡ index i) where

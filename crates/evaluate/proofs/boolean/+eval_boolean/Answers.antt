@@ -13,8 +13,8 @@ use Rattle.arithmetic.proofs.Signed.{held_two}
 use native.Mathlib.Omega.{arith}
 use Rattle.heads.proofs.Parts.{expression-early, boolean-allowed, boolean-parts}
 use Rattle.evaluate.proofs.Places.{only-operand, first-operand, second-operand}
-use Rattle.evaluate.proofs.Results.{becomes, passed, compare-first, compare-second, truth-tested, not_tested}
-use Rattle.evaluate.proofs.Results.{and-first, and-second, and-settled, or-first, or-second, or-settled}
+use Rattle.evaluate.proofs.Results.{becomes, passed, compare-stopped, compare-second, truth-tested, not_tested}
+use Rattle.evaluate.proofs.Results.{and-stopped, and-answered, and-settled, or-stopped, or-answered, or-settled}
 use Rattle.evaluate.proofs.boolean.+eval_boolean.Goals as goal
 
 pub boolean_head-head-requires : goal.boolean_head-head-requires
@@ -103,7 +103,7 @@ eval_boolean-requires-in-Not t c =
 
 pub returns-in_err-a-in-Compare : goal.returns-in_err-a-in-Compare
 returns-in_err-a-in-Compare t c =
-    passed _ c.in_err-a-in-Compare.field-0.0 c.from_residual.ensures.1 (compare-first c.in_err-a-in-Compare.field-0.0 c.in_err-a-in-Compare.ensures (sym c.boolean_head-head.ensures ∙ c.in-Compare.is))
+    passed _ c.in_err-a-in-Compare.field-0.0 c.from_residual.ensures.1 (compare-stopped c.in_err-a-in-Compare.field-0.0 c.in_err-a-in-Compare.ensures (sym c.boolean_head-head.ensures ∙ c.in-Compare.is))
 
 pub returns-in_err-b-in-Compare : goal.returns-in_err-b-in-Compare
 returns-in_err-b-in-Compare t c =
@@ -114,12 +114,12 @@ returns-in_err-b-in-Compare t c =
 pub returns-in_err-a-in-And : goal.returns-in_err-a-in-And
 returns-in_err-a-in-And t c =
     passed _ c.in_err-a-in-And.field-0.0 c.from_residual-in_err-a-in-And.ensures.1
-    (and-first c.in_err-a-in-And.field-0.0 c.in_err-a-in-And.ensures (sym c.boolean_head-head.ensures ∙ c.in-And.is))
+    (and-stopped c.in_err-a-in-And.field-0.0 c.in_err-a-in-And.ensures (sym c.boolean_head-head.ensures ∙ c.in-And.is))
 
 pub returns-in_err-a-in-Or : goal.returns-in_err-a-in-Or
 returns-in_err-a-in-Or t c =
     passed _ c.in_err-a-in-Or.field-0.0 c.from_residual-in_err-a-in-Or.ensures.1
-    (or-first c.in_err-a-in-Or.field-0.0 c.in_err-a-in-Or.ensures (sym c.boolean_head-head.ensures ∙ c.in-Or.is))
+    (or-stopped c.in_err-a-in-Or.field-0.0 c.in_err-a-in-Or.ensures (sym c.boolean_head-head.ensures ∙ c.in-Or.is))
 
 pub returns-in_err-a-in-Not : goal.returns-in_err-a-in-Not
 returns-in_err-a-in-Not t c =
@@ -146,23 +146,23 @@ returns-in-Truth t c =
 pub returns-in_err-eval_boolean-in-And : goal.returns-in_err-eval_boolean-in-And
 returns-in_err-eval_boolean-in-And t c =
     passed _ c.in_err-eval_boolean-in-And.field-0.0 c.from_residual-in_err-eval_boolean-in-And.ensures.1
-    (and-second c.end_at.ensures (Err c.in_err-eval_boolean-in-And.field-0.0) c.in_ok-a-in-And.ensures c.in_err-eval_boolean-in-And.ensures
+    (and-answered c.end_at.ensures (Err c.in_err-eval_boolean-in-And.field-0.0) c.in_ok-a-in-And.ensures c.in_err-eval_boolean-in-And.ensures
     (sym c.boolean_head-head.ensures ∙ c.in-And.is) c.if-a.true)
 
 pub returns-in_ok-eval_boolean-in-And : goal.returns-in_ok-eval_boolean-in-And
 returns-in_ok-eval_boolean-in-And t c =
-    and-second c.end_at.ensures (Ok c.in_ok-eval_boolean-in-And.field-0) c.in_ok-a-in-And.ensures c.in_ok-eval_boolean-in-And.ensures
+    and-answered c.end_at.ensures (Ok c.in_ok-eval_boolean-in-And.field-0) c.in_ok-a-in-And.ensures c.in_ok-eval_boolean-in-And.ensures
     (sym c.boolean_head-head.ensures ∙ c.in-And.is) c.if-a.true
 
 pub returns-in_err-eval_boolean-in-Or : goal.returns-in_err-eval_boolean-in-Or
 returns-in_err-eval_boolean-in-Or t c =
     passed _ c.in_err-eval_boolean-in-Or.field-0.0 c.from_residual-in_err-eval_boolean-in-Or.ensures.1
-    (or-second c.end_at-else-a-2.ensures (Err c.in_err-eval_boolean-in-Or.field-0.0) c.in_ok-a-in-Or.ensures c.in_err-eval_boolean-in-Or.ensures
+    (or-answered c.end_at-else-a-2.ensures (Err c.in_err-eval_boolean-in-Or.field-0.0) c.in_ok-a-in-Or.ensures c.in_err-eval_boolean-in-Or.ensures
     (sym c.boolean_head-head.ensures ∙ c.in-Or.is) c.if-a-2.false)
 
 pub returns-in_ok-eval_boolean-in-Or : goal.returns-in_ok-eval_boolean-in-Or
 returns-in_ok-eval_boolean-in-Or t c =
-    or-second c.end_at-else-a-2.ensures (Ok c.in_ok-eval_boolean-in-Or.field-0) c.in_ok-a-in-Or.ensures c.in_ok-eval_boolean-in-Or.ensures
+    or-answered c.end_at-else-a-2.ensures (Ok c.in_ok-eval_boolean-in-Or.field-0) c.in_ok-a-in-Or.ensures c.in_ok-eval_boolean-in-Or.ensures
     (sym c.boolean_head-head.ensures ∙ c.in-Or.is) c.if-a-2.false
 
 pub returns-else-a : goal.returns-else-a

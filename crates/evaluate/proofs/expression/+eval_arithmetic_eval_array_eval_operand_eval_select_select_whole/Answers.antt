@@ -20,8 +20,8 @@ use Rattle.evaluate.proofs.Places.{first-operand, second-operand, first_of-three
 use Rattle.evaluate.proofs.Places.{third-of_three}
 use Rattle.evaluate.proofs.Elements.{cleared}
 use Rattle.evaluate.proofs.Results.{indexed, becomes, becomes-filled, passed, passed-filled, constant-worked, scalar-worked}
-use Rattle.evaluate.proofs.Results.{operation-first, operation-second, element_worked, select-first, select-second}
-use Rattle.evaluate.proofs.Results.{identifier-filled, zeros-filled, update-first, update-second, update-third}
+use Rattle.evaluate.proofs.Results.{operation-stopped, operation-second, element_worked, select-stopped, select-second}
+use Rattle.evaluate.proofs.Results.{identifier-filled, zeros-filled, update-stopped, update-second, update-third}
 use Rattle.evaluate.proofs.expression.+eval_arithmetic_eval_array_eval_operand_eval_select_select_whole.Goals as goal
 
 pub eval_arithmetic-arithmetic_head-head-requires : goal.eval_arithmetic-arithmetic_head-head-requires
@@ -92,7 +92,7 @@ eval_arithmetic-unreachable-requires t c =
 pub eval_arithmetic-returns-in_err-a-in-Operation : goal.eval_arithmetic-returns-in_err-a-in-Operation
 eval_arithmetic-returns-in_err-a-in-Operation t c =
     passed _ c.in_err-a-in-Operation.field-0.0 c.from_residual.ensures.1
-    (operation-first c.in_err-a-in-Operation.field-0.0 c.in_err-a-in-Operation.ensures (sym c.arithmetic_head-head.ensures ∙ c.in-Operation.is))
+    (operation-stopped c.in_err-a-in-Operation.field-0.0 c.in_err-a-in-Operation.ensures (sym c.arithmetic_head-head.ensures ∙ c.in-Operation.is))
 
 pub eval_arithmetic-returns-in_err-b-in-Operation : goal.eval_arithmetic-returns-in_err-b-in-Operation
 eval_arithmetic-returns-in_err-b-in-Operation t c =
@@ -175,7 +175,7 @@ eval_array-returns-in-Zeros t c =
 pub eval_array-returns-in_err-eval_array-in-Update : goal.eval_array-returns-in_err-eval_array-in-Update
 eval_array-returns-in_err-eval_array-in-Update t c =
     passed-filled _ _ c.in_err-eval_array-in-Update.field-0.0 c.from_residual.ensures.1
-    (update-first c.in_err-eval_array-in-Update.field-0.0 c.in_err-eval_array-in-Update.ensures (sym c.array_head-head.ensures ∙ c.in-Update.is))
+    (update-stopped c.in_err-eval_array-in-Update.field-0.0 c.in_err-eval_array-in-Update.ensures (sym c.array_head-head.ensures ∙ c.in-Update.is))
 
 pub eval_array-returns-in_err-i-in-Update : goal.eval_array-returns-in_err-i-in-Update
 eval_array-returns-in_err-i-in-Update t c =
@@ -277,7 +277,7 @@ select_whole-eval_operand-requires t c =
 pub select_whole-returns-in_err-eval_array : goal.select_whole-returns-in_err-eval_array
 select_whole-returns-in_err-eval_array t c =
     passed _ c.in_err-eval_array.field-0.0 c.from_residual.ensures.1
-    (select-first c.in_err-eval_array.field-0.0 c.in_err-eval_array.ensures c.requires.head)
+    (select-stopped c.in_err-eval_array.field-0.0 c.in_err-eval_array.ensures c.requires.head)
 
 pub select_whole-returns-in_err-i : goal.select_whole-returns-in_err-i
 select_whole-returns-in_err-i t c =
