@@ -1,24 +1,30 @@
 -- Equality of lists of numbers as a test: of what stands at a place, of two parts of a file, of words.
 -- Assumes nothing.
 --     same_numbers-decides     equality of numbers
+--     ranges_same              `==` on two ranges of a slice
+--     numbers-equal, numbers-differ
+--                              where it is true, and where it isn't
 --     came_same                numbers that stand up to the end of a part are its own
 --     parts_last, parts-rest   two parts: with other last words, the words before these
 --     came-to                  the test whether numbers stand up to the end of a part
 --     numbers-same             sameness by words, of words that their numbers tell
 use mathlib.Core.Path.{◌≡◌, refl, sym, ap, ap₂, ◌∙◌}
-use mathlib.Core.Bool.{Bool, false}
+use mathlib.Core.Bool.{Bool, true, false, ◌&&◌}
 use mathlib.Core.List.{List, [], ◌∷◌, ◌++◌, head-eq_of_cons-eq, tail-eq_of_cons-eq, cons≢nil, nil≢cons}
 use Prim.Native.Nat.{ℕ, ◌-◌, ◌≤◌}
 use native.Mathlib.Omega.{arith}
-use lib.ListN.{length, get_or}
+use lib.Dec.{eqb}
+use lib.ListN.{length, get_or, take, drop}
 use Rattle.std.specs.Prelude.{Result, Ok, Err}
+use Rattle.std.specs.Cmp.Lexicographic.{pointwise}
+use Rattle.laws.proofs.Bools.{clash}
 use Rattle.laws.proofs.Decides.{Decides, decides_same, decides_map, decides_and, decides_yes, decides_no, eqb-decides}
 use Rattle.rules.specs.Words.{Word, same_words}
 use Rattle.rules.proofs.Decides.{same_words-decides}
 use Rattle.matching.specs.Matching.{between, numbers, matched, came, same_numbers}
 use Rattle.ends.specs.Places.{end_at, PartKnown}
 use Rattle.matching.specs.Places.{part}
-use Rattle.matching.proofs.Ranges.{between-last, between-length}
+use Rattle.matching.proofs.Ranges.{between_range, between-last, between-length}
 use Rattle.matching.proofs.Whole.{whole-sound, whole-complete}
 
 -- a test of what does not hold
@@ -42,6 +48,27 @@ came-decides : (m : Result ℕ ℕ) (to : ℕ) → Decides (came m to) (m ≡ Ok
 unfolding came
 came-decides (Err at) to = decides_no (λ h. absurd (cc))
 came-decides (Ok at) to = decides_map (λ h. ap Ok h) (λ h. let e : at ≡ to = cc in e) (eqb-decides at to)
+
+-- `==` on slices
+pointwise-same : (k l : List ℕ) → pointwise eqb k l ≡ same_numbers k l
+unfolding same_numbers
+pointwise-same [] [] = refl
+pointwise-same [] (y ∷ l) = refl
+pointwise-same (x ∷ k) [] = refl
+pointwise-same (x ∷ k) (y ∷ l) = ap (λ b. eqb x y && b) (pointwise-same k l)
+
+pub ranges_same : (file : List ℕ) (a b c d : ℕ) → a ≤ b → c ≤ d →
+    pointwise eqb (take (b - a) (drop a file)) (take (d - c) (drop c file)) ≡ same_numbers (between file a b) (between file c d)
+ranges_same file a b c d h k =
+    pointwise-same (take (b - a) (drop a file)) (take (d - c) (drop c file))
+    ∙ ap₂ same_numbers (between_range file a b h) (between_range file c d k)
+
+-- what the test says
+pub numbers-equal : (k l : List ℕ) {r : Bool} → r ≡ same_numbers k l → r ≡ true → k ≡ l
+numbers-equal k l e h = (same_numbers-decides k l).sound (sym e ∙ h)
+
+pub numbers-differ : (k l : List ℕ) {r : Bool} → r ≡ same_numbers k l → r ≡ false → k ≡ l → ⊥
+numbers-differ k l e h s = clash ((same_numbers-decides k l).complete s) (sym e ∙ h)
 
 -- the numbers l are asked for from a place on
 module _ (file : List ℕ) (m : Result ℕ ℕ) (l : List ℕ) (at to : ℕ) (order : at ≤ to) (within : to ≤ length file)

@@ -2,19 +2,22 @@
 -- Assumes nothing.
 --     whole-sound, whole-complete    numbers that lead from one place to another are those between them, and back
 --     whole-past                     the place past them lies as many further on
+--     range_same, range_other, range-out
+--                                    the numbers between two places stand from a place on, do not, have no room there
 use mathlib.Core.Path.{◌≡◌, refl, sym, ap, ◌∙◌}
 use mathlib.Core.Bool.{Bool, true, false, ◌&&◌, cond}
 use mathlib.Core.List.{List, [], ◌∷◌}
-use Prim.Native.Nat.{ℕ, zero, suc, ◌+◌, ◌-◌, ◌≤◌}
+use Prim.Native.Nat.{ℕ, zero, suc, ◌+◌, ◌-◌, ◌<◌, ◌≤◌}
+use native.Mathlib.Decide.{dec_lt}
 use native.Mathlib.Omega.{arith}
 use borrow.Author.Tests.{ltb-true, eqb-true}
 use lib.Dec.{eqb, ltb}
 use lib.ListN.{length, get_or}
-use Rattle.std.specs.Prelude.{Ok, Err}
+use Rattle.std.specs.Prelude.{Result, Ok, Err}
 use Rattle.laws.proofs.Bools.{and_left, and_right}
 use Rattle.matching.specs.Matching.{between, matched_word, matched}
-use Rattle.matching.proofs.Ranges.{between_none, between_first}
-use Rattle.matching.proofs.Matching.{matched-lost, word-here}
+use Rattle.matching.proofs.Ranges.{between_none, between_first, between-length}
+use Rattle.matching.proofs.Matching.{matched-lost, word-here, all-out}
 
 module _ (file : List ℕ) where
   -- the numbers stand from one place up to another
@@ -65,3 +68,31 @@ module _ (file : List ℕ) where
 
   pub whole-complete : (at to : ℕ) → at ≤ to → to ≤ length file → matched file (Ok at) (between file at to) ≡ Ok to
   whole-complete at to h k = reaches (to - at) at to (omega arith) k
+
+  -- a list stands from a place on, or one of its numbers is missing
+  unless : (l : List ℕ) (at : ℕ) → at ≤ length file → ((end : ℕ) → NumbersStand at l end → ⊥) → (p : ℕ) × (Err p ≡ matched file (Ok at) l)
+  unless l at i n = go (matched file (Ok at) l) refl
+    where
+      go : (m : Result ℕ ℕ) → matched file (Ok at) l ≡ m → (p : ℕ) × (Err p ≡ matched file (Ok at) l)
+      go (Err p) e = (p, sym e)
+      go (Ok end) e = absurd (n end (stand l at end i e))
+
+  module _ (at from to : ℕ) (inside : to ≤ length file) where
+    pub range_same : at + (to - from) ≤ length file → between file at (at + (to - from)) ≡ between file from to →
+        Ok (at + (to - from)) ≡ matched file (Ok at) (between file from to)
+    range_same h e = sym (ap (matched file (Ok at)) (sym e) ∙ whole-complete at (at + (to - from)) (omega arith) h)
+
+    pub range_other : at + (to - from) ≤ length file → (between file at (at + (to - from)) ≡ between file from to → ⊥) →
+        (p : ℕ) × (Err p ≡ matched file (Ok at) (between file from to))
+    range_other h n =
+        let l = between-length file from to inside in
+        unless (between file from to) at (omega arith)
+        (λ end s. let p = s.past in let e : end ≡ at + (to - from) = omega arith in n (ap (between file at) (sym e) ∙ s.same))
+
+    pub range-out : from < to → length file < at + (to - from) → (p : ℕ) × (Err p ≡ matched file (Ok at) (between file from to))
+    range-out h k =
+        let l = between-length file from to inside in
+        elim (dec_lt at (length file)) [
+          | yes j ↦ unless (between file from to) at (omega arith) (λ end s. let p = s.past in let q = s.within in omega arith)
+          | no j ↦ (at, all-out file (between file from to) at (omega arith) (omega arith))
+        ]
